@@ -1,0 +1,4 @@
+pub mod Calendar
+pub mod Writes
+pub mod Pieces
+pub mod DayLaws

@@ -1,0 +1,5 @@
+use Rattle.desk_base.proofs.DayLaws.{day_spelled}
+use Rattle.desk_base.proofs.laws.read_number_is_day.Goals as goal
+
+pub returns : goal.returns
+returns c = λ found. (day_spelled c.args._text.now c.args._number found).0

@@ -1,0 +1,5 @@
+pub mod Days
+pub mod Ids
+pub mod Periods
+pub mod Streams
+pub mod MemoryStreams

@@ -1,0 +1,26 @@
+//! Laws of days, each as the contract of a function with an empty body.
+
+ghost use Rattle.std.specs.Prelude.{◌≡◌, Some};
+ghost use Rattle.desk_base.specs.Days.{IsDay, number_of, day_of, day_text};
+
+/// What a day spells is read as that day.
+pub fn spelled_day_is_read(_number: u32)
+    ensures { IsDay _number → day_of (day_text _number) ≡ Some _number }
+{}
+
+/// What is read as a day is what that day spells, so that a day has one spelling.
+pub fn read_day_is_spelled(_text: &[u8], _number: u32)
+    ensures { day_of _text.now ≡ Some _number → _text.now ≡ day_text _number }
+{}
+
+/// What is read is a day: its number is from 1 to 3652059.
+pub fn read_number_is_day(_text: &[u8], _number: u32)
+    ensures { day_of _text.now ≡ Some _number → IsDay _number }
+{}
+
+/// The count of days: 0001-01-01 is day 1, 1970-01-01 day 719163, and 9999-12-31 day 3652059.
+pub fn days_are_counted_from_first()
+    ensures first { number_of 1 1 1 ≡ 1 }
+    ensures epoch { number_of 1970 1 1 ≡ 719163 }
+    ensures last { number_of 9999 12 31 ≡ 3652059 }
+{}
