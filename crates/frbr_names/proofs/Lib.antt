@@ -1,0 +1,11 @@
+pub mod Fronts
+pub mod Slashes
+pub mod Readings
+pub mod DateLemmas
+pub mod RuleLemmas
+pub mod FrontLemmas
+pub mod WorkLemmas
+pub mod YearLemmas
+pub mod LetterLemmas
+pub mod EndingLemmas
+pub mod ExpressionLemmas

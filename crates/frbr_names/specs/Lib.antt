@@ -1,0 +1,9 @@
+pub mod Faults
+pub mod Reads
+pub mod Parts
+pub mod Rules
+pub mod Dates
+pub mod Works
+pub mod WorkViews
+pub mod Expressions
+pub mod ExpressionViews
