@@ -1,0 +1,10 @@
+-- The element sought among those that are left is the element sought among all.
+use Rattle.std.proofs.Common.{◌≡◌, drop, find}
+use Rattle.std.specs.Str.{bytes_eq}
+use Rattle.eid_paths.specs.Elements.{element_word}
+use Rattle.eid_paths.proofs.element.with_word.Given as goal
+
+abbrev pub invariant-loop-element : goal.invariant-loop-element
+invariant-loop-element l =
+    find (λ e. bytes_eq (element_word e) l.word) (drop l.element-index l.elements)
+    ≡ find (λ e. bytes_eq (element_word e) l.word) l.elements
