@@ -1,0 +1,33 @@
+use Rattle.std.proofs.Common.{◌∙◌, sym, ap, is_some}
+use Rattle.act_tree.specs.Seen.{has_node, tree_view, provision_at}
+use Rattle.act_tree.specs.Slots.{at, number, size}
+use Rattle.act_tree.proofs.TreeNodes.{not_found, not_climbing, found_wid, found_held}
+use Rattle.act_tree.proofs.tree.Tree.find.Goals as goal
+
+pub returns-in_err-id-clause-found : goal.returns-in_err-id-clause-found
+unfolding tree_view
+returns-in_err-id-clause-found c =
+    let arena = c.args.self.now.arena in
+    ap is_some c.from_residual.ensures ∙ sym (not_found (at arena) (number arena) (size arena) c.args.self.now.whole c.args.wid.now (sym c.in_err-id.ensures.value))
+
+pub returns-then-climbs-clause-found : goal.returns-then-climbs-clause-found
+unfolding tree_view
+returns-then-climbs-clause-found c =
+    let arena = c.args.self.now.arena in
+    sym (found_held (at arena) (number arena) (size arena) c.args.self.now.whole c.args.wid.now c.in_ok-id.field-0.now (sym c.in_ok-id.ensures.value) (sym c.if-climbs.ensures))
+
+pub returns-then-climbs-clause-wid : goal.returns-then-climbs-clause-wid
+unfolding provision_at
+returns-then-climbs-clause-wid c =
+    let arena = c.args.self.now.arena in
+    found_wid (at arena) (number arena) (size arena) c.args.self.now.whole c.args.wid.now c.in_ok-id.field-0.now (sym c.in_ok-id.ensures.value)
+
+pub returns-then-climbs-clause-node : goal.returns-then-climbs-clause-node
+unfolding has_node
+returns-then-climbs-clause-node c = sym c.if-climbs.ensures
+
+pub returns-else-climbs-clause-found : goal.returns-else-climbs-clause-found
+unfolding tree_view
+returns-else-climbs-clause-found c =
+    let arena = c.args.self.now.arena in
+    sym (not_climbing (at arena) (number arena) (size arena) c.args.self.now.whole c.args.wid.now c.in_ok-id.field-0.now (sym c.in_ok-id.ensures.value) (sym c.if-climbs.ensures))

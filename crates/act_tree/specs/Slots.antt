@@ -1,0 +1,32 @@
+-- What the slots of an arena lay down.
+use Rattle.std.specs.Prelude.{ℕ, List, Option, slice_get, option_map, length}
+use Rattle.std.specs.Str.{bytes_eq}
+use Rattle.indexmap.specs.IndexMap.{get_by}
+use Rattle.act_tree.specs.declared.arena.Slot.{Slot}
+use Rattle.act_tree.specs.declared.arena.Arena.{Arena}
+use Rattle.act_tree.specs.Provisions.{Provision}
+use Rattle.act_tree.specs.Arena.{Laid}
+
+-- the provision of a slot
+abbrev pub provision_of : Slot → Provision
+provision_of s = record { wid = s.wid; own = record { element = s.element; num = s.num; heading = s.heading; content = s.content; refs = s.refs } }
+
+-- what a slot lays down
+abbrev pub laid_of : Slot → Laid
+laid_of s = record { provision = provision_of s; above = s.above; below = s.below.items }
+
+-- what slots lay down for a number, which is the place of the slot
+abbrev pub laid : List Slot → ℕ → Option Laid
+laid slots i = option_map laid_of (slice_get slots i)
+
+-- what an arena lays down for a number
+abbrev pub at : Arena → ℕ → Option Laid
+at arena i = laid arena.slots.items i
+
+-- the number to which an arena's index leads from a wId
+abbrev pub number : Arena → List ℕ → Option ℕ
+number arena wid = get_by (λ k. bytes_eq wid k.items) arena.numbers
+
+-- how many slots an arena has
+abbrev pub size : Arena → ℕ
+size arena = length arena.slots.items

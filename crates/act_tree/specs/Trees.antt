@@ -1,0 +1,16 @@
+-- The tree of an act, as a clause sees it.
+use Rattle.std.specs.Prelude.{ℕ, ◌+◌, ◌-◌, ◌^◌, min}
+use Rattle.eid_paths.specs.declared.numbering.Numbering.{Numbering}
+use Rattle.act_tree.specs.Branches.{Branches}
+use Rattle.act_tree.specs.Provisions.{Provision}
+
+-- a tree: which elements are numbered throughout, the children of its root with all beneath them, and the number of
+-- changes that were made to it since it was built, which is no part of its text
+pub record TreeValue : Type 0 where
+  pub numbering : Numbering
+  pub body : Branches Provision
+  pub changes : ℕ
+
+-- one more change; the count stands still at 2^64 - 1
+abbrev pub one_more : ℕ → ℕ
+one_more changes = min (changes + 1) (2 ^ 64 - 1)

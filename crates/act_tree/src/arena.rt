@@ -1,0 +1,233 @@
+//! Arena: the provisions of a tree in slots, each with the number of the one above it and the numbers of those below it,
+//! and an index that leads from a wId to a number. Slots are added and never taken away.
+
+ghost use Rattle.std.specs.Prelude.{◌≡◌, ◌==◌, not, filter, ℕ, List, [], ◌∷◌, ◌++◌, ◌<◌, IfOk, OnOk, Some, None, length, slice_set, slice_index_or, if◌then◌else◌};
+ghost use Rattle.std.specs.Str.{bytes_eq};
+ghost use Rattle.indexmap.specs.IndexMap.{get_by};
+
+use crate::{NodeId, Refs};
+use desk_base::{Memory, Text};
+use eid_paths::{Element, Num};
+use indexmap::IndexMap;
+use std::alloc::Global;
+
+/// A provision of a tree.
+#[derive(Debug, Drop)]
+pub struct Slot {
+    /// Its wId, which never changes.
+    pub wid: Text,
+    /// The kind of provision.
+    pub element: Element,
+    /// Its number.
+    pub num: Num,
+    /// Its heading, empty where it has none.
+    pub heading: Text,
+    /// Its text, empty where it has none.
+    pub content: Text,
+    /// The expressions that it refers to.
+    pub refs: Refs,
+    /// The node right above it, or its own number where it was taken off.
+    pub above: NodeId,
+    /// The nodes right below it, in order.
+    pub below: Vec<NodeId>,
+}
+
+/// The provisions of a tree, and the index of their wIds.
+#[derive(Debug, Drop)]
+pub struct Arena {
+    /// The provision of each number; the first is the root.
+    pub slots: Vec<Slot>,
+    /// The number of each wId; those of provisions that were taken off stay.
+    pub numbers: IndexMap<Vec<u8>, NodeId>,
+}
+
+/// Lets the index lead from a wId to a number.
+pub fn note(
+    alloc: Global,
+    numbers: &mut IndexMap<Vec<u8>, NodeId>,
+    wid: &str,
+    id: NodeId,
+) -> Result<(), Memory>
+    ensures { OnOk result ((w : List ℕ) → get_by (λ k. bytes_eq w k.items) numbers.new
+        ≡ (if bytes_eq wid.now w then Some id else get_by (λ k. bytes_eq w k.items) numbers.old)) }
+{
+    numbers.insert(wid.as_bytes().to_vec(alloc)?, id)?;
+    Ok(())
+}
+
+// Leaves a number out of a list.
+fn leave_out(numbers: &mut Vec<NodeId>, id: NodeId)
+    ensures { numbers.new.items ≡ filter (λ k. not (k == id)) numbers.old.items }
+{
+    numbers.retain(|number| *number != id);
+}
+
+/// The same index.
+pub fn copy_numbers(
+    numbers: &IndexMap<Vec<u8>, NodeId>,
+) -> Result<IndexMap<Vec<u8>, NodeId>, Memory>
+    ensures { IfOk result (λ copy. (w : List ℕ) → get_by (λ k. bytes_eq w k.items) copy ≡ get_by (λ k. bytes_eq w k.items) numbers.now) }
+{
+    Ok(numbers.clone()?)
+}
+
+impl Slot {
+    ghost use Rattle.act_tree.specs.Slots.{laid_of};
+
+    /// The same provision, at the same place.
+    pub fn copy(&self, alloc: Global) -> Result<Slot, Memory>
+        ensures { IfOk result (λ s. laid_of s ≡ laid_of self.now) }
+    {
+        Ok(Slot {
+            wid: self.wid.copy()?,
+            element: self.element,
+            num: self.num.copy(),
+            heading: self.heading.copy()?,
+            content: self.content.copy()?,
+            refs: self.refs.copy(alloc)?,
+            above: self.above,
+            below: self.below.as_slice().to_vec(alloc)?,
+        })
+    }
+}
+
+impl Arena {
+    ghost use Rattle.std.specs.Prelude.{ℕ, ◌==◌, not, false, filter, map};
+    ghost use Rattle.std.specs.List.{All, list_any};
+    ghost use Rattle.act_tree.specs.Arena.{climbs, above_in, below_in};
+    ghost use Rattle.act_tree.specs.TakenOff.{with_above, with_below, IsTakenOff, IsEmptied};
+    ghost use Rattle.act_tree.specs.Slots.{at, number, size, laid_of};
+
+    /// No provisions. It takes no memory.
+    pub fn new(alloc: Global) -> Arena
+        ensures slots { result.slots.items ≡ [] }
+        ensures numbers { (w : List ℕ) → number result w ≡ None }
+    {
+        Arena {
+            slots: Vec::new(alloc),
+            numbers: IndexMap::new(alloc),
+        }
+    }
+
+    /// Adds a provision, and lets the index lead to it.
+    pub fn add(&mut self, alloc: Global, slot: Slot) -> Result<NodeId, Memory>
+        ensures id { IfOk result (λ id. id ≡ length self.old.slots.items) }
+        ensures slots { OnOk result (self.new.slots.items ≡ self.old.slots.items ++ slot ∷ []) }
+        ensures numbers { OnOk result ((w : List ℕ) → number self.new w
+            ≡ (if bytes_eq slot.wid w then Some (length self.old.slots.items) else number self.old w)) }
+    {
+        let id = NodeId::of_place(self.slots.len()).ok_or(Memory)?;
+        note(alloc, &mut self.numbers, slot.wid.as_str(), id)?;
+        self.slots.push(slot)?;
+        Ok(id)
+    }
+
+    /// Sets the nodes right below one.
+    pub fn set_below(&mut self, id: NodeId, below: Vec<NodeId>)
+        requires { id < length self.old.slots.items }
+        ensures numbers { self.new.numbers ≡ self.old.numbers }
+        ensures slots { (s : Slot) → s ≡ slice_index_or self.old.slots.items id s → self.new.slots.items ≡ slice_set self.old.slots.items id (record s { below = below }) }
+    {
+        self.slots[id.place()].below = below;
+    }
+
+    /// The same arena, with the same numbers.
+    pub fn copy(&self, alloc: Global) -> Result<Arena, Memory>
+        ensures laid { IfOk result (λ a. map laid_of a.slots.items ≡ map laid_of self.now.slots.items) }
+        ensures numbers { IfOk result (λ a. (w : List ℕ) → number a w ≡ number self.now w) }
+    {
+        let mut slots = Vec::with_capacity(alloc, self.slots.len())?;
+        for slot in &self.slots {
+            slots.push(slot.copy(alloc)?)?;
+        }
+        Ok(Arena {
+            slots,
+            numbers: copy_numbers(&self.numbers)?,
+        })
+    }
+
+    /// Whether the way up from a number ends at the root.
+    pub fn climbs(&self, id: NodeId) -> bool
+        ensures { result ≡ climbs (size self.now) (at self.now) id }
+    {
+        let mut id = id;
+        let mut steps = self.slots.len();
+        while steps > 0 {
+            if id.place() == 0 {
+                return true;
+            }
+            let Some(slot) = self.slots.get(id.place()) else {
+                return false;
+            };
+            if slot.above == id {
+                return false;
+            }
+            id = slot.above;
+            steps -= 1;
+        }
+        false
+    }
+
+    // Sets the number right above one.
+    fn set_above(&mut self, id: NodeId, above: NodeId)
+        requires { id < size self.old }
+        ensures numbers { self.new.numbers ≡ self.old.numbers }
+        ensures size { size self.new ≡ size self.old }
+        ensures here { at self.new id ≡ with_above above (at self.old id) }
+        ensures others { (k : ℕ) → (k ≡ id → ⊥) → at self.new k ≡ at self.old k }
+    {
+        self.slots[id.place()].above = above;
+    }
+
+    // Takes a number out of the list of those right below another.
+    fn unlist(&mut self, above: NodeId, id: NodeId)
+        requires { above < size self.old }
+        ensures numbers { self.new.numbers ≡ self.old.numbers }
+        ensures size { size self.new ≡ size self.old }
+        ensures here { at self.new above ≡ with_below (filter (λ k. not (k == id)) (below_in (at self.old above))) (at self.old above) }
+        ensures others { (k : ℕ) → (k ≡ above → ⊥) → at self.new k ≡ at self.old k }
+    {
+        leave_out(&mut self.slots[above.place()].below, id);
+    }
+
+    /// Takes a number off: it is right above itself from now on, and the one above it lists it no more. It needs no memory.
+    pub fn take_off(&mut self, id: NodeId)
+        requires within { id < size self.old }
+        requires above { above_in (at self.old id) < size self.old }
+        requires apart { above_in (at self.old id) ≡ id → ⊥ }
+        ensures numbers { self.new.numbers ≡ self.old.numbers }
+        ensures size { size self.new ≡ size self.old }
+        ensures taken { IsTakenOff (at self.old) (at self.new) id }
+    {
+        let above = self.slots[id.place()].above;
+        self.unlist(above, id);
+        self.set_above(id, id);
+    }
+
+    /// Takes all numbers right below the root off. It needs no memory.
+    pub fn take_all(&mut self)
+        requires root { 0 < size self.old }
+        requires within { All (λ k. k < size self.old) (below_in (at self.old 0)) }
+        requires apart { list_any (λ j. j == 0) (below_in (at self.old 0)) ≡ false }
+        ensures numbers { self.new.numbers ≡ self.old.numbers }
+        ensures size { size self.new ≡ size self.old }
+        ensures emptied { IsEmptied (at self.old) (at self.new) }
+    {
+        for i in 0..self.slots[0].below.len() {
+            let id = self.slots[0].below[i];
+            self.set_above(id, id);
+        }
+        self.empty_root();
+    }
+
+    /// Leaves nothing right below the root.
+    pub fn empty_root(&mut self)
+        requires { 0 < size self.old }
+        ensures numbers { self.new.numbers ≡ self.old.numbers }
+        ensures size { size self.new ≡ size self.old }
+        ensures here { at self.new 0 ≡ with_below [] (at self.old 0) }
+        ensures others { (k : ℕ) → (k ≡ 0 → ⊥) → at self.new k ≡ at self.old k }
+    {
+        self.slots[0].below.clear();
+    }
+}

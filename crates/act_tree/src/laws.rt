@@ -1,0 +1,47 @@
+//! What holds of every tree and every change. Each law is a function that does nothing, whose clause is the law.
+
+ghost use Rattle.std.specs.Prelude.{◌≡◌, false, true, None, ℕ};
+ghost use Rattle.act_tree.specs.Branches.{listed, branches_of};
+ghost use Rattle.act_tree.specs.Changes.{any_holds, without};
+ghost use Rattle.act_tree.specs.EidsOfNodes.{IsNodeOf};
+ghost use Rattle.act_tree.specs.Faults.{first_cause, all_eids, all_owns};
+ghost use Rattle.act_tree.specs.Seen.{tree_view};
+ghost use Rattle.act_tree.specs.Wids.{is_among};
+
+use crate::{NodeId, Nodes, Tree};
+
+/// Of a wId that is taken away no provision is left, at any depth.
+pub fn none_is_left(tree: &Tree, wid: &str)
+    ensures { any_holds wid.now (without wid.now (tree_view tree.now).body) ≡ false }
+{}
+
+/// To take away a wId that is not in a tree leaves its text as it is.
+pub fn missing_changes_nothing(tree: &Tree, wid: &str)
+    requires { any_holds wid.now (tree_view tree.now).body ≡ false }
+    ensures { without wid.now (tree_view tree.now).body ≡ (tree_view tree.now).body }
+{}
+
+/// The eIds of a well-formed tree are distinct: two nodes of one eId are one node.
+pub fn eids_are_distinct(tree: &Tree, eid: &str, one: NodeId, other: NodeId)
+    requires well_formed { first_cause (tree_view tree.now) ≡ None }
+    requires one { IsNodeOf tree.now eid.now one }
+    requires other { IsNodeOf tree.now eid.now other }
+    ensures { one ≡ other }
+{}
+
+/// The eId of a node is among those of the text, so that a search for it finds a node: by the law above, in a well-formed
+/// tree that node.
+pub fn eid_of_a_node_is_found(tree: &Tree, eid: &str, id: NodeId)
+    requires { IsNodeOf tree.now eid.now id }
+    ensures { is_among eid.now (all_eids (tree_view tree.now).numbering None (all_owns (tree_view tree.now).body)) ≡ true }
+{}
+
+/// The provisions of a tree, told as a list, are again its provisions.
+pub fn listed_is_whole(tree: &Tree)
+    ensures { branches_of (listed (tree_view tree.now).body) ≡ (tree_view tree.now).body }
+{}
+
+/// Nodes, told as branches, are again the nodes.
+pub fn nodes_are_whole(nodes: &Nodes)
+    ensures { listed (branches_of nodes.now) ≡ nodes.now }
+{}

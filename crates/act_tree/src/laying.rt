@@ -1,0 +1,117 @@
+//! Laying down: the nodes that an act brings become provisions, whose wIds are the eIds that they have there.
+
+ghost use Rattle.std.specs.Prelude.{◌≡◌, [], ◌∷◌, IfOk, option_map};
+ghost use Rattle.act_tree.specs.Arena.{root_provision};
+ghost use Rattle.act_tree.specs.Branches.{branch, branches_of};
+ghost use Rattle.act_tree.specs.Eids as spec;
+ghost use Rattle.act_tree.specs.Eids.{all_enacted};
+ghost use Rattle.act_tree.specs.Planted.{IsLaid, AreLaid};
+ghost use Rattle.act_tree.specs.Slots.{provision_of};
+ghost use Rattle.act_tree.specs.Specs.{own_of};
+
+use crate::arena::{Arena, Slot};
+use crate::{NodeId, NodeSpec, Nodes, Refs, eid_below};
+use desk_base::{Memory, Text};
+use eid_paths::{Element, Num, Numbering};
+use std::alloc::Global;
+
+// The provision that a node becomes below the number `above`, which has the wId `wid`, or right below the root where
+// that is `None`. Nothing is below it yet.
+fn slot_of(
+    alloc: Global,
+    numbering: Numbering,
+    above: NodeId,
+    wid: Option<&str>,
+    node: &NodeSpec,
+) -> Result<Slot, Memory>
+    ensures provision { IfOk result (λ s. provision_of s ≡ record { wid = spec.eid_below numbering (option_map (λ s. s.now) wid.entry) node.now.element node.now.num; own = own_of node.now }) }
+    ensures above { IfOk result (λ s. s.above ≡ above) }
+    ensures below { IfOk result (λ s. s.below.items ≡ []) }
+{
+    Ok(Slot {
+        wid: eid_below(alloc, numbering, wid, node.element, &node.num)?,
+        element: node.element,
+        num: node.num.copy(),
+        heading: node.heading.copy()?,
+        content: node.content.copy()?,
+        refs: node.refs.copy(alloc)?,
+        above,
+        below: Vec::new(alloc),
+    })
+}
+
+// The num of the root's slot, which is never shown.
+fn root_num() -> Num
+    ensures { result ≡ 48 ∷ [] }
+{
+    Num::from_text("0").unwrap()
+}
+
+/// The root, which says nothing. Nothing is below it yet.
+pub fn root_slot(alloc: Global) -> Result<Slot, Memory>
+    ensures provision { IfOk result (λ s. provision_of s ≡ root_provision) }
+    ensures above { IfOk result (λ s. s.above ≡ 0) }
+    ensures below { IfOk result (λ s. s.below.items ≡ []) }
+{
+    Ok(Slot {
+        wid: Text::copy_of(alloc, "body")?,
+        element: Element::Article,
+        num: root_num(),
+        heading: Text::copy_of(alloc, "")?,
+        content: Text::copy_of(alloc, "")?,
+        refs: Refs::new(alloc),
+        above: NodeId::root(),
+        below: Vec::new(alloc),
+    })
+}
+
+/// Lays down a provision, and the nodes that stand below it. Their eIds are those below the eId `wid`, or right below
+/// the root where that is `None`.
+#[cycle(laying)]
+pub fn lay(
+    alloc: Global,
+    arena: &mut Arena,
+    slot: Slot,
+    numbering: Numbering,
+    wid: Option<&str>,
+    children: &Nodes,
+) -> Result<NodeId, Memory>
+    requires { slot.below.items ≡ [] }
+    ensures { IfOk result (λ id. IsLaid arena.old arena.new slot.above id
+        (branch (provision_of slot) (all_enacted numbering (option_map (λ s. s.now) wid.entry) (branches_of children.now)))) }
+{
+    let id = arena.add(alloc, slot)?;
+    let below = lay_all(alloc, arena, numbering, id, wid, children)?;
+    arena.set_below(id, below);
+    Ok(id)
+}
+
+// Lays down nodes below the number `above`, which has the wId `wid`.
+#[cycle(laying)]
+fn lay_all(
+    alloc: Global,
+    arena: &mut Arena,
+    numbering: Numbering,
+    above: NodeId,
+    wid: Option<&str>,
+    nodes: &Nodes,
+) -> Result<Vec<NodeId>, Memory>
+    ensures { IfOk result (λ ids. AreLaid arena.old arena.new above ids.items
+        (all_enacted numbering (option_map (λ s. s.now) wid.entry) (branches_of nodes.now))) }
+{
+    let mut ids = Vec::with_capacity(alloc, nodes.items.len())?;
+    for node in &nodes.items {
+        let slot = slot_of(alloc, numbering, above, wid, node)?;
+        let name = slot.wid.copy()?;
+        let id = lay(
+            alloc,
+            arena,
+            slot,
+            numbering,
+            Some(name.as_str()),
+            &node.children,
+        )?;
+        ids.push(id)?;
+    }
+    Ok(ids)
+}

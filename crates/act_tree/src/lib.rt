@@ -1,0 +1,26 @@
+//! The text of an act as a tree of provisions.
+#![tactic(auto)]
+
+mod arena;
+mod build_fault;
+mod cause;
+mod eid;
+mod eids;
+pub mod laws;
+mod laying;
+mod node_id;
+mod node_spec;
+mod refs;
+mod survey;
+mod surveying;
+mod tree;
+mod walks;
+
+pub use build_fault::{BuildFail, BuildFault};
+pub use cause::Cause;
+pub use eid::eid_below;
+pub use node_id::NodeId;
+pub use node_spec::{NodeSpec, Nodes};
+pub use refs::Refs;
+pub use surveying::{NONE_THROUGHOUT, check_nodes};
+pub use tree::{NodeView, ProvisionView, Tree};

@@ -1,0 +1,86 @@
+//! Walks over the nodes of a tree. They take as much stack as the tree is deep.
+
+ghost use Rattle.std.specs.Prelude.{◌≡◌, ◌-◌, ◌^◌, min, true, map, option_map, is_some, OnOk, IfOk, IfSome};
+ghost use Rattle.act_tree.specs.EidsOfNodes.{AreUnder, IsNodeOf};
+ghost use Rattle.act_tree.specs.Wids.{is_among};
+ghost use Rattle.std.specs.List.{All};
+ghost use Rattle.act_tree.specs.Branches.{branches_of, counts};
+ghost use Rattle.act_tree.specs.Faults.{all_owns, all_eids};
+ghost use Rattle.act_tree.specs.Seen.{tree_view, has_node, branch_at};
+ghost use Rattle.act_tree.specs.Surveys.{seen, all_surveyed};
+
+use crate::survey::Survey;
+use crate::{NodeId, Tree, eid_below};
+use desk_base::Memory;
+use std::alloc::Global;
+
+/// How many nodes these are, with all beneath them. The number stands still at 2^32 - 1.
+pub fn count(tree: &Tree, ids: &[NodeId]) -> u32
+    requires { All (λ id. has_node tree.now id ≡ true) ids.now }
+    ensures { result ≡ min (counts (branches_of (map (branch_at tree.now) ids.now))) (2 ^ 32 - 1) }
+{
+    let mut total: u32 = 0;
+    for id in ids {
+        let below = count(tree, tree.children(*id));
+        total = total.saturating_add(1).saturating_add(below);
+    }
+    total
+}
+
+/// Surveys nodes below the one of the eId `above`, or right below the root where that is `None`, under so many levels.
+pub fn survey(
+    alloc: Global,
+    survey_so_far: &mut Survey,
+    tree: &Tree,
+    above: Option<&str>,
+    levels: u32,
+    ids: &[NodeId],
+) -> Result<(), Memory>
+    requires { All (λ id. has_node tree.now id ≡ true) ids.now }
+    ensures { OnOk result (seen survey_so_far.new
+        ≡ all_surveyed (tree_view tree.now).numbering (option_map (λ s. s.now) above.entry) levels (all_owns (branches_of (map (branch_at tree.now) ids.now))) (seen survey_so_far.old)) }
+{
+    let depth = levels.saturating_add(1);
+    for id in ids {
+        let slot = tree.slot(*id);
+        let eid = eid_below(alloc, tree.numbering(), above, slot.element, &slot.num)?;
+        survey_so_far.note(eid.copy()?, &slot.heading, &slot.content, depth)?;
+        let children = tree.children(*id);
+        survey(
+            alloc,
+            survey_so_far,
+            tree,
+            Some(eid.as_str()),
+            depth,
+            children,
+        )?;
+    }
+    Ok(())
+}
+
+/// A node of this eId, among nodes below the one of the eId `above`, or right below the root where that is `None`, and
+/// beneath them.
+pub fn find_eid(
+    alloc: Global,
+    tree: &Tree,
+    above: Option<&str>,
+    eid: &str,
+    ids: &[NodeId],
+) -> Result<Option<NodeId>, Memory>
+    requires { AreUnder tree.now (option_map (λ s. s.now) above) ids.now }
+    ensures found { IfOk result (λ o. is_some o ≡ is_among eid.now (all_eids (tree_view tree.now).numbering (option_map (λ s. s.now) above.entry) (all_owns (branches_of (map (branch_at tree.now) ids.now))))) }
+    ensures node { IfOk result (λ o. IfSome o (IsNodeOf tree.now eid.now)) }
+{
+    for id in ids {
+        let own = tree.eid_of(alloc, *id)?;
+        if own.as_str() == eid {
+            return Ok(Some(*id));
+        }
+        let children = tree.children(*id);
+        let found = find_eid(alloc, tree, Some(own.as_str()), eid, children)?;
+        if found.is_some() {
+            return Ok(found);
+        }
+    }
+    Ok(None)
+}
