@@ -1,0 +1,34 @@
+-- Laws of forms that several functions rest on.
+use Rattle.std.proofs.Common.{◌≡◌, ℕ, Bool, true, false, List, [], ◌∷◌, ◌++◌, length, Some, None, Ok, Err, if◌then◌else◌, refl, ap, arith}
+use Rattle.std.proofs.lemmas.Str.{IsUtf8-from_is_utf8, is_utf8-from_IsUtf8}
+use Rattle.std.specs.Str.{IsUtf8, is_utf8}
+use Rattle.serde_json.specs.Data.{Data}
+use Rattle.serde_json.specs.Read.{read}
+use Rattle.serde_json.specs.View.{items_view}
+use Rattle.serde_json.specs.declared.value.Value.{Value}
+use Rattle.akn_json.specs.Reads.{Read, ◌>>=◌, or_fault, not_json}
+use Rattle.akn_json.specs.Fields.{count_of}
+use Rattle.akn_json.specs.DossierForm.{json_of}
+
+-- a list has as many items as the vector that it is read from
+pub count_of-items_view : (vs : List Value) → count_of (items_view vs) ≡ length vs
+count_of-items_view [] = refl
+count_of-items_view (v ∷ vs) = omega (arith, count_of-items_view vs)
+
+pub ruleset counted = (count_of-items_view)
+
+-- the JSON value of a text is what is read of it
+pub json_of-read : (bytes : List ℕ) (d : Data) → IsUtf8 bytes → read bytes ≡ Some d → or_fault not_json (json_of bytes) ≡ Ok d
+json_of-read bytes d utf8 reads = rw (is_utf8-from_IsUtf8 bytes utf8, reads)
+
+-- bytes that are no text, and a text of which nothing is read, are no JSON value
+pub json_of-refused : (bytes : List ℕ) → (IsUtf8 bytes → read bytes ≡ None) → or_fault not_json (json_of bytes) ≡ Err not_json
+json_of-refused bytes refused = by (is_utf8 bytes) refl
+  where
+    by : (b : Bool) → is_utf8 bytes ≡ b → or_fault not_json (if b then read bytes else None) ≡ Err not_json
+    by true is = ap (or_fault not_json) (refused (IsUtf8-from_is_utf8 bytes is))
+    by false is = refl
+
+-- what a reading of the rest of a list gives, behind what was read so far
+abbrev pub with_front : {A : Type 0} → List A → Read (List A) → Read (List A)
+with_front front reading = reading >>= λ rest. Ok (front ++ rest)

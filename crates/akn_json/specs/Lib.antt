@@ -1,0 +1,15 @@
+pub mod Faults
+pub mod Questions
+pub mod Shown
+pub mod ShownNodes
+pub mod AnswerData
+pub mod Queries
+pub mod RefusalData
+pub mod Reads
+pub mod Keys
+pub mod Fields
+pub mod Works
+pub mod ActForm
+pub mod ModsForm
+pub mod DossierForm
+pub mod Limits

@@ -1,0 +1,15 @@
+//! Answers and refusals are printed as JSON with no space, token by token.
+
+mod answers;
+mod expressions;
+mod lists;
+mod members;
+mod provisions;
+mod refusals;
+#[cfg(test)]
+mod tests;
+mod values;
+
+pub use answers::put_answer;
+pub use refusals::{put_form_fault, put_query_rule, put_rule};
+pub use values::answer_value;

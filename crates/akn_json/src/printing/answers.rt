@@ -1,0 +1,47 @@
+//! An answer is printed.
+
+ghost use Rattle.std.specs.Prelude.{◌≡◌, ◌++◌, OnOk, IfOk};
+ghost use Rattle.json.specs.Tree.{json_tokens};
+ghost use Rattle.serde_json.specs.Written.{outline, compact_text};
+ghost use Rattle.akn_json.specs.AnswerData.{answer_data};
+
+use super::expressions::expression;
+use super::lists::{put_ids, put_unapplied};
+use super::members::{put_flag, put_number, put_text};
+use super::provisions::put_nodes;
+use crate::Answer;
+use desk_base::Memory;
+use json::Writer;
+use std::alloc::Global;
+
+// An answer.
+#[tactic(auto, unfolding(crate::specs::AnswerData::answer_data))]
+fn put_parts(out: &mut Writer, alloc: Global, answer: &Answer) -> Result<(), Memory>
+    ensures tokens { OnOk result (out.new.tokens
+        ≡ out.old.tokens ++ json_tokens (outline (answer_data answer.now))) }
+    ensures before { OnOk result (out.new.before ≡ out.old.before) }
+{
+    let iri = expression(alloc, &answer.question)?;
+    out.begin_object()?;
+    out.key("applied")?;
+    put_ids(out, alloc, answer.applied.as_slice())?;
+    put_flag(out, "bears", answer.bears)?;
+    out.key("body")?;
+    put_nodes(out, &answer.nodes)?;
+    put_text(out, "expression", iri.as_str())?;
+    put_text(out, "reading", answer.question.reading.name())?;
+    out.key("unapplied")?;
+    put_unapplied(out, alloc, answer.unapplied.as_slice())?;
+    put_number(out, "viewpoint", u64::from(answer.question.viewpoint))?;
+    out.end_object()?;
+    Ok(())
+}
+
+/// The bytes of an answer. They are JSON with no space, and no line feed stands behind them.
+pub fn put_answer(alloc: Global, answer: &Answer) -> Result<Vec<u8>, Memory>
+    ensures { IfOk result (λ bytes. bytes.items ≡ compact_text (answer_data answer.now)) }
+{
+    let mut out = Writer::new(Vec::new(alloc));
+    put_parts(&mut out, alloc, answer)?;
+    Ok(out.into_inner())
+}

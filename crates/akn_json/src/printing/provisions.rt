@@ -1,0 +1,66 @@
+//! The provisions of an answer, nested.
+
+ghost use Rattle.std.specs.Prelude.{◌≡◌, ◌++◌, OnOk};
+ghost use Rattle.json.specs.Tree.{json_tokens, items_tokens, members_tokens};
+ghost use Rattle.serde_json.specs.Data.{array};
+ghost use Rattle.serde_json.specs.Written.{outline, items_outline, members_outline};
+ghost use Rattle.act_tree.specs.Branches.{branches_of};
+ghost use Rattle.akn_json.specs.AnswerData.{node_data, nodes_data, wid_data};
+ghost use Rattle.akn_json.specs.ShownNodes.{shown_view};
+
+use super::lists::put_texts;
+use super::members::{put_flag, put_text};
+use crate::{AnswerNode, AnswerNodes};
+use desk_base::Memory;
+use json::Writer;
+
+// The wId, exactly where it differs from the eId, and the end of the provision.
+fn put_wid(out: &mut Writer, wid: &str, eid: &str) -> Result<(), Memory>
+    ensures tokens { OnOk result (out.new.tokens
+        ≡ out.old.tokens ++ members_tokens (members_outline (wid_data wid.now eid.now))) }
+    ensures before { OnOk result (out.new.before ≡ out.old.before) }
+{
+    if wid != eid {
+        put_text(out, "wId", wid)?;
+    }
+    out.end_object()?;
+    Ok(())
+}
+
+// A provision, with all beneath it.
+#[cycle(provision)]
+fn put_node(out: &mut Writer, node: &AnswerNode) -> Result<(), Memory>
+    ensures tokens { OnOk result (out.new.tokens
+        ≡ out.old.tokens ++ json_tokens (outline (node_data (shown_view node.now)))) }
+    ensures before { OnOk result (out.new.before ≡ out.old.before) }
+{
+    let eid = node.eid.as_str();
+    out.begin_object()?;
+    put_flag(out, "bears", node.bears)?;
+    out.key("children")?;
+    put_nodes(out, &node.children)?;
+    put_text(out, "content", node.content.as_str())?;
+    put_text(out, "eId", eid)?;
+    put_text(out, "element", node.element.name())?;
+    put_text(out, "heading", node.heading.as_str())?;
+    put_text(out, "num", node.num.as_str())?;
+    out.key("refs")?;
+    put_texts(out, node.refs.as_slice())?;
+    put_wid(out, node.wid.as_str(), eid)?;
+    Ok(())
+}
+
+// A list of provisions.
+#[cycle(provision)]
+pub fn put_nodes(out: &mut Writer, nodes: &AnswerNodes) -> Result<(), Memory>
+    ensures tokens { OnOk result (out.new.tokens
+        ≡ out.old.tokens ++ json_tokens (outline (array (nodes_data (branches_of nodes.now))))) }
+    ensures before { OnOk result (out.new.before ≡ out.old.before) }
+{
+    out.begin_array()?;
+    for node in &nodes.items {
+        put_node(out, node)?;
+    }
+    out.end_array()?;
+    Ok(())
+}

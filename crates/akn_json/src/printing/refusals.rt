@@ -1,0 +1,97 @@
+//! Refusals are printed.
+
+ghost use Rattle.std.specs.Prelude.{◌≡◌, ◌++◌, OnOk, IfOk};
+ghost use Rattle.json.specs.Tree.{json_tokens};
+ghost use Rattle.serde_json.specs.Written.{outline, compact_text};
+ghost use Rattle.akn_json.specs.RefusalData.{form_fault_data, kept_data, query_data, rule_data};
+
+use super::members::{put_number, put_text};
+use crate::{FormFault, QueryRule, Rule};
+use desk_base::Memory;
+use json::Writer;
+use std::alloc::Global;
+
+// A fault of a form.
+fn put_fault(out: &mut Writer, fault: FormFault) -> Result<(), Memory>
+    ensures tokens { OnOk result (out.new.tokens
+        ≡ out.old.tokens ++ json_tokens (outline (form_fault_data fault))) }
+    ensures before { OnOk result (out.new.before ≡ out.old.before) }
+{
+    out.begin_object()?;
+    put_number(out, "form", u64::from(fault.rule.number()))?;
+    put_text(out, "name", fault.rule.name())?;
+    put_number(out, "place", u64::from(fault.place))?;
+    out.end_object()?;
+    Ok(())
+}
+
+// The value that a refusal of a question shows.
+fn put_kept(out: &mut Writer, alloc: Global, rule: &QueryRule) -> Result<(), Memory>
+    ensures tokens { OnOk result (out.new.tokens
+        ≡ out.old.tokens ++ json_tokens (outline (kept_data rule.now))) }
+    ensures before { OnOk result (out.new.before ≡ out.old.before) }
+{
+    match rule {
+        QueryRule::NotYetEnacted(day) => out.string(day.spelled(alloc)?.as_str())?,
+    }
+    Ok(())
+}
+
+// A refusal of a question.
+fn put_query(out: &mut Writer, alloc: Global, rule: &QueryRule) -> Result<(), Memory>
+    ensures tokens { OnOk result (out.new.tokens
+        ≡ out.old.tokens ++ json_tokens (outline (query_data rule.now))) }
+    ensures before { OnOk result (out.new.before ≡ out.old.before) }
+{
+    out.begin_object()?;
+    out.key("kept")?;
+    put_kept(out, alloc, rule)?;
+    put_text(out, "name", rule.name())?;
+    put_number(out, "query", u64::from(rule.number()))?;
+    out.end_object()?;
+    Ok(())
+}
+
+/// The bytes of a refusal of a form: its rule by number and name, and the place. They are JSON with
+/// no space, and no line feed stands behind them.
+pub fn put_form_fault(alloc: Global, fault: FormFault) -> Result<Vec<u8>, Memory>
+    ensures { IfOk result (λ bytes. bytes.items ≡ compact_text (form_fault_data fault)) }
+{
+    let mut out = Writer::new(Vec::new(alloc));
+    put_fault(&mut out, fault)?;
+    Ok(out.into_inner())
+}
+
+/// The bytes of a refusal of a question: the value that it shows, and its rule by name and number.
+/// They are JSON with no space, and no line feed stands behind them.
+pub fn put_query_rule(alloc: Global, rule: QueryRule) -> Result<Vec<u8>, Memory>
+    ensures { IfOk result (λ bytes. bytes.items ≡ compact_text (query_data rule)) }
+{
+    let mut out = Writer::new(Vec::new(alloc));
+    put_query(&mut out, alloc, &rule)?;
+    Ok(out.into_inner())
+}
+
+// A refusal of a command.
+fn put_command(out: &mut Writer, rule: Rule) -> Result<(), Memory>
+    ensures tokens { OnOk result (out.new.tokens
+        ≡ out.old.tokens ++ json_tokens (outline (rule_data rule))) }
+    ensures before { OnOk result (out.new.before ≡ out.old.before) }
+{
+    out.begin_object()?;
+    put_number(out, "kept", u64::from(rule.kept()))?;
+    put_text(out, "name", rule.name())?;
+    put_number(out, "rule", u64::from(rule.number()))?;
+    out.end_object()?;
+    Ok(())
+}
+
+/// The bytes of a refusal of a command: the number that it shows, and its rule by name and number.
+/// They are JSON with no space, and no line feed stands behind them.
+pub fn put_rule(alloc: Global, rule: Rule) -> Result<Vec<u8>, Memory>
+    ensures { IfOk result (λ bytes. bytes.items ≡ compact_text (rule_data rule)) }
+{
+    let mut out = Writer::new(Vec::new(alloc));
+    put_command(&mut out, rule)?;
+    Ok(out.into_inner())
+}
