@@ -1,0 +1,5 @@
+pub mod Reading
+pub mod ShowingLaws
+pub mod Wholes
+pub mod Telling
+pub mod OrderLaws

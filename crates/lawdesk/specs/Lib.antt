@@ -1,0 +1,12 @@
+pub mod Order
+pub mod Input
+pub mod Jobs
+pub mod Showing
+pub mod VersionValues
+pub mod Versions
+pub mod Replay
+pub mod Answering
+pub mod Stops
+pub mod Reports
+pub mod Runs
+pub mod Views

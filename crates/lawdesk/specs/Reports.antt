@@ -1,0 +1,58 @@
+-- What the program tells of its input: a status, and the bytes that are written.
+use Rattle.std.specs.Prelude.{ℕ, List, [], ◌∷◌, ◌++◌, Option, Some, None, Result, Ok, Err, nat_lt, if◌then◌else◌}
+use Rattle.serde_json.specs.Data.{Data}
+use Rattle.serde_json.specs.Written.{compact_text}
+use Rattle.akn_json.specs.AnswerData.{answer_data}
+use Rattle.akn_json.specs.DossierForm.{dossier_of}
+use Rattle.act_tree.specs.Branches.{branches_of}
+use Rattle.act_tree.specs.Faults.{first_fault}
+use Rattle.act_tree.specs.declared.build_fault.BuildFault.{BuildFault}
+use Rattle.akn_json.specs.RefusalData.{form_fault_data, query_data, rule_data}
+use Rattle.akn_json.specs.declared.refusal.Rule.TheVariants.{BadTree}
+use Rattle.akn_json.specs.declared.dossier.Dossier.{Dossier}
+use Rattle.akn_json.specs.declared.fault.FormFault.{FormFault}
+use Rattle.akn_json.specs.declared.refusal.QueryRule.TheVariants.{NotYetEnacted}
+use Rattle.lawdesk.specs.declared.job.Job.{Job}
+use Rattle.lawdesk.specs.declared.job.Job.TheVariants.{Text}
+use Rattle.lawdesk.specs.Answering.{answer_on}
+
+-- a status, and the bytes that are written
+pub record Told : Type 0 where
+  pub status : ℕ
+  pub bytes : List ℕ
+
+-- a line of JSON with no space, and its line feed
+abbrev pub line_of : Data → List ℕ
+line_of d = compact_text d ++ 10 ∷ []
+
+-- a day before that of the act is refused, and any other is answered
+unfoldable pub told_of_text : ℕ → Dossier → Told
+told_of_text day dossier =
+    if nat_lt day dossier.act.day then record { status = 9; bytes = line_of (query_data (NotYetEnacted dossier.act.day)) }
+    else record { status = 0; bytes = line_of (answer_data (answer_on dossier day)) }
+
+-- an act whose text is not well-formed is refused, with its first fault
+abbrev pub told_rule : BuildFault → Told
+told_rule fault = record { status = 9; bytes = line_of (rule_data (BadTree fault)) }
+
+-- that refusal where there is a fault, and what is told of the text where there is none
+abbrev pub told_unless : Option BuildFault → Told → Told
+told_unless None told = told
+told_unless (Some fault) told = told_rule fault
+
+-- the rules of the act come before those of the question
+abbrev pub told_on : ℕ → Dossier → Told
+told_on day dossier = told_unless (first_fault dossier.act.numbering (branches_of dossier.act.body)) (told_of_text day dossier)
+
+-- bytes that are no dossier are refused with the fault that comes first
+abbrev pub told_fault : FormFault → Told
+told_fault fault = record { status = 10; bytes = line_of (form_fault_data fault) }
+
+-- a dossier, or the fault that keeps the bytes from being one
+abbrev pub told_of : ℕ → Result Dossier FormFault → Told
+told_of day (Ok dossier) = told_on day dossier
+told_of day (Err fault) = told_fault fault
+
+-- what a job tells of the bytes that it reads
+unfoldable pub told : Job → List ℕ → Told
+told (Text day) input = told_of day (dossier_of input)

@@ -1,0 +1,85 @@
+//! The program of the desk.
+#![tactic(auto)]
+
+mod answering;
+mod input;
+mod job;
+mod order;
+mod replay;
+mod report;
+mod reporting;
+mod run;
+mod showing;
+mod stop;
+#[cfg(test)]
+mod tests;
+mod version;
+
+ghost use Rattle.std.specs.Prelude.{◌≡◌};
+
+use desk_base::{Reading, Steps, Writing};
+use run::run;
+use std::alloc::Global;
+use std::env;
+use std::io::{self, Read, Write};
+use std::marker::Brand;
+use std::process::ExitCode;
+use std::sync::ledger::{Blank, Ledger};
+use std::thread::Threads;
+
+const USAGE: &str = "usage: lawdesk text DATE (DATE as 2011-01-01; the dossier on standard input)";
+
+// The words of the command line, without the program's name.
+fn words(rt: &HostRuntime) -> io::Result<Vec<String>> {
+    let mut words = Vec::new(rt.alloc());
+    for word in env::args(rt)?.skip(1) {
+        words.push(word)?;
+    }
+    Ok(words)
+}
+
+// Runs the words over a reader and a writer, with a count of steps that begins here.
+fn run_over<L: Ledger, H: Threads, R: Read + Drop, W: Write + Drop>(
+    rt: &H,
+    alloc: Global,
+    words: &[String],
+    reader: R,
+    writer: W,
+    blank: Blank,
+) -> u8
+    requires name { blank.name ≡ L.name }
+    requires parts { blank.parts ≡ L.parts }
+    requires one { blank.parts ≡ 1 }
+{
+    let mut steps = Steps::<L>::start(rt, blank);
+    let mut source = Reading::new(reader);
+    let mut sink = Writing::new(writer);
+    run(alloc, words, &mut source, &mut sink, &mut steps)
+}
+
+// The status of words that could not be had: they are no text, or there was not enough memory.
+fn refused(error: &io::Error) -> u8 {
+    if error.kind() == io::ErrorKind::OutOfMemory {
+        7
+    } else {
+        2
+    }
+}
+
+fn main(rt: HostRuntime) -> ExitCode {
+    let status = match words(&rt) {
+        Ok(words) => run_over::<Brand, _, _, _>(
+            &rt,
+            rt.alloc(),
+            words.as_slice(),
+            rt.stdin(),
+            rt.stdout(),
+            Blank::new(1),
+        ),
+        Err(error) => refused(&error),
+    };
+    if status == 2 {
+        let _ = eprintln!(rt; "{USAGE}");
+    }
+    ExitCode::from(status)
+}
