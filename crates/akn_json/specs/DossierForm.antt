@@ -4,8 +4,9 @@ use Rattle.std.specs.Str.{is_utf8}
 use Rattle.serde_json.specs.Data.{Data}
 use Rattle.serde_json.specs.Read.{read}
 use Rattle.akn_json.specs.declared.dossier.Dossier.{Dossier}
+use Rattle.akn_json.specs.declared.fault.FormRule.TheVariants.{NotJson, TooLong}
 use Rattle.akn_json.specs.declared.reading.key.Key.TheVariants as key
-use Rattle.akn_json.specs.Reads.{Read, ◌>>=◌, ◌>>◌, not_built, not_json, or_fault, unless_broken}
+use Rattle.akn_json.specs.Reads.{Read, ◌>>=◌, ◌>>◌, broken, or_fault, unless_broken}
 use Rattle.akn_json.specs.Fields.{members_in, field_in}
 use Rattle.akn_json.specs.ActForm.{act_in}
 use Rattle.akn_json.specs.ModsForm.{mods_in}
@@ -31,6 +32,6 @@ json_of bytes = if is_utf8 bytes then read bytes else None
 -- the dossier that bytes are, or their first fault: their length is judged before all else
 unfoldable pub dossier_of : List ℕ → Read Dossier
 dossier_of bytes = do
-  unless_broken not_built (nat_le (length bytes) most_bytes)
-  d ← or_fault not_json (json_of bytes)
+  unless_broken (broken TooLong) (nat_le (length bytes) most_bytes)
+  d ← or_fault (broken NotJson) (json_of bytes)
   dossier_in d

@@ -1,5 +1,5 @@
 -- The parts that forms are made of: objects of known keys, and the values that stand at them.
-use Rattle.std.specs.Prelude.{ℕ, ◌+◌, Bool, true, ◌&&◌, ◌||◌, nat_le, List, [], ◌∷◌, length, Option, Some, None, is_some, option_and_then, Ok}
+use Rattle.std.specs.Prelude.{ℕ, Bool, true, ◌&&◌, ◌||◌, nat_le, List, [], ◌∷◌, Option, Some, None, is_some, Ok}
 use Rattle.std.specs.List.{list_all, list_any}
 use Rattle.std.specs.Str.{bytes_eq}
 use Rattle.serde_json.specs.Data.{Data, Items, no_items, item, Members, no_members, member}
@@ -7,9 +7,10 @@ use Rattle.serde_json.specs.Find.{get, as_object, as_array, as_str, as_number, a
 use Rattle.desk_base.specs.declared.period.Period.{Period}
 use Rattle.desk_base.specs.Days.{day_of}
 use Rattle.akn_json.specs.Keys.{key_name}
+use Rattle.akn_json.specs.declared.fault.FormRule.TheVariants.{WrongShape, BadDay, BadNumber}
 use Rattle.akn_json.specs.declared.reading.key.Key.{Key}
 use Rattle.akn_json.specs.declared.reading.key.Key.TheVariants as key
-use Rattle.akn_json.specs.Reads.{Read, ◌>>=◌, ◌>>◌, not_built, or_fault, unless_broken}
+use Rattle.akn_json.specs.Reads.{Read, ◌>>=◌, ◌>>◌, broken, or_fault, unless_broken}
 
 -- one of these keys has the name
 abbrev pub is_named : List ℕ → List Key → Bool
@@ -27,25 +28,26 @@ has_all keys d = list_all (λ known. is_some (get (key_name known) d)) keys
 -- an object with members at the required keys, and at no others than the optional ones
 unfoldable pub members_in : List Key → List Key → Data → Read Unit
 members_in required optional d = do
-  ms ← or_fault not_built (as_object d)
-  unless_broken not_built (has_only required optional ms)
-  unless_broken not_built (has_all required d)
+  ms ← or_fault (broken WrongShape) (as_object d)
+  unless_broken (broken WrongShape) (has_only required optional ms)
+  unless_broken (broken WrongShape) (has_all required d)
 
 -- the value at a key of an object
 unfoldable pub field_in : Key → Data → Read Data
-field_in at d = or_fault not_built (get (key_name at) d)
+field_in at d = or_fault (broken WrongShape) (get (key_name at) d)
 
--- how many items a list has
-abbrev pub count_of : Items → ℕ
-count_of no_items = 0
-count_of (item d ds) = 1 + count_of ds
+-- what was found, read so; where nothing was, a stated value
+abbrev pub read_or : {A : Type 0} → A → (Data → Read A) → Option Data → Read A
+read_or absent reading None = Ok absent
+read_or absent reading (Some d) = reading d
 
--- a list of at most so many items
-unfoldable pub items_in : ℕ → Data → Read Items
-items_in most d = do
-  items ← or_fault not_built (as_array d)
-  unless_broken not_built (nat_le (count_of items) most)
-  Ok items
+-- the value at a key of an object, read so; where the object has no such key, a stated value
+unfoldable pub optional_in : {A : Type 0} → Key → A → (Data → Read A) → Data → Read A
+optional_in at absent reading d = read_or absent reading (get (key_name at) d)
+
+-- a list
+unfoldable pub items_in : Data → Read Items
+items_in d = or_fault (broken WrongShape) (as_array d)
 
 -- each item of a list, read in order
 abbrev pub each : {A : Type 0} → (Data → Read A) → Items → Read (List A)
@@ -57,46 +59,33 @@ each reading (item d ds) = do
 
 -- a text
 unfoldable pub text_in : Data → Read (List ℕ)
-text_in d = or_fault not_built (as_str d)
+text_in d = or_fault (broken WrongShape) (as_str d)
 
--- a text of at least and at most so many bytes
-unfoldable pub text_within : ℕ → ℕ → Data → Read (List ℕ)
-text_within least most d = do
-  text ← text_in d
-  unless_broken not_built (nat_le least (length text) && nat_le (length text) most)
-  Ok text
-
--- the text at a key of at most so many bytes, and the empty one where the object has no such key
-unfoldable pub optional_text_in : Key → ℕ → Data → Read (List ℕ)
-optional_text_in at most d = text_at (get (key_name at) d)
-  where
-    text_at : Option Data → Read (List ℕ)
-    text_at None = Ok []
-    text_at (Some value) = text_within 0 most value
-
--- one text and no other
-unfoldable pub word_in : List ℕ → Data → Read Unit
-word_in word d = do
-  text ← text_in d
-  unless_broken not_built (bytes_eq text word)
-
--- an unsigned whole number up to a limit
+-- a whole number up to a limit
 unfoldable pub number_in : ℕ → Data → Read ℕ
 number_in most d = do
-  n ← or_fault not_built (option_and_then as_u64 (as_number d))
-  unless_broken not_built (nat_le n most)
+  number ← or_fault (broken WrongShape) (as_number d)
+  n ← or_fault (broken BadNumber) (as_u64 number)
+  unless_broken (broken BadNumber) (nat_le n most)
   Ok n
 
 -- a day, as a text
 unfoldable pub day_in : Data → Read ℕ
 day_in d = do
   text ← text_in d
-  or_fault not_built (day_of text)
+  or_fault (broken BadDay) (day_of text)
 
--- a period with a first day and no end
+-- the end of a period, where one is stated
+unfoldable pub end_in : Data → Read (Option ℕ)
+end_in d = do
+  day ← day_in d
+  Ok (Some day)
+
+-- a period, which may have no end
 unfoldable pub period_in : Data → Read Period
 period_in d = do
-  members_in (key.From ∷ []) [] d
+  members_in (key.From ∷ []) (key.Until ∷ []) d
   from ← field_in key.From d
   start ← day_in from
-  Ok (record { start = start; end = None })
+  end ← optional_in key.Until None end_in d
+  Ok (record { start = start; end = end })

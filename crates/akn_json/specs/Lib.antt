@@ -9,7 +9,8 @@ pub mod Reads
 pub mod Keys
 pub mod Fields
 pub mod Works
+pub mod NodeForm
 pub mod ActForm
+pub mod EditKinds
 pub mod ModsForm
 pub mod DossierForm
-pub mod Limits

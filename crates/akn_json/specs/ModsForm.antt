@@ -1,20 +1,18 @@
--- The form of modifications: each a textual one, of one source for all.
-use Rattle.std.specs.Prelude.{ℕ, Bool, true, List, [], ◌∷◌, codes, Ok}
-use Rattle.std.specs.List.{list_all}
-use Rattle.std.specs.Str.{bytes_eq}
-use Rattle.serde_json.specs.Data.{Data}
+-- The form of modifications: each is a textual one, a change of force or one of efficacy.
+use Rattle.std.specs.Prelude.{ℕ, ◌+◌, Bool, true, false, List, [], ◌∷◌, Ok}
+use Rattle.serde_json.specs.Data.{Data, Items, no_items, item, Members, no_members, member}
+use Rattle.serde_json.specs.Find.{get, as_object}
 use Rattle.textual_mods.specs.declared.edit.TextualMod.TheVariants.{Repeal}
+use Rattle.akn_json.specs.declared.fault.FormRule.TheVariants.{NotBuilt, WrongShape, UnknownWord}
 use Rattle.akn_json.specs.declared.modification.ModSource.{ModSource}
 use Rattle.akn_json.specs.declared.modification.Modification.{Modification}
 use Rattle.akn_json.specs.declared.modification.Modification.TheVariants.{Textual}
+use Rattle.akn_json.specs.EditKinds.{kind_named, is_repeal}
 use Rattle.akn_json.specs.declared.reading.key.Key.TheVariants as key
-use Rattle.akn_json.specs.Reads.{Read, ◌>>=◌, ◌>>◌, not_built, unless_broken}
-use Rattle.akn_json.specs.Fields.{members_in, field_in, items_in, each, text_within, word_in, number_in, period_in}
+use Rattle.akn_json.specs.Keys.{key_name}
+use Rattle.akn_json.specs.Reads.{Read, ◌>>=◌, ◌>>◌, broken, inside, or_fault, unless_broken}
+use Rattle.akn_json.specs.Fields.{members_in, field_in, items_in, text_in, number_in, period_in}
 use Rattle.akn_json.specs.Works.{work_in}
-
--- the most modifications of a dossier
-abbrev pub most_mods : ℕ
-most_mods = 64
 
 -- the source of a modification: the IRI of the work that modifies, and a place within it
 unfoldable pub source_in : Data → Read ModSource
@@ -26,19 +24,26 @@ source_in d = do
   place ← number_in 65535 p
   Ok (record { href = href; place = place })
 
--- what a modification is directed at: a wId, which is a text of 1 to 512 bytes
+-- what a modification is directed at: a wId
 unfoldable pub destination_in : Data → Read (List ℕ)
 destination_in d = do
   members_in (key.Wid ∷ []) [] d
   w ← field_in key.Wid d
-  text_within 1 512 w
+  text_in w
 
--- a textual modification, which repeals its destination
+-- the word that says what a textual modification does: it repeals
+unfoldable pub type_in : Data → Read Unit
+type_in d = do
+  word ← text_in d
+  named ← or_fault (broken UnknownWord) (kind_named word)
+  unless_broken (broken NotBuilt) (is_repeal named)
+
+-- a textual modification, which repeals its destination; its word is judged before its keys
 unfoldable pub textual_in : Data → Read Modification
 textual_in d = do
-  members_in (key.Type ∷ key.Source ∷ key.Force ∷ key.Destination ∷ []) [] d
   t ← field_in key.Type d
-  word_in (codes "repeal") t
+  type_in t
+  members_in (key.Type ∷ key.Source ∷ key.Force ∷ key.Destination ∷ []) [] d
   s ← field_in key.Source d
   source ← source_in s
   f ← field_in key.Force d
@@ -47,26 +52,36 @@ textual_in d = do
   wid ← destination_in w
   Ok (Textual source force (Repeal wid))
 
--- a modification, named by what it is
+-- an object has one member
+abbrev pub is_single : Members → Bool
+is_single no_members = false
+is_single (member name d no_members) = true
+is_single (member name d (member other e ms)) = false
+
+-- an object with one member
+unfoldable pub single_in : Data → Read Unit
+single_in d = do
+  ms ← or_fault (broken WrongShape) (as_object d)
+  unless_broken (broken WrongShape) (is_single ms)
+
+-- a modification, named by its one key; changes of force and of efficacy are not read yet
 unfoldable pub modification_in : Data → Read Modification
 modification_in d = do
-  members_in (key.TextualMod ∷ []) [] d
-  t ← field_in key.TextualMod d
+  members_in [] (key.TextualMod ∷ key.ForceMod ∷ key.EfficacyMod ∷ []) d
+  single_in d
+  t ← or_fault (broken NotBuilt) (get (key_name key.TextualMod) d)
   textual_in t
 
--- the IRI of the work that modifies
-abbrev pub href_of : Modification → List ℕ
-href_of (Textual source force edit) = source.href
+-- these modifications, the first of which stands at this place
+abbrev pub each_from : ℕ → Items → Read (List Modification)
+each_from place no_items = Ok []
+each_from place (item d ds) = do
+  m ← inside place (modification_in d)
+  rest ← each_from (place + 1) ds
+  Ok (m ∷ rest)
 
--- one work modifies, and no other
-abbrev pub have_one_source : List Modification → Bool
-have_one_source [] = true
-have_one_source (m ∷ ms) = list_all (λ other. bytes_eq (href_of other) (href_of m)) ms
-
--- the modifications of a dossier, in order
+-- the modifications of a dossier, in order, with places from 1
 unfoldable pub mods_in : Data → Read (List Modification)
 mods_in d = do
-  items ← items_in most_mods d
-  mods ← each modification_in items
-  unless_broken not_built (have_one_source mods)
-  Ok mods
+  items ← items_in d
+  each_from 1 items

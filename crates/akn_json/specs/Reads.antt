@@ -1,7 +1,7 @@
 -- What a reading gives: a value, or the first fault of the form.
-use Rattle.std.specs.Prelude.{◌≡◌, Bool, true, false, Option, Some, None, Result, Ok, Err}
+use Rattle.std.specs.Prelude.{◌≡◌, ℕ, Bool, true, false, Option, Some, None, Result, Ok, Err}
 use Rattle.akn_json.specs.declared.fault.FormFault.{FormFault}
-use Rattle.akn_json.specs.declared.fault.FormRule.TheVariants.{NotBuilt, NotJson}
+use Rattle.akn_json.specs.declared.fault.FormRule.{FormRule}
 use Rattle.akn_json.specs.declared.fault.ReadFail.{ReadFail}
 use Rattle.akn_json.specs.declared.fault.ReadFail.TheVariants as fails
 
@@ -21,13 +21,14 @@ abbrev pub ◌>>◌ : {A B : Type 0} → Read A → Read B → Read B
 Ok a >> next = next
 Err fault >> next = Err fault
 
--- the form is not one that this desk reads
-abbrev pub not_built : FormFault
-not_built = record { rule = NotBuilt; place = 0 }
+-- a rule is broken outside of the modifications
+abbrev pub broken : FormRule → FormFault
+broken rule = record { rule = rule; place = 0 }
 
--- the bytes are no JSON text
-abbrev pub not_json : FormFault
-not_json = record { rule = NotJson; place = 0 }
+-- a reading inside the member at a place, where its fault then is
+abbrev pub inside : {A : Type 0} → ℕ → Read A → Read A
+inside place (Ok a) = Ok a
+inside place (Err fault) = Err (record { rule = fault.rule; place = place })
 
 -- what was found; where nothing was, that is the fault
 abbrev pub or_fault : {A : Type 0} → FormFault → Option A → Read A

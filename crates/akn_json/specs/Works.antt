@@ -1,38 +1,54 @@
--- The IRIs of works: `/akn/`, a country, `/act/`, a day, `/` and a number.
-use Rattle.std.specs.Prelude.{ℕ, ◌==◌, Bool, false, ◌&&◌, ◌||◌, nat_le, nat_lt, nat_eq, List, [], ◌∷◌, length, drop, slice_range, codes, Option, None, Ok, if◌then◌else◌}
-use Rattle.std.specs.List.{list_all, starts_with}
-use Rattle.std.specs.Char.{is_ascii_lowercase, is_ascii_alphanumeric}
+-- The IRIs of works and expressions in forms, and the day that goes with a work.
+use Rattle.std.specs.Prelude.{ℕ, ◌==◌, Bool, nat_eq, List, Ok, Err}
+use Rattle.std.specs.List.{starts_with}
 use Rattle.serde_json.specs.Data.{Data}
 use Rattle.desk_base.specs.Days.{day_of}
-use Rattle.akn_json.specs.Reads.{Read, ◌>>=◌, not_built, or_fault}
+use Rattle.frbr_names.specs.Dates.{spelled_date}
+use Rattle.frbr_names.specs.Expressions.{Expression, expression_of}
+use Rattle.frbr_names.specs.Reads.{Read as NameRead}
+use Rattle.frbr_names.specs.Works.{Work, work_of, date_named}
+use Rattle.frbr_names.specs.declared.date.IriDate.{IriDate}
+use Rattle.frbr_names.specs.declared.date.IriDate.TheVariants.{Year, Full}
+use Rattle.akn_json.specs.declared.fault.FormRule.TheVariants.{BadName, BadDay, DateDiffers}
+use Rattle.akn_json.specs.Reads.{Read, ◌>>=◌, ◌>>◌, broken, or_fault, unless_broken}
 use Rattle.akn_json.specs.Fields.{text_in}
 
--- a letter, a digit, or `-`, `.` or `_`, in ASCII
-abbrev pub is_number_byte : ℕ → Bool
-is_number_byte b = is_ascii_alphanumeric b || b == 45 || b == 46 || b == 95
-
--- the number of a work is 1 to 64 of these bytes
-abbrev pub is_work_number : List ℕ → Bool
-is_work_number text = nat_le 1 (length text) && nat_le (length text) 64 && list_all is_number_byte text
-
--- what stands before the day of a work's IRI: `/akn/`, two lower-case letters for the country, and `/act/`
-abbrev pub is_before_day : List ℕ → Bool
-is_before_day iri =
-    nat_lt 23 (length iri) && starts_with nat_eq iri (codes "/akn/") && list_all is_ascii_lowercase (slice_range iri 5 7)
-    && starts_with nat_eq (drop 7 iri) (codes "/act/")
-
--- what stands behind the day: `/` and the number
-abbrev pub is_behind_day : List ℕ → Bool
-is_behind_day [] = false
-is_behind_day (byte ∷ rest) = byte == 47 && is_work_number rest
-
--- the day of the work that an IRI names, if it names one; ten bytes spell it, behind the first twelve
-unfoldable pub work_day : List ℕ → Option ℕ
-work_day iri = if is_before_day iri then (if is_behind_day (drop 22 iri) then day_of (slice_range iri 12 22) else None) else None
+-- the text of the IRI of a work, if it was read as one
+abbrev pub work_read : NameRead Work → Read (List ℕ)
+work_read (Ok work) = Ok work.text
+work_read (Err fault) = Err (broken BadName)
 
 -- the IRI of a work
 unfoldable pub work_in : Data → Read (List ℕ)
 work_in d = do
-  iri ← text_in d
-  day ← or_fault not_built (work_day iri)
-  Ok iri
+  text ← text_in d
+  work_read (work_of text)
+
+-- the text, if it was read as the IRI of an expression
+abbrev pub expression_read : List ℕ → NameRead Expression → Read (List ℕ)
+expression_read text (Ok expression) = Ok text
+expression_read text (Err fault) = Err (broken BadName)
+
+-- the IRI of an expression, as it is spelled there
+unfoldable pub expression_in : Data → Read (List ℕ)
+expression_in d = do
+  text ← text_in d
+  expression_read text (expression_of text)
+
+-- a text begins with the four digits of a year
+abbrev pub begins_with_year : List ℕ → ℕ → Bool
+begins_with_year text year = starts_with nat_eq text (spelled_date (Year year))
+
+-- a day and its text agree with the date of a work: the text begins with that year, or the day is that day
+abbrev pub agrees : List ℕ → ℕ → IriDate → Bool
+agrees text day (Year year) = begins_with_year text year
+agrees text day (Full named) = day == named
+
+-- the day of an act, which agrees with the IRI of its work
+unfoldable pub act_day_in : List ℕ → Data → Read ℕ
+act_day_in work d = do
+  text ← text_in d
+  day ← or_fault (broken BadDay) (day_of text)
+  date ← or_fault (broken BadName) (date_named work)
+  unless_broken (broken DateDiffers) (agrees text day date)
+  Ok day

@@ -9,10 +9,26 @@ use std::alloc::{AllocError, AllocFailed};
 /// The rule of a form that bytes break.
 #[derive(Clone, Copy, Debug, PartialEq, Eq)]
 pub enum FormRule {
-    /// The dossier has a form that this desk does not read yet.
-    NotBuilt,
+    /// The dossier has a part that this desk does not read yet.
+    NotBuilt = 0,
     /// The bytes are no JSON text.
-    NotJson,
+    NotJson = 1,
+    /// A value is of another JSON kind than stated, or an object has other keys than stated.
+    WrongShape = 2,
+    /// An IRI or a language breaks its rule.
+    BadName = 3,
+    /// A text that should be a day is none.
+    BadDay = 4,
+    /// The name of an element or a num breaks its rule.
+    BadElement = 5,
+    /// A number is no whole number in its range.
+    BadNumber = 6,
+    /// A type is not one of those listed.
+    UnknownWord = 7,
+    /// The day of an act does not agree with its IRI.
+    DateDiffers = 8,
+    /// There are more than 8,388,608 bytes.
+    TooLong = 9,
 }
 
 impl FormRule {
@@ -20,10 +36,7 @@ impl FormRule {
     pub fn number(self) -> u8
         ensures { result ≡ rule_number self }
     {
-        match self {
-            FormRule::NotBuilt => 0,
-            FormRule::NotJson => 1,
-        }
+        self as u8
     }
 
     /// The name of the rule, as refusals print it.
@@ -33,6 +46,14 @@ impl FormRule {
         match self {
             FormRule::NotBuilt => "NotBuilt",
             FormRule::NotJson => "NotJson",
+            FormRule::WrongShape => "WrongShape",
+            FormRule::BadName => "BadName",
+            FormRule::BadDay => "BadDay",
+            FormRule::BadElement => "BadElement",
+            FormRule::BadNumber => "BadNumber",
+            FormRule::UnknownWord => "UnknownWord",
+            FormRule::DateDiffers => "DateDiffers",
+            FormRule::TooLong => "TooLong",
         }
     }
 }
@@ -42,8 +63,8 @@ impl FormRule {
 pub struct FormFault {
     /// The rule.
     pub rule: FormRule,
-    /// The place: k inside the k-th modification, and 0 elsewhere.
-    pub place: u32,
+    /// The place: k inside the k-th modification, from 1, and 0 elsewhere.
+    pub place: usize,
 }
 
 /// Why a reading gave nothing.

@@ -22,5 +22,5 @@ pub use ids::{Ids, Unapplied};
 pub use modification::{ModSource, Modification, Mods};
 pub use printing::{answer_value, put_answer, put_form_fault, put_query_rule, put_rule};
 pub use question::{Question, Reading};
-pub use reading::{MAX_DOSSIER_BYTES, dossiers_are_limited, read_dossier};
+pub use reading::{MAX_DOSSIER_BYTES, read_dossier};
 pub use refusal::{QueryRule, Rule};

@@ -2,7 +2,8 @@
 
 ghost use Rattle.std.specs.Prelude.{◌≡◌, [], ◌++◌, ◌∷◌, OnOk, OnErr};
 
-use desk_base::{Memory, Period, Text};
+use desk_base::{Memory, Period};
+use frbr_names::WorkName;
 use std::alloc::Global;
 use std::marker::Model;
 use textual_mods::TextualMod;
@@ -11,7 +12,7 @@ use textual_mods::TextualMod;
 #[derive(Debug, Drop)]
 pub struct ModSource {
     /// The IRI of the work that modifies.
-    pub href: Text,
+    pub href: WorkName,
     /// The place of the modification among those of its source.
     pub place: u16,
 }

@@ -1,19 +1,23 @@
 //! A dossier is read from its bytes: a clause says which value it is, or which fault comes first.
 
 ghost use Rattle.serde_json.specs.View.{view};
-ghost use Rattle.akn_json.specs.Reads.{Gives, or_fault, not_json};
+ghost use Rattle.akn_json.specs.Reads.{Gives, broken, or_fault};
 ghost use Rattle.akn_json.specs.DossierForm as spec;
 ghost use Rattle.akn_json.specs.DossierForm.{dossier_of};
-ghost use Rattle.akn_json.specs.Limits.{LimitsHold};
+ghost use Rattle.akn_json.specs.declared.fault.FormRule.TheVariants.{NotJson};
 
 mod act_form;
+mod edit_kind;
+mod faults;
 mod fields;
 mod key;
 mod mods_form;
+mod node_form;
 mod works;
 
-use crate::{Dossier, FormFault, FormRule, ReadFail};
-use fields::{NOT_BUILT, field, members};
+use crate::{Dossier, ReadFail};
+use faults::{NOT_JSON, TOO_LONG};
+use fields::{field, members};
 use key::Key;
 use serde_json::{Category, Value};
 use std::alloc::Global;
@@ -21,14 +25,10 @@ use std::alloc::Global;
 /// The most bytes of a dossier. Longer ones are not read, whatever they say.
 pub const MAX_DOSSIER_BYTES: usize = 8_388_608;
 
-const NOT_JSON: ReadFail = ReadFail::Form(FormFault {
-    rule: FormRule::NotJson,
-    place: 0,
-});
-
-// The JSON value that bytes are.
+// The JSON value that bytes are. It nests at most 127 deep, and so the calls over it do.
 fn json_value(alloc: Global, bytes: &[u8]) -> Result<Value, ReadFail>
-    ensures { Gives view result (or_fault not_json (spec.json_of bytes.now)) }
+    ensures value { Gives view result (or_fault (broken NotJson) (spec.json_of bytes.now)) }
+    ensures nests { IfOk result (λ v. depth (view v) ≤ max_depth) }
 {
     match Value::from_slice(alloc, bytes) {
         Ok(value) => Ok(value),
@@ -60,14 +60,8 @@ pub fn read_dossier(alloc: Global, bytes: &[u8]) -> Result<Dossier, ReadFail>
     ensures { Gives (λ d. d) result (dossier_of bytes.now) }
 {
     if bytes.len() > MAX_DOSSIER_BYTES {
-        return Err(NOT_BUILT);
+        return Err(TOO_LONG);
     }
     let value = json_value(alloc, bytes)?;
     dossier(alloc, &value)
 }
-
-/// Whatever bytes a dossier is read from, it has at most 64 modifications, and at most 4,096 nodes
-/// right beneath its root.
-pub fn dossiers_are_limited()
-    ensures { LimitsHold }
-{}

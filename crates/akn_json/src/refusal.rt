@@ -36,8 +36,16 @@ impl QueryRule {
 /// The rule of the register that a command breaks, with the value that its refusal shows.
 #[derive(Clone, Copy, Debug, PartialEq, Eq)]
 pub enum Rule {
-    /// The text of an act is not well-formed. The first of its faults is shown, by its number.
+    /// The text of an act, or one that a modification brings, is not well-formed. The first of its faults
+    /// is shown, by its number.
     BadTree(BuildFault),
+    /// A list or a value in it breaks a bound. The number of the item is shown, from 1; 0 is the list
+    /// itself, or an act.
+    BadModification(u16),
+    /// A period ends at its start or before. The number of the item is shown, from 1; 0 is an act.
+    BadPeriod(u16),
+    /// A work would have more ids than this number, which is shown.
+    WorkFull(u16),
 }
 
 impl Rule {
@@ -47,6 +55,9 @@ impl Rule {
     {
         match self {
             Rule::BadTree(_) => 5,
+            Rule::BadModification(_) => 6,
+            Rule::BadPeriod(_) => 7,
+            Rule::WorkFull(_) => 15,
         }
     }
 
@@ -56,15 +67,20 @@ impl Rule {
     {
         match self {
             Rule::BadTree(_) => "BadTree",
+            Rule::BadModification(_) => "BadModification",
+            Rule::BadPeriod(_) => "BadPeriod",
+            Rule::WorkFull(_) => "WorkFull",
         }
     }
 
     /// The number that its refusal shows.
-    pub fn kept(self) -> u8
+    pub fn kept(self) -> u16
         ensures { result ≡ kept_number self }
     {
         match self {
-            Rule::BadTree(fault) => fault.number(),
+            Rule::BadTree(fault) => u16::from(fault.number()),
+            Rule::BadModification(item) | Rule::BadPeriod(item) => item,
+            Rule::WorkFull(most) => most,
         }
     }
 }

@@ -20,7 +20,7 @@ fn put_fault(out: &mut Writer, fault: FormFault) -> Result<(), Memory>
     out.begin_object()?;
     put_number(out, "form", u64::from(fault.rule.number()))?;
     put_text(out, "name", fault.rule.name())?;
-    put_number(out, "place", u64::from(fault.place))?;
+    put_number(out, "place", fault.place as u64)?;
     out.end_object()?;
     Ok(())
 }

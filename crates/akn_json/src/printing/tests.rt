@@ -1,10 +1,10 @@
 //! What is printed, against texts that were written by hand.
 
 use crate::{
-    Answer, AnswerNode, AnswerNodes, FormFault, FormRule, Ids, QueryRule, Question, Reading,
-    Unapplied, answer_value, put_answer, put_form_fault, put_query_rule,
+    Answer, AnswerNode, AnswerNodes, FormFault, FormRule, Ids, QueryRule, Question, Reading, Rule,
+    Unapplied, answer_value, put_answer, put_form_fault, put_query_rule, put_rule,
 };
-use act_tree::{Cause, Refs};
+use act_tree::{BuildFault, Cause, Refs};
 use desk_base::{Day, Id, Text};
 use eid_paths::{Element, Num};
 use std::alloc::Global;
@@ -119,6 +119,28 @@ fn refusals_are_printed(rt: HostRuntime) -> Result<(), Fail> {
     ];
     for (rule, place, wanted) in faults {
         let bytes = put_form_fault(rt.alloc(), FormFault { rule, place })?;
+        assert_eq!(rt; str::from_utf8(&bytes).ok(), Some(wanted));
+    }
+    let rules = [
+        (
+            Rule::BadTree(BuildFault::EidTwice),
+            r#"{"kept":1,"name":"BadTree","rule":5}"#,
+        ),
+        (
+            Rule::BadModification(1),
+            r#"{"kept":1,"name":"BadModification","rule":6}"#,
+        ),
+        (
+            Rule::BadPeriod(0),
+            r#"{"kept":0,"name":"BadPeriod","rule":7}"#,
+        ),
+        (
+            Rule::WorkFull(512),
+            r#"{"kept":512,"name":"WorkFull","rule":15}"#,
+        ),
+    ];
+    for (rule, wanted) in rules {
+        let bytes = put_rule(rt.alloc(), rule)?;
         assert_eq!(rt; str::from_utf8(&bytes).ok(), Some(wanted));
     }
     let day = Day::from_text("2010-05-01").ok_or("no day")?;

@@ -1,19 +1,16 @@
 //! The parts that forms are made of: objects of known keys, and the values that stand at them.
 
-ghost use Rattle.std.specs.Prelude.{◌≡◌, ◌≤◌, IfOk};
+ghost use Rattle.std.specs.Prelude.{◌≡◌, ◌≤◌, [], None, IfOk};
 ghost use Rattle.serde_json.specs.View.{view, members_view, items_view};
 ghost use Rattle.akn_json.specs.Reads.{Gives};
 ghost use Rattle.akn_json.specs.Fields as spec;
+ghost use Rattle.akn_json.specs.declared.reading.key.Key.TheVariants.{Until};
 
+use super::faults::{BAD_DAY, BAD_NUMBER, WRONG_SHAPE};
 use super::key::Key;
-use crate::{FormFault, FormRule, ReadFail};
+use crate::ReadFail;
 use desk_base::{Day, Period};
 use serde_json::{Map, Value};
-
-pub(super) const NOT_BUILT: ReadFail = ReadFail::Form(FormFault {
-    rule: FormRule::NotBuilt,
-    place: 0,
-});
 
 // Whether one of these keys has the name.
 fn is_named(name: &str, keys: &[Key]) -> bool
@@ -46,12 +43,12 @@ fn has_all(value: &Value, keys: &[Key]) -> bool
 pub(super) fn members(value: &Value, required: &[Key], optional: &[Key]) -> Result<(), ReadFail>
     ensures { Gives (λ u. u) result (spec.members_in required.now optional.now (view value.now)) }
 {
-    let object = value.as_object().ok_or(NOT_BUILT)?;
+    let object = value.as_object().ok_or(WRONG_SHAPE)?;
     if !has_only(object, required, optional) {
-        return Err(NOT_BUILT);
+        return Err(WRONG_SHAPE);
     }
     if !has_all(value, required) {
-        return Err(NOT_BUILT);
+        return Err(WRONG_SHAPE);
     }
     Ok(())
 }
@@ -63,23 +60,19 @@ pub(super) fn field(value: &Value, key: Key) -> Result<&Value, ReadFail>
 {
     match value.get(key.name()) {
         Some(found) => Ok(found),
-        None => Err(NOT_BUILT),
+        None => Err(WRONG_SHAPE),
     }
 }
 
-// A list of at most so many items.
-#[tactic(auto, using(crate::proofs::Forms::counted), unfolding(crate::specs::Fields::items_in))]
-pub(super) fn items(value: &Value, most: usize) -> Result<&Vec<Value>, ReadFail>
-    ensures { Gives (λ v. items_view v.now.items) result (spec.items_in most (view value.now)) }
+// A list.
+#[tactic(auto, unfolding(crate::specs::Fields::items_in))]
+pub(super) fn items(value: &Value) -> Result<&Vec<Value>, ReadFail>
+    ensures { Gives (λ v. items_view v.now.items) result (spec.items_in (view value.now)) }
 {
-    let items = match value.as_array() {
-        Some(items) => items,
-        None => return Err(NOT_BUILT),
-    };
-    if items.len() > most {
-        return Err(NOT_BUILT);
+    match value.as_array() {
+        Some(items) => Ok(items),
+        None => Err(WRONG_SHAPE),
     }
-    Ok(items)
 }
 
 // A text.
@@ -89,53 +82,33 @@ pub(super) fn text(value: &Value) -> Result<&str, ReadFail>
 {
     match value.as_str() {
         Some(text) => Ok(text),
-        None => Err(NOT_BUILT),
+        None => Err(WRONG_SHAPE),
     }
 }
 
-// A text of at least and at most so many bytes.
-#[tactic(auto, unfolding(crate::specs::Fields::text_within))]
-pub(super) fn text_within(value: &Value, least: usize, most: usize) -> Result<&str, ReadFail>
-    ensures { Gives (λ s. s.now) result (spec.text_within least most (view value.now)) }
-{
-    let text = text(value)?;
-    if text.len() < least || text.len() > most {
-        return Err(NOT_BUILT);
-    }
-    Ok(text)
-}
-
-// The text at a key of at most so many bytes, and the empty one where the object has no such key.
-#[tactic(auto, unfolding(crate::specs::Fields::optional_text_in))]
-pub(super) fn optional_text(value: &Value, key: Key, most: usize) -> Result<&str, ReadFail>
-    ensures { Gives (λ s. s.now) result (spec.optional_text_in key most (view value.now)) }
+// The text at a key, and the empty one where the object has no such key.
+#[tactic(auto, unfolding(crate::specs::Fields::optional_in))]
+pub(super) fn optional_text(value: &Value, key: Key) -> Result<&str, ReadFail>
+    ensures { Gives (λ s. s.now) result (spec.optional_in key [] spec.text_in (view value.now)) }
 {
     match value.get(key.name()) {
-        Some(text) => text_within(text, 0, most),
+        Some(found) => text(found),
         None => Ok(""),
     }
 }
 
-// One text and no other.
-#[tactic(auto, unfolding(crate::specs::Fields::word_in))]
-pub(super) fn word(value: &Value, word: &str) -> Result<(), ReadFail>
-    ensures { Gives (λ u. u) result (spec.word_in word.now (view value.now)) }
-{
-    if text(value)? != word {
-        return Err(NOT_BUILT);
-    }
-    Ok(())
-}
-
-// An unsigned whole number up to a limit.
+// A whole number up to a limit.
 #[tactic(auto, unfolding(crate::specs::Fields::number_in))]
 pub(super) fn number(value: &Value, most: u64) -> Result<u64, ReadFail>
     ensures value { Gives (λ n. n) result (spec.number_in most (view value.now)) }
     ensures bound { IfOk result (λ n. n ≤ most) }
 {
+    if !value.is_number() {
+        return Err(WRONG_SHAPE);
+    }
     match value.as_u64() {
         Some(n) if n <= most => Ok(n),
-        _ => Err(NOT_BUILT),
+        _ => Err(BAD_NUMBER),
     }
 }
 
@@ -146,16 +119,28 @@ pub(super) fn day(value: &Value) -> Result<Day, ReadFail>
 {
     match Day::from_text(text(value)?) {
         Some(day) => Ok(day),
-        None => Err(NOT_BUILT),
+        None => Err(BAD_DAY),
     }
 }
 
-// A period with a first day and no end.
+// The end of a period, where one is stated.
+#[tactic(auto, unfolding(crate::specs::Fields::optional_in, crate::specs::Fields::end_in))]
+fn end(value: &Value) -> Result<Option<Day>, ReadFail>
+    ensures { Gives (λ d. d) result (spec.optional_in Until None spec.end_in (view value.now)) }
+{
+    match value.get(Key::Until.name()) {
+        Some(found) => Ok(Some(day(found)?)),
+        None => Ok(None),
+    }
+}
+
+// A period, which may have no end.
 #[tactic(auto, unfolding(crate::specs::Fields::period_in))]
 pub(super) fn period(value: &Value) -> Result<Period, ReadFail>
     ensures { Gives (λ p. p) result (spec.period_in (view value.now)) }
 {
-    members(value, &[Key::From], &[])?;
+    members(value, &[Key::From], &[Key::Until])?;
     let start = day(field(value, Key::From)?)?;
-    Ok(Period { start, end: None })
+    let end = end(value)?;
+    Ok(Period { start, end })
 }

@@ -1,23 +1,20 @@
-//! The form of modifications: each a textual one, of one source for all.
+//! The form of modifications: each is a textual one, a change of force or one of efficacy.
 
 ghost use Rattle.std.specs.Prelude.{◌≡◌};
-ghost use Rattle.std.specs.List.{list_all};
-ghost use Rattle.std.specs.Str.{bytes_eq};
 ghost use Rattle.serde_json.specs.View.{view, items_view};
-ghost use Rattle.akn_json.specs.Reads.{Gives};
-ghost use Rattle.akn_json.specs.Fields.{each};
+ghost use Rattle.akn_json.specs.Reads.{Gives, inside};
 ghost use Rattle.akn_json.specs.ModsForm as spec;
 
-use super::fields::{NOT_BUILT, field, items, members, number, period, text_within, word};
+use super::edit_kind::EditKind;
+use super::faults::{NOT_BUILT, UNKNOWN_WORD, WRONG_SHAPE};
+use super::fields::{field, items, members, number, period, text};
 use super::key::Key;
 use super::works::work;
-use crate::{ModSource, Modification, Mods, ReadFail};
+use crate::{FormFault, ModSource, Modification, Mods, ReadFail};
 use desk_base::Text;
 use serde_json::Value;
 use std::alloc::Global;
 use textual_mods::TextualMod;
-
-const MAX_MODS: usize = 64;
 
 // The source of a modification: the IRI of the work that modifies, and a place within it.
 #[tactic(auto, unfolding(crate::specs::ModsForm::source_in))]
@@ -25,10 +22,10 @@ fn source(alloc: Global, value: &Value) -> Result<ModSource, ReadFail>
     ensures { Gives (λ s. s) result (spec.source_in (view value.now)) }
 {
     members(value, &[Key::Href, Key::Place], &[])?;
-    let href = work(field(value, Key::Href)?)?;
+    let href = work(alloc, field(value, Key::Href)?)?;
     let place = number(field(value, Key::Place)?, 65_535)?;
     Ok(ModSource {
-        href: Text::copy_of(alloc, href)?,
+        href,
         place: place as u16,
     })
 }
@@ -39,20 +36,32 @@ fn destination(value: &Value) -> Result<&str, ReadFail>
     ensures { Gives (λ s. s.now) result (spec.destination_in (view value.now)) }
 {
     members(value, &[Key::Wid], &[])?;
-    text_within(field(value, Key::Wid)?, 1, 512)
+    text(field(value, Key::Wid)?)
 }
 
-// A textual modification, which repeals its destination.
+// The word that says what a textual modification does: it repeals.
+#[tactic(auto, unfolding(crate::specs::ModsForm::type_in))]
+fn repeal_type(value: &Value) -> Result<(), ReadFail>
+    ensures { Gives (λ u. u) result (spec.type_in (view value.now)) }
+{
+    match EditKind::from_word(text(value)?) {
+        Some(EditKind::Repeal) => Ok(()),
+        Some(_) => Err(NOT_BUILT),
+        None => Err(UNKNOWN_WORD),
+    }
+}
+
+// A textual modification, which repeals its destination. Its word is judged before its keys.
 #[tactic(auto, unfolding(crate::specs::ModsForm::textual_in))]
 fn textual(alloc: Global, value: &Value) -> Result<Modification, ReadFail>
     ensures { Gives (λ m. m) result (spec.textual_in (view value.now)) }
 {
+    repeal_type(field(value, Key::Type)?)?;
     members(
         value,
         &[Key::Type, Key::Source, Key::Force, Key::Destination],
         &[],
     )?;
-    word(field(value, Key::Type)?, "repeal")?;
     let source = source(alloc, field(value, Key::Source)?)?;
     let force = period(field(value, Key::Force)?)?;
     let wid = destination(field(value, Key::Destination)?)?;
@@ -65,48 +74,58 @@ fn textual(alloc: Global, value: &Value) -> Result<Modification, ReadFail>
     })
 }
 
-// A modification, named by what it is.
+// An object with one member.
+#[tactic(auto, using(crate::proofs::Forms::counted), unfolding(crate::specs::ModsForm::single_in))]
+fn single(value: &Value) -> Result<(), ReadFail>
+    ensures { Gives (λ u. u) result (spec.single_in (view value.now)) }
+{
+    let Some(object) = value.as_object() else {
+        return Err(WRONG_SHAPE);
+    };
+    if object.len() != 1 {
+        return Err(WRONG_SHAPE);
+    }
+    Ok(())
+}
+
+// A modification, named by its one key.
 #[tactic(auto, unfolding(crate::specs::ModsForm::modification_in))]
 fn modification(alloc: Global, value: &Value) -> Result<Modification, ReadFail>
     ensures { Gives (λ m. m) result (spec.modification_in (view value.now)) }
 {
-    members(value, &[Key::TextualMod], &[])?;
-    textual(alloc, field(value, Key::TextualMod)?)
-}
-
-// The IRI of the work that modifies.
-fn href(modification: &Modification) -> &str
-    ensures { result.now ≡ spec.href_of modification.now }
-{
-    match modification {
-        Modification::Textual { source, .. } => source.href.as_str(),
+    members(
+        value,
+        &[],
+        &[Key::TextualMod, Key::ForceMod, Key::EfficacyMod],
+    )?;
+    single(value)?;
+    match value.get(Key::TextualMod.name()) {
+        Some(found) => textual(alloc, found),
+        None => Err(NOT_BUILT),
     }
 }
 
-// Whether all these modifications are of one work.
-fn are_of_work(mods: &[Modification], iri: &str) -> bool
-    ensures { result ≡ list_all (λ m. bytes_eq (spec.href_of m) iri.now) mods.now }
+// The modification at a place, where its fault then is.
+fn modification_at(alloc: Global, place: usize, value: &Value) -> Result<Modification, ReadFail>
+    ensures { Gives (λ m. m) result (inside place (spec.modification_in (view value.now))) }
 {
-    mods.iter().all(|modification| href(modification) == iri)
-}
-
-// Whether one work modifies, and no other.
-fn have_one_source(mods: &[Modification]) -> bool
-    ensures { result ≡ spec.have_one_source mods.now }
-{
-    match mods {
-        [] => true,
-        [first, rest @ ..] => are_of_work(rest, href(first)),
+    match modification(alloc, value) {
+        Ok(modification) => Ok(modification),
+        Err(ReadFail::Form(fault)) => Err(ReadFail::Form(FormFault {
+            rule: fault.rule,
+            place,
+        })),
+        Err(ReadFail::Memory) => Err(ReadFail::Memory),
     }
 }
 
-// Each of these modifications, in order.
+// Each of these modifications, in order, with places from 1.
 fn each_modification(alloc: Global, values: &[Value]) -> Result<Mods, ReadFail>
-    ensures { Gives (λ m. m) result (each spec.modification_in (items_view values.now)) }
+    ensures { Gives (λ m. m) result (spec.each_from 1 (items_view values.now)) }
 {
     let mut mods = Mods::new(alloc);
-    for value in values {
-        mods.push(modification(alloc, value)?)?;
+    for (index, value) in values.iter().enumerate() {
+        mods.push(modification_at(alloc, index + 1, value)?)?;
     }
     Ok(mods)
 }
@@ -116,9 +135,5 @@ fn each_modification(alloc: Global, values: &[Value]) -> Result<Mods, ReadFail>
 pub(super) fn mods(alloc: Global, value: &Value) -> Result<Mods, ReadFail>
     ensures { Gives (λ m. m) result (spec.mods_in (view value.now)) }
 {
-    let mods = each_modification(alloc, items(value, MAX_MODS)?)?;
-    if !have_one_source(mods.as_slice()) {
-        return Err(NOT_BUILT);
-    }
-    Ok(mods)
+    each_modification(alloc, items(value)?)
 }

@@ -1,86 +1,93 @@
-//! The IRIs of works: `/akn/`, a country, `/act/`, a day, `/` and a number.
+//! The IRIs of works and expressions in forms, and the day that goes with a work.
 
 ghost use Rattle.std.specs.Prelude.{◌≡◌};
-ghost use Rattle.std.specs.List.{list_all};
-ghost use Rattle.std.specs.Char.{is_ascii_lowercase};
+ghost use Rattle.desk_base.specs.Days as days;
+ghost use Rattle.frbr_names.specs.Dates.{spelled_date};
+ghost use Rattle.frbr_names.specs.Works.{date_named};
+ghost use Rattle.frbr_names.specs.declared.date.IriDate.TheVariants.{Year};
 ghost use Rattle.serde_json.specs.View.{view};
 ghost use Rattle.akn_json.specs.Reads.{Gives};
 ghost use Rattle.akn_json.specs.Works as spec;
 
-use super::fields::{NOT_BUILT, text};
+use super::faults::{BAD_DAY, BAD_NAME, DATE_DIFFERS};
+use super::fields::text;
 use crate::ReadFail;
-use desk_base::Day;
+use desk_base::{Day, Text};
+use frbr_names::{IriDate, WorkName, parse_expression, parse_work};
 use serde_json::Value;
-
-// Whether all are lower-case letters.
-pub(super) fn are_lowercase(bytes: &[u8]) -> bool
-    ensures { result ≡ list_all is_ascii_lowercase bytes.now }
-{
-    bytes.iter().all(|byte| byte.is_ascii_lowercase())
-}
-
-fn is_number_byte(byte: u8) -> bool
-    ensures { result ≡ spec.is_number_byte byte }
-{
-    byte.is_ascii_alphanumeric() || byte == b'-' || byte == b'.' || byte == b'_'
-}
-
-fn are_number_bytes(bytes: &[u8]) -> bool
-    ensures { result ≡ list_all spec.is_number_byte bytes.now }
-{
-    bytes.iter().all(|byte| is_number_byte(*byte))
-}
-
-// Whether bytes are the number of a work.
-fn is_work_number(bytes: &[u8]) -> bool
-    ensures { result ≡ spec.is_work_number bytes.now }
-{
-    bytes.len() >= 1 && bytes.len() <= 64 && are_number_bytes(bytes)
-}
-
-// Whether what stands before the day is that of a work's IRI.
-fn is_before_day(iri: &[u8]) -> bool
-    ensures { result ≡ spec.is_before_day iri.now }
-{
-    iri.len() > 23
-        && iri.starts_with(b"/akn/")
-        && are_lowercase(&iri[5..7])
-        && iri[7..].starts_with(b"/act/")
-}
-
-// Whether what stands behind the day is that of a work's IRI.
-fn is_behind_day(rest: &[u8]) -> bool
-    ensures { result ≡ spec.is_behind_day rest.now }
-{
-    match rest {
-        [b'/', number @ ..] => is_work_number(number),
-        _ => false,
-    }
-}
-
-// The day of the work that an IRI names, if it names one.
-#[tactic(auto, unfolding(crate::specs::Works::work_day))]
-pub(super) fn work_day(iri: &str) -> Option<Day>
-    ensures { result ≡ spec.work_day iri.now }
-{
-    let bytes = iri.as_bytes();
-    if !is_before_day(bytes) {
-        return None;
-    }
-    if !is_behind_day(&bytes[22..]) {
-        return None;
-    }
-    Day::from_text(&iri[12..22])
-}
+use std::alloc::Global;
 
 // The IRI of a work.
 #[tactic(auto, unfolding(crate::specs::Works::work_in))]
-pub(super) fn work(value: &Value) -> Result<&str, ReadFail>
-    ensures { Gives (λ s. s.now) result (spec.work_in (view value.now)) }
+pub(super) fn work(alloc: Global, value: &Value) -> Result<WorkName, ReadFail>
+    ensures { Gives (λ w. w) result (spec.work_in (view value.now)) }
+{
+    match parse_work(text(value)?) {
+        Ok(iri) => Ok(WorkName::copy_of(alloc, &iri)?),
+        Err(_) => Err(BAD_NAME),
+    }
+}
+
+// The IRI of an expression, as it is spelled there.
+#[tactic(auto, unfolding(crate::specs::Works::expression_in))]
+pub(super) fn expression(alloc: Global, value: &Value) -> Result<Text, ReadFail>
+    ensures { Gives (λ t. t) result (spec.expression_in (view value.now)) }
 {
     let iri = text(value)?;
-    match work_day(iri) {
-        Some(_) => Ok(iri),
-        None => Err(NOT_BUILT),
+    match parse_expression(iri) {
+        Ok(_) => Ok(Text::copy_of(alloc, iri)?),
+        Err(_) => Err(BAD_NAME),
     }
+}
+
+// The last decimal digit of a number, as it is printed.
+fn last_digit(n: u16) -> u8
+    ensures { result ≡ days.last_digit n }
+{
+    b'0' + (n % 10) as u8
+}
+
+// The four digits of a year.
+#[tactic(auto, unfolding(frbr_names::specs::Dates::spelled_date))]
+fn year_digits(year: u16) -> [u8; 4]
+    ensures { result ≡ spelled_date (Year year) }
+{
+    [
+        last_digit(year / 1000),
+        last_digit(year / 100),
+        last_digit(year / 10),
+        last_digit(year),
+    ]
+}
+
+// Whether bytes begin with the four digits of a year.
+fn begins_with_year(bytes: &[u8], year: u16) -> bool
+    ensures { result ≡ spec.begins_with_year bytes.now year }
+{
+    bytes.starts_with(&year_digits(year))
+}
+
+// Whether a day and its text agree with the date of a work.
+fn agrees(text: &str, day: Day, date: IriDate) -> bool
+    ensures { result ≡ spec.agrees text.now day date }
+{
+    match date {
+        IriDate::Year(year) => begins_with_year(text.as_bytes(), year),
+        IriDate::Full(named) => day == named,
+    }
+}
+
+// The day of an act, which agrees with the IRI of its work.
+#[tactic(auto, unfolding(crate::specs::Works::act_day_in))]
+pub(super) fn act_day(work: &WorkName, value: &Value) -> Result<Day, ReadFail>
+    ensures { Gives (λ d. d) result (spec.act_day_in work.now (view value.now)) }
+{
+    let text = text(value)?;
+    let Some(day) = Day::from_text(text) else {
+        return Err(BAD_DAY);
+    };
+    if !agrees(text, day, work.date()) {
+        return Err(DATE_DIFFERS);
+    }
+    Ok(day)
 }

@@ -13,7 +13,6 @@ returns-clause-tokens c =
       append_assoc,
       c.in_ok-begin_object.ensures.ok,
       append_assoc,
-      c.from-2.ensures,
       c.name.ensures,
       c.from.ensures,
       c.number.ensures,

@@ -2,10 +2,10 @@
 use Rattle.std.proofs.Common.{◌≡◌, drop}
 use Rattle.serde_json.specs.View.{items_view}
 use Rattle.akn_json.specs.Fields.{each}
-use Rattle.akn_json.specs.ActForm.{node_in}
+use Rattle.akn_json.specs.Works.{expression_in}
 use Rattle.akn_json.proofs.Forms.{with_front}
-use Rattle.akn_json.proofs.reading.act_form.each_node.Given as goal
+use Rattle.akn_json.proofs.reading.node_form.each_expression.Given as goal
 
 abbrev pub invariant-loop-value : goal.invariant-loop-value
 invariant-loop-value l =
-    with_front l.nodes (each node_in (items_view (drop l.value-index l.values))) ≡ each node_in (items_view l.values)
+    with_front l.refs (each expression_in (items_view (drop l.value-index l.values))) ≡ each expression_in (items_view l.values)
