@@ -1,5 +1,8 @@
 //! A dossier is read from its bytes: a clause says which value it is, or which fault comes first.
 
+ghost use Rattle.std.specs.Prelude.{◌≤◌, IfOk};
+ghost use Rattle.serde_json.specs.Data.{depth};
+ghost use Rattle.serde_json.specs.Read.{max_depth};
 ghost use Rattle.serde_json.specs.View.{view};
 ghost use Rattle.akn_json.specs.Reads.{Gives, broken, or_fault};
 ghost use Rattle.akn_json.specs.DossierForm as spec;
