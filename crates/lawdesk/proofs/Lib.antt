@@ -3,3 +3,4 @@ pub mod ShowingLaws
 pub mod Wholes
 pub mod Telling
 pub mod OrderLaws
+pub mod Statuses

@@ -1,8 +1,7 @@
 -- How the input grows, read by read.
-use Rattle.std.proofs.Common.{◌≡◌, ℕ, ◌<◌, List, [], ◌++◌, length, take, Option, Some, None, refl, ap, sym, ◌∙◌, append_assoc, inl, inr}
-use Rattle.std.proofs.lemmas.List.{append-nil}
+use Rattle.std.proofs.Common.{◌≡◌, ℕ, ◌<◌, List, [], ◌++◌, length, Option, Some, None, refl, ap, sym, ◌∙◌, append_assoc, inl, inr}
 use Rattle.std.specs.Io.KnownBytes.{Consumes, IsAtEnd}
-use Rattle.lawdesk.specs.Input.{IsInput, IsInputOf}
+use Rattle.lawdesk.specs.Input.{IsInputOf}
 
 -- the bytes are the first of what there was, and what is left now are the others
 pub record IsFront (all : List ℕ) (now : Option (List ℕ)) (bytes : List ℕ) : Type 0 where

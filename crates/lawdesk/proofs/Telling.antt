@@ -1,5 +1,5 @@
 -- What is written of a report is what the job tells of its input.
-use Rattle.std.proofs.Common.{◌≡◌, ℕ, List, Option, Some, None, Ok, Err, refl, ap, sym, ◌∙◌, subst}
+use Rattle.std.proofs.Common.{◌≡◌, ℕ, List, Option, Some, None, Ok, Err, ap, sym, ◌∙◌, subst}
 use Rattle.desk_base.specs.declared.source.Failed.{Failed}
 use Rattle.desk_base.specs.Streams.{Appended, AppendsFront}
 use Rattle.akn_json.specs.DossierForm.{most_bytes}

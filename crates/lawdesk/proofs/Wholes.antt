@@ -1,8 +1,8 @@
 -- What is told of the bytes that were read is what is told of all that the source had left.
-use Rattle.std.proofs.Common.{◌≡◌, ℕ, ◌<◌, ◌≤◌, List, [], ◌++◌, length, Bool, true, false, Option, Some, None, Err, refl, ap, sym, ◌∙◌, inl, inr, arith, nat_le}
+use Rattle.std.proofs.Common.{◌≡◌, ℕ, ◌<◌, List, ◌++◌, length, false, Option, Some, None, Err, refl, ap, sym, ◌∙◌, inl, inr, arith, nat_le}
 use Rattle.std.proofs.lemmas.List.{append-nil, length-append}
 use Rattle.akn_json.specs.DossierForm.{most_bytes, dossier_of}
-use Rattle.akn_json.specs.Reads.{not_built, unless_broken, ◌>>◌}
+use Rattle.akn_json.specs.Reads.{not_built}
 use Rattle.lawdesk.specs.declared.job.Job.{Job}
 use Rattle.lawdesk.specs.declared.job.Job.TheVariants.{Text}
 use Rattle.lawdesk.specs.Input.{IsInputOf}

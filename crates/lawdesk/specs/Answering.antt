@@ -1,7 +1,7 @@
 -- The answer that a dossier gives on a day.
-use Rattle.std.specs.Prelude.{ℕ, ◌+◌, Bool, List, Option, Some, None, length}
+use Rattle.std.specs.Prelude.{ℕ, ◌+◌, Bool, List, Some, None, length}
 use Rattle.desk_base.specs.Periods.{includes}
-use Rattle.act_tree.specs.Branches.{Branch, branches_of, listed}
+use Rattle.act_tree.specs.Branches.{Branch, listed}
 use Rattle.act_tree.specs.Trees.{TreeValue}
 use Rattle.akn_json.specs.Shown.{Shown}
 use Rattle.akn_json.specs.declared.act.Act.{Act}

@@ -1,9 +1,7 @@
 -- Which modifications are due on a day, and in what order.
 use Rattle.std.specs.Prelude.{ℕ, ◌≡◌, ◌+◌, Bool, false, ◌&&◌, ◌||◌, ◌==◌, nat_lt, List, [], ◌∷◌, if◌then◌else◌}
 use Rattle.desk_base.specs.declared.id.Id.{Id}
-use Rattle.desk_base.specs.declared.period.Period.{Period}
 use Rattle.desk_base.specs.Periods.{includes}
-use Rattle.akn_json.specs.declared.modification.ModSource.{ModSource}
 use Rattle.akn_json.specs.declared.modification.Modification.{Modification}
 use Rattle.akn_json.specs.declared.modification.Modification.TheVariants.{Textual}
 use Rattle.lawdesk.specs.declared.order.Due.{Due}

@@ -1,10 +1,9 @@
 -- Replay: an act as enacted, with the modifications that are due applied one after another.
-use Rattle.std.specs.Prelude.{ℕ, ◌-◌, List, [], ◌∷◌, ◌++◌, Option, Some, None, Result, Ok, Err, slice_get}
+use Rattle.std.specs.Prelude.{◌-◌, List, [], ◌∷◌, ◌++◌, Option, Some, None, Result, Ok, Err, slice_get}
 use Rattle.desk_base.specs.declared.id.Id.{Id}
 use Rattle.act_tree.specs.declared.cause.Cause.{Cause}
 use Rattle.act_tree.specs.Branches.{Branches, branches_of}
 use Rattle.act_tree.specs.Provisions.{Provision}
-use Rattle.act_tree.specs.Trees.{TreeValue}
 use Rattle.act_tree.specs.Eids.{all_enacted}
 use Rattle.textual_mods.specs.Edits.{applied, tree_after}
 use Rattle.akn_json.specs.declared.act.Act.{Act}

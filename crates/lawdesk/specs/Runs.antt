@@ -3,7 +3,7 @@ use Rattle.std.specs.Prelude.{ℕ, ◌≡◌, ◌<◌, List, [], ◌++◌, lengt
 use Rattle.desk_base.specs.Streams.{AppendsFront}
 use Rattle.akn_json.specs.DossierForm.{most_bytes}
 use Rattle.lawdesk.specs.declared.job.Job.{Job}
-use Rattle.lawdesk.specs.Reports.{Told, told}
+use Rattle.lawdesk.specs.Reports.{told}
 
 -- the statuses with which a job is done: 0 answered, 9 a rule refuses the question, 10 the bytes are of no form
 abbrev pub IsDone : ℕ → Type 0

@@ -1,8 +1,4 @@
 -- Versions, as a clause sees them.
-use Rattle.std.specs.Prelude.{ℕ, List}
-use Rattle.desk_base.specs.declared.id.Id.{Id}
-use Rattle.act_tree.specs.declared.cause.Cause.{Cause}
-use Rattle.act_tree.specs.Trees.{TreeValue}
 use Rattle.act_tree.specs.Seen.{tree_view}
 use Rattle.lawdesk.specs.VersionValues.{VersionValue}
 use Rattle.lawdesk.specs.declared.version.Version.{Version}

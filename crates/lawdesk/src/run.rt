@@ -44,7 +44,23 @@ pub fn run<S: Source, W: Sink, L: Ledger>(
     source: &mut S,
     sink: &mut W,
     steps: &mut Steps<L>,
-) -> u8 {
+) -> u8
+    // Which statuses there are, and when the words are no form of the command line.
+    ensures status { IsStatus result }
+    ensures words { (result ≡ 2) ↔ (job_of (map string_bytes words.now) ≡ None) }
+    ensures idle { result ≡ 2 → (source.new ≡ source.old) × (sink.new ≡ sink.old) }
+
+    // A job that was done: the input was read, and what the job tells of it is the status and all that was written.
+    ensures told { (job : Job) → job_of (map string_bytes words.now) ≡ Some job → IsDone result
+        → IsTold job (S.left source.old) (S.left source.new) (W.written sink.old) (W.written sink.new) result }
+
+    // A job that was not done, and its cause. Want of memory has none.
+    ensures source { result ≡ 3 → Rose (S.faults source.old) (S.faults source.new) }
+    ensures sink { result ≡ 4 → Rose (W.faults sink.old) (W.faults sink.new) }
+    ensures cut { (job : Job) → job_of (map string_bytes words.now) ≡ Some job → result ≡ 4
+        → IsCut job (S.left source.old) (S.left source.new) (W.written sink.old) (W.written sink.new) }
+    ensures unwritten { (result ≡ 3) ⊎ (result ≡ 7) → sink.new ≡ sink.old }
+{
     match Job::from_words(words) {
         None => 2,
         Some(job) => match perform(alloc, job, source, sink, steps) {

@@ -1,5 +1,5 @@
 -- What is read so far is the front of what there was, and one byte past the limit at most.
-use Rattle.std.proofs.Common.{◌≡◌, ◌≤◌, ◌+◌, ◌-◌, vec_len, length}
+use Rattle.std.proofs.Common.{◌≤◌, ◌+◌, ◌-◌, vec_len}
 use Rattle.lawdesk.proofs.Reading.{IsFrontOf}
 use Rattle.lawdesk.proofs.input.read_input.Given as goal
 

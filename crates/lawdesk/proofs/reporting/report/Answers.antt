@@ -1,4 +1,4 @@
-use Rattle.std.proofs.Common.{◌∙◌, ap, sym, Ok}
+use Rattle.std.proofs.Common.{◌∙◌, ap, sym}
 use Rattle.akn_json.specs.DossierForm.{dossier_of}
 use Rattle.akn_json.proofs.LimitLemmas.{limits_hold}
 use Rattle.lawdesk.proofs.reporting.report.Goals as goal
