@@ -3,4 +3,5 @@ pub mod ShowingLaws
 pub mod Wholes
 pub mod Telling
 pub mod OrderLaws
+pub mod RuleLaws
 pub mod Statuses

@@ -1,17 +1,16 @@
 -- What a job tells of its input comes with the status of a job that is done.
 use Rattle.std.proofs.Common.{◌≡◌, ℕ, List, Bool, true, false, Option, Some, None, Result, Ok, Err, refl, subst, inl, inr, if◌then◌else◌, nat_lt, arith, ◌⊎◌}
-use Rattle.act_tree.specs.Branches.{branches_of}
-use Rattle.act_tree.specs.Faults.{first_fault}
-use Rattle.act_tree.specs.declared.build_fault.BuildFault.{BuildFault}
 use Rattle.akn_json.specs.AnswerData.{answer_data}
 use Rattle.akn_json.specs.DossierForm.{dossier_of}
 use Rattle.akn_json.specs.RefusalData.{query_data}
 use Rattle.akn_json.specs.declared.dossier.Dossier.{Dossier}
 use Rattle.akn_json.specs.declared.fault.FormFault.{FormFault}
+use Rattle.akn_json.specs.declared.refusal.Rule.{Rule}
 use Rattle.akn_json.specs.declared.refusal.QueryRule.TheVariants.{NotYetEnacted}
 use Rattle.lawdesk.specs.declared.job.Job.{Job}
 use Rattle.lawdesk.specs.declared.job.Job.TheVariants.{Text}
 use Rattle.lawdesk.specs.Answering.{answer_on}
+use Rattle.lawdesk.specs.Rules.{dossier_rule}
 use Rattle.lawdesk.specs.Reports.{Told, told, told_of, told_of_text, told_unless, line_of}
 use Rattle.lawdesk.specs.Runs.{IsDone, IsTold}
 
@@ -27,13 +26,13 @@ told_of_text-done day dossier =
     (record { status = 0; bytes = line_of (answer_data (answer_on dossier day)) })
     (inr (inl refl)) (inl refl)
 
-told_unless-done : (fault : Option BuildFault) (told : Told) → IsDone told.status → IsDone (told_unless fault told).status
+told_unless-done : (rule : Option Rule) (told : Told) → IsDone told.status → IsDone (told_unless rule told).status
 told_unless-done None told h = h
-told_unless-done (Some fault) told h = inr (inl refl)
+told_unless-done (Some rule) told h = inr (inl refl)
 
 told_of-done : (day : ℕ) (read : Result Dossier FormFault) → IsDone (told_of day read).status
 told_of-done day (Ok dossier) =
-    told_unless-done (first_fault dossier.act.numbering (branches_of dossier.act.body)) (told_of_text day dossier) (told_of_text-done day dossier)
+    told_unless-done (dossier_rule dossier) (told_of_text day dossier) (told_of_text-done day dossier)
 told_of-done day (Err fault) = inr (inr refl)
 
 told-done : (job : Job) (input : List ℕ) → IsDone (told job input).status

@@ -2,7 +2,8 @@
 use Rattle.std.proofs.Common.{◌≡◌, ℕ, ◌<◌, List, ◌++◌, length, false, Option, Some, None, Err, refl, ap, sym, ◌∙◌, inl, inr, arith, nat_le}
 use Rattle.std.proofs.lemmas.List.{append-nil, length-append}
 use Rattle.akn_json.specs.DossierForm.{most_bytes, dossier_of}
-use Rattle.akn_json.specs.Reads.{not_built}
+use Rattle.akn_json.specs.Reads.{broken}
+use Rattle.akn_json.specs.declared.fault.FormRule.TheVariants.{TooLong}
 use Rattle.lawdesk.specs.declared.job.Job.{Job}
 use Rattle.lawdesk.specs.declared.job.Job.TheVariants.{Text}
 use Rattle.lawdesk.specs.Input.{IsInputOf}
@@ -13,7 +14,7 @@ past : (n m : ℕ) → m < n → nat_le n m ≡ false
 past n m h = grind arith
 
 -- more bytes than a dossier may have are no dossier
-dossier_of-long : (bytes : List ℕ) → most_bytes < length bytes → dossier_of bytes ≡ Err not_built
+dossier_of-long : (bytes : List ℕ) → most_bytes < length bytes → dossier_of bytes ≡ Err (broken TooLong)
 unfolding dossier_of
 dossier_of-long bytes long = rw (past (length bytes) most_bytes long) refl
 

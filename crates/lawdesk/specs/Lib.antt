@@ -1,4 +1,5 @@
 pub mod Order
+pub mod Rules
 pub mod Input
 pub mod Jobs
 pub mod Showing

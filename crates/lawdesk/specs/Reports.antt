@@ -4,17 +4,15 @@ use Rattle.serde_json.specs.Data.{Data}
 use Rattle.serde_json.specs.Written.{compact_text}
 use Rattle.akn_json.specs.AnswerData.{answer_data}
 use Rattle.akn_json.specs.DossierForm.{dossier_of}
-use Rattle.act_tree.specs.Branches.{branches_of}
-use Rattle.act_tree.specs.Faults.{first_fault}
-use Rattle.act_tree.specs.declared.build_fault.BuildFault.{BuildFault}
 use Rattle.akn_json.specs.RefusalData.{form_fault_data, query_data, rule_data}
-use Rattle.akn_json.specs.declared.refusal.Rule.TheVariants.{BadTree}
+use Rattle.akn_json.specs.declared.refusal.Rule.{Rule}
 use Rattle.akn_json.specs.declared.dossier.Dossier.{Dossier}
 use Rattle.akn_json.specs.declared.fault.FormFault.{FormFault}
 use Rattle.akn_json.specs.declared.refusal.QueryRule.TheVariants.{NotYetEnacted}
 use Rattle.lawdesk.specs.declared.job.Job.{Job}
 use Rattle.lawdesk.specs.declared.job.Job.TheVariants.{Text}
 use Rattle.lawdesk.specs.Answering.{answer_on}
+use Rattle.lawdesk.specs.Rules.{dossier_rule}
 
 -- a status, and the bytes that are written
 pub record Told : Type 0 where
@@ -31,18 +29,18 @@ told_of_text day dossier =
     if nat_lt day dossier.act.day then record { status = 9; bytes = line_of (query_data (NotYetEnacted dossier.act.day)) }
     else record { status = 0; bytes = line_of (answer_data (answer_on dossier day)) }
 
--- an act whose text is not well-formed is refused, with its first fault
-abbrev pub told_rule : BuildFault → Told
-told_rule fault = record { status = 9; bytes = line_of (rule_data (BadTree fault)) }
+-- a command that is refused, with the rule that it breaks
+abbrev pub told_rule : Rule → Told
+told_rule rule = record { status = 9; bytes = line_of (rule_data rule) }
 
--- that refusal where there is a fault, and what is told of the text where there is none
-abbrev pub told_unless : Option BuildFault → Told → Told
+-- the refusal where a rule is broken, and what is told of the text where none is
+abbrev pub told_unless : Option Rule → Told → Told
 told_unless None told = told
-told_unless (Some fault) told = told_rule fault
+told_unless (Some rule) told = told_rule rule
 
--- the rules of the act come before those of the question
+-- the rules of the commands come before those of the question
 abbrev pub told_on : ℕ → Dossier → Told
-told_on day dossier = told_unless (first_fault dossier.act.numbering (branches_of dossier.act.body)) (told_of_text day dossier)
+told_on day dossier = told_unless (dossier_rule dossier) (told_of_text day dossier)
 
 -- bytes that are no dossier are refused with the fault that comes first
 abbrev pub told_fault : FormFault → Told

@@ -13,16 +13,16 @@ use crate::showing::show_all;
 use crate::version::Version;
 use act_tree::Tree;
 use akn_json::{Act, Answer, AnswerNodes, Dossier, Question, Reading};
-use desk_base::{Day, Memory, Steps};
+use desk_base::{Day, Memory, Steps, Text};
 use std::alloc::Global;
 use std::sync::ledger::Ledger;
 
 // What is asked.
-fn question(act: &Act, day: Day, viewpoint: u32) -> Result<Question, Memory>
+fn question(alloc: Global, act: &Act, day: Day, viewpoint: u32) -> Result<Question, Memory>
     ensures { IfOk result (λ question. question ≡ question_on act.now day viewpoint) }
 {
     Ok(Question {
-        work: act.work.copy()?,
+        work: Text::copy_of(alloc, act.work.as_str())?,
         language: act.language,
         version: Some(day),
         portion: None,
@@ -50,7 +50,7 @@ fn answer_of(
 {
     let bears = act.force.includes(day);
     Ok(Answer {
-        question: question(act, day, viewpoint)?,
+        question: question(alloc, act, day, viewpoint)?,
         bears,
         nodes: show_tree(alloc, &version.tree, bears)?,
         applied: version.applied,
@@ -69,7 +69,7 @@ pub fn answer_on<L: Ledger>(
     day: Day,
     steps: &mut Steps<L>,
 ) -> Result<Answer, Memory>
-    requires mods { length dossier.now.mods ≤ 64 }
+    requires mods { length dossier.now.mods ≤ 512 }
     requires enacted { version_view enacted ≡ as_enacted dossier.now.act }
     ensures { IfOk result (λ answer. answer ≡ spec.answer_on dossier.now day) }
 {

@@ -8,6 +8,7 @@ mod order;
 mod replay;
 mod report;
 mod reporting;
+mod rules;
 mod run;
 mod showing;
 mod stop;

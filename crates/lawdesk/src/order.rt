@@ -4,16 +4,21 @@ ghost use Rattle.std.specs.Prelude.{◌≡◌, ◌+◌, ◌-◌, ◌^◌, ◌<�
 ghost use Rattle.lawdesk.specs.Order as spec;
 ghost use Rattle.lawdesk.specs.Order.{insert_due, joined, due_from, IsAscending};
 
-use akn_json::{Modification, Mods};
-use desk_base::{Day, Id, Memory};
+use akn_json::{ModSource, Modification, Mods};
+use desk_base::{Day, Id, Memory, Period};
+use frbr_names::WorkName;
 use std::alloc::Global;
 
 /// A modification that is due: what orders it, and its id.
-#[derive(Clone, Copy, Debug, PartialEq, Eq, PartialOrd, Ord)]
+#[derive(Debug, PartialEq, Eq, PartialOrd, Ord, Drop)]
 pub struct Due {
     /// The day from which it bears.
     pub start: Day,
-    /// Its place in its source.
+    /// The day of the work that it comes from.
+    pub day: Day,
+    /// The IRI of that work.
+    pub work: WorkName,
+    /// Its place in that work.
     pub place: u16,
     /// Its id.
     pub id: Id,
@@ -23,7 +28,7 @@ pub struct Due {
 fn is_before(a: &Due, b: &Due) -> bool
     ensures { result ≡ spec.is_before a.now b.now }
 {
-    a < b
+    a.cmp(b).is_lt()
 }
 
 // The index of the first that the new one comes before, or the length where there is none.
@@ -48,6 +53,19 @@ fn insert(list: &mut Vec<Due>, new: Due) -> Result<(), Memory>
     Ok(())
 }
 
+// What orders a modification of this source and period, which the law entry of this number recorded.
+fn due_of(law: u32, source: &ModSource, force: Period) -> Result<Due, Memory>
+    ensures { IfOk result (λ due. due ≡ spec.due_of law source.now force) }
+{
+    Ok(Due {
+        start: force.start,
+        day: source.href.day(),
+        work: source.href.copy()?,
+        place: source.place,
+        id: Id { law, item: 1 },
+    })
+}
+
 // Puts a modification in its place among the others, if it is due.
 fn join(list: &mut Vec<Due>, day: Day, law: u32, modification: &Modification) -> Result<(), Memory>
     ensures { OnOk result (list.new.items ≡ joined day law modification.now list.old.items) }
@@ -55,15 +73,7 @@ fn join(list: &mut Vec<Due>, day: Day, law: u32, modification: &Modification) ->
     match modification {
         Modification::Textual { source, force, .. } => {
             if force.includes(day) {
-                let id = Id { law, item: 1 };
-                insert(
-                    list,
-                    Due {
-                        start: force.start,
-                        place: source.place,
-                        id,
-                    },
-                )?;
+                insert(list, due_of(law, source, *force)?)?;
             }
         }
     }

@@ -11,8 +11,9 @@ use crate::answering::answer_on;
 use crate::job::Job;
 use crate::replay::enact;
 use crate::report::Report;
+use crate::rules::limits_rule;
 use crate::version::Version;
-use act_tree::{BuildFail, BuildFault};
+use act_tree::BuildFail;
 use akn_json::{
     Dossier, FormFault, QueryRule, ReadFail, Rule, put_answer, put_form_fault, put_query_rule,
     put_rule, read_dossier,
@@ -38,7 +39,7 @@ fn report_text<L: Ledger>(
     day: Day,
     steps: &mut Steps<L>,
 ) -> Result<Report, Memory>
-    requires mods { length dossier.now.mods ≤ 64 }
+    requires mods { length dossier.now.mods ≤ 512 }
     requires enacted { version_view enacted ≡ as_enacted dossier.now.act }
     ensures { IfOk result (λ report. report_view report ≡ told_of_text day dossier.now) }
 {
@@ -56,29 +57,31 @@ fn report_text<L: Ledger>(
     })
 }
 
-// The report of an act whose text is not well-formed.
-fn report_rule(alloc: Global, fault: BuildFault) -> Result<Report, Memory>
-    ensures { IfOk result (λ report. report_view report ≡ told_rule fault) }
+// The report of a command that is refused.
+fn report_rule(alloc: Global, rule: Rule) -> Result<Report, Memory>
+    ensures { IfOk result (λ report. report_view report ≡ told_rule rule) }
 {
     Ok(Report {
         status: 9,
-        bytes: line(put_rule(alloc, Rule::BadTree(fault))?)?,
+        bytes: line(put_rule(alloc, rule)?)?,
     })
 }
 
-// The report that a dossier gives on a day.
+// The report that a dossier gives on a day: the rules of its commands come before those of the question.
 fn report_on<L: Ledger>(
     alloc: Global,
     dossier: &Dossier,
     day: Day,
     steps: &mut Steps<L>,
 ) -> Result<Report, Memory>
-    requires { length dossier.now.mods ≤ 64 }
     ensures { IfOk result (λ report. report_view report ≡ told_on day dossier.now) }
 {
     match enact(alloc, &dossier.act) {
-        Ok(enacted) => report_text(alloc, dossier, enacted, day, steps),
-        Err(BuildFail::Fault(fault)) => report_rule(alloc, fault),
+        Ok(enacted) => match limits_rule(dossier) {
+            Some(rule) => report_rule(alloc, rule),
+            None => report_text(alloc, dossier, enacted, day, steps),
+        },
+        Err(BuildFail::Fault(fault)) => report_rule(alloc, Rule::BadTree(fault)),
         Err(BuildFail::Memory) => Err(Memory),
     }
 }

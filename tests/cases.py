@@ -1,0 +1,298 @@
+"""Dossiers with what the desk writes of them: each part of the form and each rule, kept and broken, and each limit at its
+number and one past it. The lines were written by hand, from docs/FORMS.md and docs/MODEL.md.
+
+Each table is a list of (name, dossier, line), or of (name, dossier) where the dossier is answered.
+"""
+import json
+
+LIMIT = 8_388_608
+IRI = "/akn/gb/act/2010-05-01/7"
+SOURCE = "/akn/gb/act/2010-12-01/20"
+
+FORM_RULES = ["NotBuilt", "NotJson", "WrongShape", "BadName", "BadDay", "BadElement", "BadNumber", "UnknownWord",
+              "DateDiffers", "TooLong"]
+RULES = {5: "BadTree", 6: "BadModification", 7: "BadPeriod", 15: "WorkFull"}
+
+
+def form(rule, place=0):
+    """The line of a form fault."""
+    return f'{{"form":{rule},"name":"{FORM_RULES[rule]}","place":{place}}}\n'.encode()
+
+
+def refused(rule, kept):
+    """The line of a command that is refused."""
+    return f'{{"kept":{kept},"name":"{RULES[rule]}","rule":{rule}}}\n'.encode()
+
+
+def act(**changes):
+    """A small act, with changes; a change to None takes the key away."""
+    whole = {
+        "FRBRuri": IRI,
+        "FRBRdate": "2010-05-01",
+        "FRBRlanguage": "eng",
+        "force": {"from": "2010-06-01"},
+        "body": [{"element": "section", "num": "1", "content": "One."}],
+    }
+    whole.update(changes)
+    return {key: value for key, value in whole.items() if value is not None}
+
+
+def textual(**changes):
+    """A repeal as a dossier spells it, with changes; a change to None takes the key away."""
+    mod = {
+        "type": "repeal",
+        "source": {"href": SOURCE, "place": 1},
+        "force": {"from": "2011-01-01"},
+        "destination": {"wId": "sec_1"},
+    }
+    mod.update(changes)
+    return {"textualMod": {key: value for key, value in mod.items() if value is not None}}
+
+
+def repeal(wid="sec_1", start="2011-01-01", href=SOURCE, place=1, until=None):
+    force = {"from": start} if until is None else {"from": start, "until": until}
+    return textual(source={"href": href, "place": place}, force=force, destination={"wId": wid})
+
+
+def node(element="section", num="1", **rest):
+    return {"element": element, "num": num, **rest}
+
+
+def sections(count, content=""):
+    return [node(num=str(k), content=content) for k in range(1, count + 1)]
+
+
+def nested(depth):
+    """One paragraph in another, so many deep."""
+    inner = node("paragraph")
+    for _ in range(depth - 1):
+        inner = node("paragraph", children=[inner])
+    return [inner]
+
+
+def refs(count, href=IRI + "/eng@"):
+    return [node(refs=[href] * count)]
+
+
+def dossier(whole=None, mods=()):
+    return json.dumps({"act": act() if whole is None else whole, "modifications": list(mods)}).encode()
+
+
+def padded(length):
+    """A dossier of this many bytes: blanks behind it."""
+    text = dossier()
+    return text + b" " * (length - len(text))
+
+
+# Dossiers that are answered, each at a limit or with a part that may be so.
+FITS = [
+    ("4,096 sections", dossier(act(body=sections(4096)))),
+    ("4,096 provisions, each part of 15 sections", dossier(act(body=[
+        node("part", str(p), children=[node(num=f"{p}-{k}") for k in range(15)]) for p in range(256)]))),
+    ("no sections", dossier(act(body=[]))),
+    ("12 levels", dossier(act(body=nested(12)))),
+    ("a content of 16,384 bytes", dossier(act(body=sections(1, "é" * 8192)))),
+    ("a heading of 16,384 bytes", dossier(act(body=[node(heading="h" * 16384)]))),
+    ("a content of 16,384 bytes at depth 3", dossier(act(body=[
+        node("part", children=[node(children=[node("paragraph", "a", content="c" * 16384)])])]))),
+    ("16 refs", dossier(act(body=refs(16)))),
+    ("16 refs at depth 2, and 16 above", dossier(act(body=[node("part", refs=[IRI + "/eng@"] * 16, children=refs(16))]))),
+    ("512 repeals", dossier(mods=[repeal(place=k) for k in range(512)])),
+    ("a wId of 512 bytes", dossier(mods=[repeal(wid="w" * 512)])),
+    ("a wId of one byte", dossier(mods=[repeal(wid="w")])),
+    ("a num of 16 bytes", dossier(act(body=[node(num="1-" + "Az" * 7)]))),
+    ("nums that differ in case alone", dossier(act(body=[node(num="2a"), node(num="2A")]))),
+    ("each element", dossier(act(body=[node(name) for name in (
+        "article section chapter paragraph subparagraph subsection clause subclause alinea part title book point indent"
+    ).split()]))),
+    ("children, refs and numbering with nothing in them", dossier(act(numbering=[], body=[node(children=[], refs=[])]))),
+    ("an element numbered twice", dossier(act(numbering=["part", "part"]))),
+    ("paragraphs of one num below two sections", dossier(act(body=[
+        node(num="1", children=[node("paragraph", "a")]), node(num="2", children=[node("paragraph", "a")])]))),
+    ("an act's end", dossier(act(force={"from": "2010-06-01", "until": "2010-06-02"}))),
+    ("an IRI's number of 64 bytes", dossier(act(FRBRuri="/akn/gb/act/2010-05-01/" + "a-._" * 16))),
+    ("an IRI with a word", dossier(act(FRBRuri="/akn/gb/act/asp/2010-05-01/7"))),
+    ("an IRI with two words of 32 bytes", dossier(act(FRBRuri=f"/akn/gb/act/{'w' * 32}/{'a.-_' * 8}/2010-05-01/7"))),
+    ("an IRI with a jurisdiction of 11 bytes", dossier(act(FRBRuri="/akn/gb-sct45678/act/2010-05-01/7"))),
+    ("an IRI of a year, and its first day", dossier(act(FRBRuri="/akn/gb/act/2010/7", FRBRdate="2010-01-01"))),
+    ("a source of a year", dossier(mods=[repeal(href="/akn/gb/act/1999/1")])),
+    ("two sources", dossier(mods=[repeal(), repeal(href="/akn/gb/act/2010-12-01/21")])),
+    ("a ref to a version, a component and a portion", dossier(act(body=[node(refs=[
+        IRI + "/eng@2011-01-01/!main/~sec_1", IRI + "/eng@/!main~sec_1", IRI + "/eng@/!main", IRI + "/eng@/~" + "p" * 512])]))),
+    ("place 65535", dossier(mods=[repeal(place=65535)])),
+    ("place 0", dossier(mods=[repeal(place=0)])),
+    ("8,388,608 bytes", padded(LIMIT)),
+    ("a key twice: the last counts", dossier().replace(b'"modifications": []', b'"modifications": 1, "modifications": []')),
+]
+
+# The first fault of bytes that are no JSON text, or too long.
+BYTES = [
+    ("nothing", b"", form(1)),
+    ("half a dossier", dossier()[:-1], form(1)),
+    ("bytes behind the dossier", dossier() + b"x", form(1)),
+    ("bytes that are no text", b'{"act": "\xff"}', form(1)),
+    ("a text of 8,388,608 bytes that is no JSON", b"x" * LIMIT, form(1)),
+    ("lists 128 deep", b"[" * 128 + b"]" * 128, form(1)),
+    ("lists 127 deep", b"[" * 127 + b"]" * 127, form(2)),
+    ("8,388,609 bytes", padded(LIMIT + 1), form(9)),
+    ("8,388,609 bytes of no JSON", b"x" * (LIMIT + 1), form(9)),
+]
+
+# The IRI of a work that breaks its rule, by the first part that does.
+WORKS = [
+    ("nothing", ""),
+    ("no slash first", "akn/gb/act/2010-05-01/7"),
+    ("another first part", "/eli/gb/act/2010-05-01/7"),
+    ("a jurisdiction of three letters", "/akn/gbr/act/2010-05-01/7"),
+    ("a jurisdiction of capitals", "/akn/GB/act/2010-05-01/7"),
+    ("a jurisdiction with nothing behind its dash", "/akn/gb-/act/2010-05-01/7"),
+    ("a jurisdiction with nine letters behind its dash", "/akn/gb-abcdefghi/act/2010-05-01/7"),
+    ("a bill", "/akn/gb/bill/2010-05-01/7"),
+    ("a day that is none", "/akn/gb/act/2010-02-30/7"),
+    ("the year 0000", "/akn/gb/act/0000/7"),
+    ("three words", "/akn/gb/act/one/two/three/2010-05-01/7"),
+    ("a word of 33 bytes", f"/akn/gb/act/{'w' * 33}/2010-05-01/7"),
+    ("no date", "/akn/gb/act/asp"),
+    ("no number", "/akn/gb/act/2010-05-01"),
+    ("an empty number", "/akn/gb/act/2010-05-01/"),
+    ("a number of 65 bytes", "/akn/gb/act/2010-05-01/" + "a" * 65),
+    ("a number with a slash", "/akn/gb/act/2010-05-01/7/8"),
+    ("an expression", IRI + "/eng@"),
+]
+
+# The IRI of an expression that breaks its rule behind that of its work.
+EXPRESSIONS = [
+    ("a work", IRI),
+    ("a language of two letters", IRI + "/en@"),
+    ("a language of capitals", IRI + "/ENG@"),
+    ("no sign", IRI + "/eng"),
+    ("a version that is no day", IRI + "/eng@2010-02-30"),
+    ("a version of a year", IRI + "/eng@2010"),
+    ("another component", IRI + "/eng@/!annex"),
+    ("a portion without its sign", IRI + "/eng@/sec_1"),
+    ("an empty portion", IRI + "/eng@/~"),
+    ("a portion of 513 bytes", IRI + "/eng@/~" + "p" * 513),
+    ("a portion with a dot", IRI + "/eng@/~sec.1"),
+    ("a portion right behind the version", IRI + "/eng@2010-05-01~sec_1"),
+    ("more behind the component", IRI + "/eng@/!main/x"),
+]
+
+NAMES = (
+    [(f"the act's IRI: {name}", dossier(act(FRBRuri=iri)), form(3)) for name, iri in WORKS]
+    + [(f"a source's IRI: {name}", dossier(mods=[repeal(), repeal(href=iri)]), form(3, 2)) for name, iri in WORKS]
+    + [(f"a ref: {name}", dossier(act(body=[node(children=[node("paragraph", refs=[IRI + "/eng@", iri])])])), form(3))
+       for name, iri in EXPRESSIONS]
+    + [
+        ("a language of two letters", dossier(act(FRBRlanguage="en")), form(3)),
+        ("a language of capitals", dossier(act(FRBRlanguage="ENG")), form(3)),
+        ("a language of four letters", dossier(act(FRBRlanguage="engl")), form(3)),
+    ]
+)
+
+# A num or an element that breaks its rule.
+LEVELS = [
+    ("a num of 17 bytes", dossier(act(body=[node(num="12345678901234567")])), form(5)),
+    ("an empty num", dossier(act(body=[node(num="")])), form(5)),
+    ("a num with a blank", dossier(act(body=[node(num="1 A")])), form(5)),
+    ("a num with a low line", dossier(act(body=[node(num="1_A")])), form(5)),
+    ("a num of a letter that is not of ASCII", dossier(act(body=[node(num="é")])), form(5)),
+    ("an element in capitals", dossier(act(body=[node("Section")])), form(5)),
+    ("an element by its word in eIds", dossier(act(body=[node("sec")])), form(5)),
+    ("an element below another", dossier(act(body=[node(children=[node("annex")])])), form(5)),
+    ("the root as an element", dossier(act(body=[node("body")])), form(5)),
+    ("an element that is numbered", dossier(act(numbering=["section", "annex"])), form(5)),
+]
+
+# Values of another kind, keys that are missing or unknown, days, numbers and words, each with its place.
+SHAPES = [
+    ("a list", b"[]", form(2)),
+    ("a dossier without an act", json.dumps({"modifications": []}).encode(), form(2)),
+    ("no modifications", json.dumps({"act": act()}).encode(), form(2)),
+    ("modifications of no list", json.dumps({"act": act(), "modifications": {}}).encode(), form(2)),
+    ("an act of no object", dossier([]), form(2)),
+    ("an act's key too many", dossier(act(title="Act")), form(2)),
+    ("an act without a day", dossier(act(FRBRdate=None)), form(2)),
+    ("an unknown key comes before a bad IRI", dossier(act(title="Act", FRBRuri="")), form(2)),
+    ("an IRI that is a number", dossier(act(FRBRuri=7)), form(2)),
+    ("a force of no object", dossier(act(force="2010-06-01")), form(2)),
+    ("a force without a start", dossier(act(force={"until": "2010-06-01"})), form(2)),
+    ("an end that is null", dossier(act(force={"from": "2010-06-01", "until": None})), form(2)),
+    ("numbering that is a text", dossier(act(numbering="section")), form(2)),
+    ("a body of no list", dossier(act(body={})), form(2)),
+    ("a node of no object", dossier(act(body=["section"])), form(2)),
+    ("a node without a num", dossier(act(body=[{"element": "section"}])), form(2)),
+    ("a node with a wId", dossier(act(body=[node(wId="sec_1")])), form(2)),
+    ("a content that is null", dossier(act(body=[node(content=None)])), form(2)),
+    ("a heading that is a number", dossier(act(body=[node(heading=1)])), form(2)),
+    ("refs that are a text", dossier(act(body=[node(refs=IRI + "/eng@")])), form(2)),
+    ("children of no list", dossier(act(body=[node(children={})])), form(2)),
+    ("a num that is a number, below", dossier(act(body=[node(children=[node(num=1)])])), form(2)),
+    ("a day that is none", dossier(act(FRBRdate="2010-05-1")), form(4)),
+    ("a day that is a number", dossier(act(FRBRdate=20100501)), form(2)),
+    ("a start that is no day", dossier(act(force={"from": "2010-06-31"})), form(4)),
+    ("an end that is no day", dossier(act(force={"from": "2010-06-01", "until": "never"})), form(4)),
+    ("a day that is not the IRI's", dossier(act(FRBRdate="2010-05-02")), form(8)),
+    ("a day that is not in the IRI's year", dossier(act(FRBRuri="/akn/gb/act/2010/7", FRBRdate="2011-01-01")), form(8)),
+    ("the IRI is judged before the day", dossier(act(FRBRuri="/akn/gb/act/2010-02-30/7", FRBRdate="2010-02-30")), form(3)),
+    ("the day is judged before the language", dossier(act(FRBRdate="2010-05-02", FRBRlanguage="en")), form(8)),
+    ("the act is judged before the modifications", dossier(act(FRBRlanguage="en"), [1]), form(3)),
+    ("a modification of no object", dossier(mods=[1]), form(2, 1)),
+    ("a modification of two keys", dossier(mods=[{**repeal(), "forceMod": {}}]), form(2, 1)),
+    ("a modification of no key", dossier(mods=[repeal(), {}]), form(2, 2)),
+    ("a modification of an unknown key", dossier(mods=[{"scopeMod": {}}]), form(2, 1)),
+    ("a change of force", dossier(mods=[repeal(), repeal(), {"forceMod": 1}]), form(0, 3)),
+    ("a change of efficacy", dossier(mods=[{"efficacyMod": {}}]), form(0, 1)),
+    ("a textual modification of no object", dossier(mods=[{"textualMod": []}]), form(2, 1)),
+    ("no type", dossier(mods=[textual(type=None)]), form(2, 1)),
+    ("a type that is a number", dossier(mods=[textual(type=1)]), form(2, 1)),
+    ("a type that is not listed", dossier(mods=[repeal(), textual(type="Repeal")]), form(7, 2)),
+    ("a type that is listed", dossier(mods=[textual(type="join", source=None)]), form(0, 1)),
+    ("a type that is not listed comes before the keys", dossier(mods=[textual(type="merge", source=None)]), form(7, 1)),
+    ("a modification's key too many", dossier(mods=[textual(until="2011-01-01")]), form(2, 1)),
+    ("a modification without a source", dossier(mods=[repeal(), textual(source=None)]), form(2, 2)),
+    ("a source without a place", dossier(mods=[textual(source={"href": SOURCE})]), form(2, 1)),
+    ("a place that is a text", dossier(mods=[repeal(place="1")]), form(2, 1)),
+    ("place 65536", dossier(mods=[repeal(place=65536)]), form(6, 1)),
+    ("a place that is no whole number", dossier(mods=[repeal(place=1.0)]), form(6, 1)),
+    ("a place below 0", dossier(mods=[repeal(), repeal(place=-1)]), form(6, 2)),
+    ("a modification's day that is none", dossier(mods=[repeal(start="2011-02-29")]), form(4, 1)),
+    ("a modification's end that is none", dossier(mods=[repeal(until="2011-02-29")]), form(4, 1)),
+    ("a destination of no object", dossier(mods=[textual(destination="sec_1")]), form(2, 1)),
+    ("a destination that is an id", dossier(mods=[textual(destination={"modification": "2.1"})]), form(2, 1)),
+    ("a wId that is a number", dossier(mods=[repeal(wid=1)]), form(2, 1)),
+    ("the 600th modification", dossier(mods=[repeal()] * 599 + [1]), form(2, 600)),
+]
+
+# The first rule that the first refused command breaks.
+COMMANDS = [
+    ("one eId twice", dossier(act(body=sections(2) + sections(1))), refused(5, 1)),
+    ("one section twice below two parts", dossier(act(body=[
+        node("part", "1", children=sections(1)), node("part", "2", children=sections(1))])), refused(5, 1)),
+    ("13 levels", dossier(act(body=nested(13))), refused(5, 2)),
+    ("4,097 sections", dossier(act(body=sections(4097))), refused(5, 3)),
+    ("4,097 provisions at two depths", dossier(act(body=[node("part", children=sections(4096))])), refused(5, 3)),
+    ("a content of 16,385 bytes", dossier(act(body=sections(1, "é" * 8192 + "e"))), refused(5, 4)),
+    ("a heading of 16,385 bytes at depth 2", dossier(act(body=[node(children=[node("paragraph", heading="h" * 16385)])])), refused(5, 4)),
+    ("the lowest fault of a tree", dossier(act(body=sections(1, "c" * 16385) + nested(13))), refused(5, 2)),
+    ("17 refs", dossier(act(body=refs(17))), refused(6, 0)),
+    ("17 refs at depth 2", dossier(act(body=[node("part", children=refs(17))])), refused(6, 0)),
+    ("17 refs on the last of two nodes", dossier(act(body=sections(1) + [node(num="2", refs=[IRI + "/eng@"] * 17)])), refused(6, 0)),
+    ("an act that ends as it starts", dossier(act(force={"from": "2010-06-01", "until": "2010-06-01"})), refused(7, 0)),
+    ("an act that ends before", dossier(act(force={"from": "2010-06-01", "until": "2010-05-31"})), refused(7, 0)),
+    ("the tree comes before the refs", dossier(act(body=refs(17) + sections(1))), refused(5, 1)),
+    ("the refs come before the period", dossier(act(body=refs(17), force={"from": "2010-06-01", "until": "2010-06-01"})), refused(6, 0)),
+    ("an empty wId", dossier(mods=[repeal(), repeal(wid="")]), refused(6, 1)),
+    ("a wId of 513 bytes", dossier(mods=[repeal(wid="w" * 513)]), refused(6, 1)),
+    ("a wId of 257 letters of two bytes", dossier(mods=[repeal(wid="é" * 257)]), refused(6, 1)),
+    ("a modification that ends as it starts", dossier(mods=[repeal(until="2011-01-01")]), refused(7, 1)),
+    ("a modification that ends before", dossier(mods=[repeal(), repeal(until="2010-12-31")]), refused(7, 1)),
+    ("the wId comes before the period", dossier(mods=[repeal(wid="", until="2011-01-01")]), refused(6, 1)),
+    ("the first refused command counts", dossier(mods=[repeal(until="2011-01-01"), repeal(wid="")]), refused(7, 1)),
+    ("the act comes before its modifications", dossier(act(force={"from": "2010-06-01", "until": "2010-06-01"}), [repeal(wid="")]), refused(7, 0)),
+    ("513 repeals", dossier(mods=[repeal()] * 513), refused(15, 512)),
+    ("the 513th of 600 repeals", dossier(mods=[repeal()] * 513 + [repeal(wid="")] * 87), refused(15, 512)),
+    ("the wId of the 513th repeal", dossier(mods=[repeal()] * 512 + [repeal(wid="")]), refused(6, 1)),
+    ("the period of the 513th repeal", dossier(mods=[repeal()] * 512 + [repeal(until="2011-01-01")]), refused(7, 1)),
+    ("a tree before 513 repeals", dossier(act(body=nested(13)), [repeal()] * 513), refused(5, 2)),
+    ("a form fault comes before all rules", dossier(act(body=nested(13)), [repeal(until="2011-01-01"), 1]), form(2, 2)),
+]
