@@ -6,7 +6,7 @@ use Rattle.act_tree.specs.Branches.{Branches, branch, heights}
 use Rattle.act_tree.specs.Provisions.{Provision}
 use Rattle.act_tree.specs.Changes.{root_wid}
 use Rattle.act_tree.specs.Wids.{all_wids, is_among, one_twice}
-use Rattle.act_tree.specs.Arena.{below_in, branches_below, is_hung, root_provision, Stands, IsWhole}
+use Rattle.act_tree.specs.Arena.{below_in, branches_below, is_hung, number_twice, root_provision, Stands, IsWhole}
 use Rattle.act_tree.specs.Planted.{Named, IsLaid}
 use Rattle.act_tree.specs.Slots.{at, number, size}
 use Rattle.act_tree.proofs.LaidDown.{laid_past}
@@ -35,8 +35,13 @@ built old new above id p body empty none up root apart differ laid =
         | inr past ↦ ap (is_hung (at new) k) (laid_past new.slots.items k past)
       ]
     ] in
+    let once : (k : ℕ) → number_twice (below_in (at new k)) ≡ false =
+    λ k. elim (cases_lt k (size new)) [
+      | inl within ↦ laid.once k (omega arith) within
+      | inr past ↦ ap (λ o. number_twice (below_in o)) (laid_past new.slots.items k past)
+    ] in
     let named : Named (at new) (number new) = laid.grown.named (λ w k leads. let never : number old w ≡ None = none w in absurd cc) in
     record {
-      whole = whole_from (at new) (number new) (size new) p body root s low hung named;
+      whole = whole_from (at new) (number new) (size new) p body root s low hung once named laid.fits;
       reads = reads_from (at new) (number new) (size new) p body s low;
     }

@@ -32,7 +32,7 @@ of_other_wid : (w : List ℕ) (b : Branch Provision) → holds w b ≡ false →
 of_other_wid w (branch p below) none = not_first _ _ none
 
 mutual
-  same_inside : (w : List ℕ) (b : Branch Provision) → holds w b ≡ false → inside_without w b ≡ b
+  pub same_inside : (w : List ℕ) (b : Branch Provision) → holds w b ≡ false → inside_without w b ≡ b
   same_inside w (branch p below) none = ap (branch p) (same_without w below (not_second _ _ none))
 
   pub same_without : (w : List ℕ) (bs : Branches Provision) → any_holds w bs ≡ false → without w bs ≡ bs

@@ -40,7 +40,7 @@ climbs_step (suc f) at i some =
     let less : f ≡ suc f - 1 = omega arith in
     ap (λ n. (i == 0) || (hangs_on i (at i) && climbs n at (above_in (at i)))) less
 
-listed_above : (at : ℕ → Option Laid) (i : ℕ) (o : Option Laid) → hangs_on i o ≡ true → is_hung at i o ≡ true → list_any (λ j. j == i) (below_in (at (above_in o))) ≡ true
+pub listed_above : (at : ℕ → Option Laid) (i : ℕ) (o : Option Laid) → hangs_on i o ≡ true → is_hung at i o ≡ true → list_any (λ j. j == i) (below_in (at (above_in o))) ≡ true
 listed_above at i None hangs hung = absurd cc
 listed_above at i (Some x) hangs hung = not_left (x.above == i) _ hangs hung
 

@@ -1,5 +1,5 @@
 -- The eIds of the nodes of a tree.
-use Rattle.std.proofs.Common.{◌≡◌, ◌∙◌, sym, ap, refl, subst, ℕ, ◌+◌, ◌<◌, Bool, true, false, ◌||◌, List, ◌∷◌, ◌++◌, length, map, drop, get_or, Option, Some, None, option_map, cond, nat_lt, inl, inr}
+use Rattle.std.proofs.Common.{IfSome, is_some, ◌≡◌, ◌∙◌, sym, ap, refl, subst, ℕ, ◌+◌, ◌<◌, Bool, true, false, ◌||◌, List, ◌∷◌, ◌++◌, length, map, drop, get_or, Option, Some, None, option_map, cond, nat_lt, inl, inr}
 use Rattle.std.specs.Str.{bytes_eq}
 use Rattle.std.proofs.lemmas.Bool.{cases_Bool}
 use Rattle.std.proofs.lemmas.List.Folds.{list_any-append}
@@ -123,3 +123,8 @@ module _ (t : Tree) (above : Option (List ℕ)) (eid own : List ℕ) (ids : List
 
   pub among_later : (found : Bool) → found ≡ under → bytes_eq eid own ≡ false → found ≡ false → from (i + 1) ≡ from i
   among_later found same other none = found_later (bytes_eq eid own) under (from (i + 1)) (from i) (among_from t above eid own ids i id within it is) other (sym same ∙ none)
+
+-- what was found as a node of an eId is there
+pub found_among : (t : Tree) (e : List ℕ) (o : Option ℕ) → IfSome o (IsNodeOf t e) → is_some o ≡ true → is_some o ≡ is_among e (all_eids (tree_view t).numbering None (all_owns (tree_view t).body))
+found_among t e None node some = absurd (let h : false ≡ true = some in cc)
+found_among t e (Some i) node some = sym (node_among t i e node)

@@ -5,7 +5,7 @@ use Rattle.std.proofs.lemmas.Bool.{cases_Bool, cases_eq, or_cases, eq-eqb, ne_eq
 use Rattle.std.proofs.lemmas.List.{take_more}
 use Rattle.std.proofs.lemmas.List.Folds.{list_any-append}
 use Rattle.act_tree.specs.Branches.{branch, no_branches, height, heights}
-use Rattle.act_tree.specs.Arena.{Laid, provision_in, below_in, name_in, branches_below, branch_from, is_hung, Stands, IsWhole}
+use Rattle.act_tree.specs.Arena.{Laid, provision_in, below_in, name_in, branches_below, branch_from, is_hung, number_twice, Stands, IsWhole}
 use Rattle.act_tree.specs.TakenOff.{with_above, with_below, IsEmptied}
 use Rattle.act_tree.proofs.Frames.{or_left, or_right, none_left, none_right, neither, put_down}
 use Rattle.act_tree.proofs.Standing.{Among, among}
@@ -108,6 +108,15 @@ module _ (at next : ℕ → Option Laid) (number : List ℕ → Option ℕ) (siz
       ]
     ]
 
+    still_once : (k : ℕ) → number_twice (below_in (next k)) ≡ false
+    still_once k = elim (cases_eq k 0) [
+      | inl it ↦ ap (λ j. number_twice (below_in (next j))) it ∙ ap (λ o. number_twice (below_in o)) root_now
+      | inr other ↦ elim (was k other) [
+        | inl off ↦ ap (λ o. number_twice (below_in o)) off ∙ ap number_twice (below_kept k (at k)) ∙ whole.once k
+        | inr same ↦ ap (λ o. number_twice (below_in o)) same ∙ whole.once k
+      ]
+    ]
+
     stands_now : Stands next number 0 0 (branch (provision_in (at 0)) no_branches)
     stands_now = put_down next number 0 0 (provision_in (at 0)) [] no_branches root_now whole.stands.1.0 tt
 
@@ -115,7 +124,7 @@ module _ (at next : ℕ → Option Laid) (number : List ℕ → Option ℕ) (siz
     some_size = let low : heights (branches_below size at (below_in (at 0))) < size = whole.low in omega arith
 
     pub whole_after : IsWhole next number size
-    whole_after = whole_from next number size _ no_branches whole.root stands_now some_size still_hung (λ v k to. still_named k ∙ whole.named v k to)
+    whole_after = whole_from next number size _ no_branches whole.root stands_now some_size still_hung still_once (λ v k to. still_named k ∙ whole.named v k to) whole.fits
 
     pub reads_after : branches_below size next (below_in (next 0)) ≡ no_branches
     reads_after = reads_from next number size _ no_branches stands_now some_size

@@ -1,17 +1,18 @@
 -- Laying down branches one after another, and a branch before those below it.
-use Rattle.std.proofs.Common.{◌≡◌, ◌∙◌, sym, ap, refl, ℕ, ◌==◌, ◌+◌, ◌<◌, ◌≤◌, max, true, false, ◌||◌, cond, List, [], ◌∷◌, ◌++◌, Option, Some, None, inl, inr, append_assoc, arith}
+use Rattle.std.proofs.Common.{◌≡◌, ◌∙◌, sym, ap, refl, ℕ, ◌==◌, ◌+◌, ◌<◌, ◌≤◌, ◌^◌, max, true, false, ◌||◌, cond, List, [], ◌∷◌, ◌++◌, Option, Some, None, inl, inr, append_assoc, arith}
 use Rattle.std.specs.List.{list_any}
 use Rattle.std.specs.Str.{bytes_eq}
-use Rattle.std.proofs.lemmas.Bool.{cases_eq, cases_lt, eq-eqb}
+use Rattle.std.proofs.lemmas.Bool.{cases_eq, cases_lt, or_cases, eq-eqb, eqb-true, ne_eqb}
 use Rattle.std.proofs.lemmas.List.{append-nil}
 use Rattle.std.proofs.lemmas.List.Folds.{list_any-append}
 use Rattle.act_tree.specs.Branches.{Branch, Branches, branch, no_branches, branches_of, height, heights}
 use Rattle.act_tree.specs.Provisions.{Provision}
 use Rattle.act_tree.specs.Wids.{wids, all_wids, is_among, one_twice}
-use Rattle.act_tree.specs.Arena.{Laid, provision_in, above_in, below_in, name_in, is_hung, Stands, StandAll}
+use Rattle.act_tree.specs.Arena.{Laid, provision_in, above_in, below_in, name_in, is_hung, number_twice, Stands, StandAll}
 use Rattle.act_tree.specs.Planted.{Named, Planted, PlantedAll}
 use Rattle.act_tree.proofs.Texts.{equal_text, other_text, text_cases}
-use Rattle.act_tree.proofs.Frames.{or_left, or_right, none_left, none_right, put_down, Stays, still_stand, still_hung, Apart, twice_apart}
+use Rattle.act_tree.proofs.Frames.{or_left, or_right, none_left, none_right, put_down, Stays, still_stand, still_hung, Apart, twice_apart, neither}
+use Rattle.act_tree.proofs.Once.{once-append}
 
 all_wids-push : (bs : List (Branch Provision)) (b : Branch Provision) → all_wids (branches_of (bs ++ b ∷ [])) ≡ all_wids (branches_of bs) ++ wids b
 all_wids-push [] b = append-nil (wids b)
@@ -36,6 +37,9 @@ some_below : (o : Option Laid) (k : ℕ) → list_any (λ i. i == k) (below_in o
 some_below None k found none = cc
 some_below (Some x) k found none = cc
 
+only_one : (id k : ℕ) → list_any (λ j. j == k) (id ∷ []) ≡ true → id ≡ k
+only_one id k found = elim (or_cases (id == k) false found) [ inl it ↦ eqb-true id k it | inr never ↦ absurd cc ]
+
 -- nothing is laid down yet
 pub planted_none : (at : ℕ → Option Laid) (number : List ℕ → Option ℕ) (first above : ℕ) → PlantedAll at at number number first first above [] no_branches
 planted_none at number first above = record {
@@ -43,7 +47,11 @@ planted_none at number first above = record {
   rises = omega arith;
   stands = λ apart. tt;
   tall = omega arith;
+  fits = λ fits. fits;
   hung = λ k from to. absurd (omega arith);
+  once = λ k from to. absurd (omega arith);
+  within = λ k found. absurd cc;
+  differ = refl;
 }
 
 module _ (at mid next : ℕ → Option Laid) (number between after : List ℕ → Option ℕ) (first half last above id : ℕ) (ids : List ℕ) (bs : List (Branch Provision)) (b : Branch Provision) where
@@ -74,6 +82,7 @@ module _ (at mid next : ℕ → Option Laid) (number between after : List ℕ �
             } in
             stand_all-push next after above id ids bs b (still_stand mid next between after (branches_of bs) above ids stays (some.stands apart.first)) (one.stands apart.second);
         tall = (let a : heights (branches_of bs) + first ≤ half = some.tall in let h : height b + half ≤ last = one.tall in omega (arith, heights-push bs b));
+        fits = λ _. one.fits;
         hung = λ k from to. elim (cases_lt k half) [
           | inl low ↦
               let same : next k ≡ mid k = one.grown.kept k low in
@@ -86,6 +95,22 @@ module _ (at mid next : ℕ → Option Laid) (number between after : List ℕ �
             | inr other ↦ inl (one.hung k high to other)
           ]
         ];
+        once = λ k from to. elim (cases_lt k half) [
+          | inl low ↦ ap (λ o. number_twice (below_in o)) (one.grown.kept k low) ∙ some.once k from low
+          | inr high ↦ one.once k high to
+        ];
+        within = λ k found. elim (or_cases (list_any (λ j. j == k) ids) (list_any (λ j. j == k) (id ∷ [])) (sym (list_any-append (λ j. j == k) ids (id ∷ [])) ∙ found)) [
+          | inl before ↦ (let in_some : (first ≤ k) × (k < half) = some.within k before in (omega arith, omega arith))
+          | inr it ↦
+              let here : id ≡ k = only_one id k it in
+              let place : id ≡ half = one.place in
+              (omega arith, omega arith)
+        ];
+        differ = once-append ids (id ∷ []) some.differ refl (λ j found. neither (id == j) false (ne_eqb id j (λ it.
+            let place : id ≡ half = one.place in
+            let in_some : (first ≤ j) × (j < half) = some.within j found in
+            let low : j < half = in_some.1 in
+            absurd (omega arith))) refl);
       }
 
 -- a provision is laid down with nothing below it, and noted
@@ -93,6 +118,7 @@ pub record Added (at next : ℕ → Option Laid) (number after : List ℕ → Op
   pub here : next first ≡ Some (record { provision = p; above = above; below = [] })
   pub before : (k : ℕ) → k < first → next k ≡ at k
   pub empty : (k : ℕ) → first ≤ k → at k ≡ None
+  pub fits : first + 1 ≤ 2 ^ 32
   pub noted : (w : List ℕ) → after w ≡ cond (bytes_eq p.wid w) (Some first) (number w)
 
 -- the numbers below one are set
@@ -159,8 +185,13 @@ module _ (at one two next : ℕ → Option Laid) (number noted grown after : Lis
             } in
             put_down next after above first p ids bs here leads (still_stand two next grown after bs first ids stays (some.stands (none_right (is_among p.wid (all_wids bs)) _ told)));
         tall = (let h : heights bs + (first + 1) ≤ last = some.tall in omega arith);
+        fits = some.fits added.fits;
         hung = λ k from to other. elim (some.hung k (omega arith) to) [
           | inl hung ↦ still_hung two next grown after k (listed.others k other) (lists k) hung
           | inr child ↦ hung_by next k first (next k) (ap above_in (listed.others k other) ∙ child.1) (ap (λ o. list_any (λ i. i == k) (below_in o)) here ∙ child.0)
+        ];
+        once = λ k from to. elim (cases_eq k first) [
+          | inl it ↦ ap (λ j. number_twice (below_in (next j))) it ∙ ap (λ o. number_twice (below_in o)) here ∙ some.differ
+          | inr other ↦ ap (λ o. number_twice (below_in o)) (listed.others k other) ∙ some.once k (omega arith) to
         ];
       }

@@ -1,5 +1,5 @@
 -- Laying down in the arena itself, with its slots and its index.
-use Rattle.std.proofs.Common.{◌≡◌, ◌∙◌, sym, ap, subst, ℕ, ◌+◌, ◌<◌, ◌≤◌, cond, List, [], ◌∷◌, ◌++◌, length, get_or, slice_set, Some, arith, length-append, length-set, Vec, Global}
+use Rattle.std.proofs.Common.{◌≡◌, ◌∙◌, sym, ap, subst, ℕ, ◌+◌, ◌<◌, ◌≤◌, ◌^◌, cond, List, [], ◌∷◌, ◌++◌, length, get_or, slice_set, Some, arith, length-append, length-set, Vec, Global}
 use Rattle.std.specs.Str.{bytes_eq}
 use Rattle.std.proofs.lemmas.Option.{slice_get-get_or}
 use Rattle.act_tree.specs.declared.arena.Slot.{Slot}
@@ -22,7 +22,7 @@ same_default ss i s within =
     let one : Some (get_or ss i s) ≡ Some (get_or ss i (get_or ss i s)) = sym (slice_get-get_or ss i s within) ∙ slice_get-get_or ss i (get_or ss i s) within in
     cc
 
-listed : (old new : Arena) (id : ℕ) (below : Vec ℕ Global) (s : Slot) → id < size old → IsListed old new id below → Listed (at old) (at new) (number old) (number new) id below.items
+pub listed : (old new : Arena) (id : ℕ) (below : Vec ℕ Global) (s : Slot) → id < size old → IsListed old new id below → Listed (at old) (at new) (number old) (number new) id below.items
 listed old new id below s within is =
     let x : Slot = get_or old.slots.items id s in
     let now : new.slots.items ≡ slice_set old.slots.items id (record x { below = below }) = is.slots x (same_default old.slots.items id s within) in
@@ -42,8 +42,8 @@ sizes_listed old new id below s within is =
 -- a slot is added, branches are laid down below it, and their numbers are set there
 pub laid_node : (old one two new : Arena) (s : Slot) (id : ℕ) (below : Vec ℕ Global) (bs : Branches Provision)
     → id ≡ size old → one.slots.items ≡ old.slots.items ++ s ∷ [] → ((w : List ℕ) → number one w ≡ cond (bytes_eq s.wid w) (Some (size old)) (number old w)) → s.below.items ≡ []
-    → AreLaid one two id below.items bs → IsListed two new id below → IsLaid old new s.above id (branch (provision_of s) bs)
-laid_node old one two new s id below bs place slots noted bare some is =
+    → AreLaid one two id below.items bs → IsListed two new id below → size one ≤ 2 ^ 32 → IsLaid old new s.above id (branch (provision_of s) bs)
+laid_node old one two new s id below bs place slots noted bare some is fits =
     let grown : size one ≡ size old + 1 = ap length slots ∙ length-append old.slots.items (s ∷ []) in
     let rises : size one ≤ size two = some.rises in
     let within : id < size two = omega arith in
@@ -52,6 +52,7 @@ laid_node old one two new s id below bs place slots noted bare some is =
       here = ap (λ ss. laid ss (size old)) slots ∙ laid_last old.slots.items s ∙ ap (λ ks. Some (record { provision = provision_of s; above = s.above; below = ks })) bare;
       before = λ k low. ap (λ ss. laid ss k) slots ∙ laid_before old.slots.items s k low;
       empty = λ k high. laid_past old.slots.items k high;
+      fits = omega arith;
       noted = noted;
     } in
     let P : ℕ → Type 0 = λ i. PlantedAll (at one) (at two) (number one) (number two) i (size two) id below.items bs in

@@ -1,21 +1,22 @@
 -- A number is taken off: the text is without the provision of its wId.
-use Rattle.std.proofs.Common.{◌≡◌, ◌∙◌, sym, ap, refl, subst, ℕ, ◌<◌, ◌≤◌, ◌==◌, max, Bool, true, false, not, cond, ◌||◌, List, [], ◌∷◌, filter, Option, Some, None, inl, inr, arith}
+use Rattle.std.proofs.Common.{◌≡◌, ◌∙◌, sym, ap, refl, subst, ℕ, ◌<◌, ◌≤◌, ◌^◌, ◌==◌, max, Bool, true, false, not, cond, ◌||◌, List, [], ◌∷◌, filter, Option, Some, None, inl, inr, arith}
 use Rattle.std.specs.List.{list_any}
 use Rattle.std.proofs.lemmas.Bool.{cases_eq, or_cases, eq-eqb, ne_eqb}
 use Rattle.act_tree.specs.Branches.{Branch, Branches, branch, no_branches, more_branches, height, heights}
 use Rattle.act_tree.specs.Provisions.{Provision}
 use Rattle.act_tree.specs.Changes.{has_wid, without, inside_without}
-use Rattle.act_tree.specs.Arena.{Laid, provision_in, above_in, below_in, name_in, branches_below, branch_from, is_hung, root_provision, Stands, StandAll, IsWhole}
+use Rattle.act_tree.specs.Arena.{Laid, provision_in, above_in, below_in, name_in, branches_below, branch_from, is_hung, number_twice, root_provision, Stands, StandAll, IsWhole}
 use Rattle.act_tree.specs.Planted.{Named}
 use Rattle.act_tree.specs.TakenOff.{with_above, with_below, IsTakenOff}
 use Rattle.act_tree.proofs.Texts.{equal_text, other_text}
 use Rattle.act_tree.proofs.Frames.{or_left, or_right, put_down}
+use Rattle.act_tree.proofs.Once.{once-filter}
 use Rattle.act_tree.proofs.Standing.{branches_are, stands_below}
 
 -- an arena in which this text stands is whole, and this text is what is read from it
 pub whole_from : (at : ℕ → Option Laid) (number : List ℕ → Option ℕ) (size : ℕ) (p : Provision) (body : Branches Provision) → p ≡ root_provision → Stands at number 0 0 (branch p body) → heights body < size
-    → ((k : ℕ) → is_hung at k (at k) ≡ true) → Named at number → IsWhole at number size
-whole_from at number size p body root s low hung named =
+    → ((k : ℕ) → is_hung at k (at k) ≡ true) → ((k : ℕ) → number_twice (below_in (at k)) ≡ false) → Named at number → size ≤ 2 ^ 32 → IsWhole at number size
+whole_from at number size p body root s low hung once named fits =
     let same : branches_below size at (below_in (at 0)) ≡ body = branches_are at number body size 0 (below_in (at 0)) s.1.1 (omega arith) in
     let own : provision_in (at 0) ≡ p = ap provision_in s.0 in
     let P : Branches Provision → Type 0 = λ bs. Stands at number 0 0 (branch p bs) in
@@ -24,8 +25,10 @@ whole_from at number size p body root s low hung named =
       stands = subst Q (sym own) (subst P (sym same) s);
       root = own ∙ root;
       hung = hung;
+      once = once;
       low = (let equal : heights (branches_below size at (below_in (at 0))) ≡ heights body = ap heights same in omega arith);
       named = named;
+      fits = fits;
     }
 
 pub reads_from : (at : ℕ → Option Laid) (number : List ℕ → Option ℕ) (size : ℕ) (p : Provision) (body : Branches Provision) → Stands at number 0 0 (branch p body) → heights body < size → branches_below size at (below_in (at 0)) ≡ body
@@ -44,7 +47,7 @@ mutual
       ]
 
 -- in a list without one number the others still are
-still_listed : (i k : ℕ) (ks : List ℕ) → (k ≡ i → ⊥) → list_any (λ j. j == k) ks ≡ true → list_any (λ j. j == k) (filter (λ j. not (j == i)) ks) ≡ true
+pub still_listed : (i k : ℕ) (ks : List ℕ) → (k ≡ i → ⊥) → list_any (λ j. j == k) ks ≡ true → list_any (λ j. j == k) (filter (λ j. not (j == i)) ks) ≡ true
 still_listed i k [] other found = found
 still_listed i k (j ∷ ks) other found =
     elim (cases_eq j i) [
@@ -96,6 +99,10 @@ below_with_below ks o x is = ap (λ p. below_in (with_below ks p)) is
 listed_there : (ks : List ℕ) (o : Option Laid) (k : ℕ) → list_any (λ m. m == k) (below_in o) ≡ true → list_any (λ m. m == k) ks ≡ true → list_any (λ m. m == k) (below_in (with_below ks o)) ≡ true
 listed_there ks None k found kept = absurd cc
 listed_there ks (Some x) k found kept = kept
+
+pub once_with_below : (ks : List ℕ) (o : Option Laid) → number_twice ks ≡ false → number_twice (below_in (with_below ks o)) ≡ false
+once_with_below ks None once = refl
+once_with_below ks (Some x) once = once
 
 pub record Removes (at next : ℕ → Option Laid) (number : List ℕ → Option ℕ) (i : ℕ) (w : List ℕ) : Type 0 where
   pub taken : IsTakenOff at next i
@@ -213,6 +220,18 @@ module _ (at next : ℕ → Option Laid) (number : List ℕ → Option ℕ) (i :
         ]
       ]
 
+  still_once : ((k : ℕ) → number_twice (below_in (at k)) ≡ false) → (k : ℕ) → number_twice (below_in (next k)) ≡ false
+  still_once once k =
+      elim (cases_eq k i) [
+        | inl it ↦ ap (λ j. number_twice (below_in (next j))) it ∙ ap (λ o. number_twice (below_in o)) r.taken.here ∙ ap number_twice (below_kept i (at i)) ∙ once i
+        | inr other ↦ elim (cases_eq k (above_in (at i))) [
+          | inl over ↦
+              ap (λ j. number_twice (below_in (next j))) over ∙ ap (λ o. number_twice (below_in o)) r.taken.over
+              ∙ once_with_below (filter (λ j. not (j == i)) (below_in (at (above_in (at i))))) (at (above_in (at i))) (once-filter (λ j. not (j == i)) (below_in (at (above_in (at i)))) (once (above_in (at i))))
+          | inr far ↦ ap (λ o. number_twice (below_in o)) (r.taken.others k other far) ∙ once k
+        ]
+      ]
+
   root_stands : (b : Branch Provision) (p : Provision) (bs : Branches Provision) → b ≡ branch p bs → inside_without w b ≡ branch p (without w bs)
   root_stands b p bs is = ap (inside_without w) is
 
@@ -225,7 +244,7 @@ module _ (at next : ℕ → Option Laid) (number : List ℕ → Option ℕ) (i :
 
     -- the arena is whole again
     pub whole_after : IsWhole next number size
-    whole_after = whole_from next number size _ _ whole.root stands_after lower (still_hung whole.hung) (λ v k to. still_named k ∙ whole.named v k to)
+    whole_after = whole_from next number size _ _ whole.root stands_after lower (still_hung whole.hung) (still_once whole.once) (λ v k to. still_named k ∙ whole.named v k to) whole.fits
 
     -- and its text is without the provision
     pub reads_after : branches_below size next (below_in (next 0)) ≡ without w (branches_below size at (below_in (at 0)))

@@ -23,7 +23,7 @@ pub record Left (old new : Arena) (wid : List ℕ) : Type 0 where
   pub reads : branches_below (size new) (at new) (below_in (at new 0)) ≡ removed wid (branches_below (size old) (at old) (below_in (at old 0)))
   pub says : (k : ℕ) → provision_in (at new k) ≡ provision_in (at old k)
 
-same_numbers : (old new : Arena) → new.numbers ≡ old.numbers → number old ≡ number new
+pub same_numbers : (old new : Arena) → new.numbers ≡ old.numbers → number old ≡ number new
 same_numbers old new same = sym (ap (λ ns. number (record old { numbers = ns })) same)
 
 not_own : (i : ℕ) (o : Option Laid) (x : Laid) → o ≡ Some x → hangs_on i o ≡ true → above_in o ≡ i → ⊥
@@ -40,10 +40,10 @@ above_climbs at size i climbed other some =
           (parts.0, climbs_more (size - 1) size at (above_in (at i)) (omega arith) parts.1)
     ]
 
-leads_there : (at : ℕ → Option Laid) (number : List ℕ → Option ℕ) (b : Branch Provision) (u i : ℕ) → Stands at number u i b → number (provision_in (at i)).wid ≡ Some i
+pub leads_there : (at : ℕ → Option Laid) (number : List ℕ → Option ℕ) (b : Branch Provision) (u i : ℕ) → Stands at number u i b → number (provision_in (at i)).wid ≡ Some i
 leads_there at number (branch p below) u i s = ap (λ o. number (provision_in o).wid) s.0 ∙ s.1.0
 
-named_there : (o : Option Laid) (x : Laid) → o ≡ Some x → name_in o ≡ Some (provision_in o).wid
+pub named_there : (o : Option Laid) (x : Laid) → o ≡ Some x → name_in o ≡ Some (provision_in o).wid
 named_there None x is = absurd cc
 named_there (Some y) x is = refl
 

@@ -15,6 +15,12 @@ pub mod Seen
 pub mod Wids
 pub mod Planted
 pub mod TakenOff
+pub mod Restated
+pub mod Siblings
+pub mod Grafted
+pub mod Moved
+pub mod Parted
 pub mod Faults
 pub mod Surveys
 pub mod EidsOfNodes
+pub mod Brought

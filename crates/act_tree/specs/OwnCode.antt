@@ -1,5 +1,5 @@
 -- The code of what a node says of itself.
-use Rattle.std.specs.Prelude.{ℕ, List, refl, unwrap_or, slice_get, ◌≡◌}
+use Rattle.std.specs.Prelude.{ℕ, List, refl}
 use Rattle.std.specs.Coded.{Coded, code_by, coded×, coded_ℕ, coded_list}
 use Rattle.eid_paths.specs.declared.element.Element.{Element}
 use Rattle.eid_paths.specs.ElementCode.{element_code}

@@ -14,3 +14,7 @@ pub record TreeValue : Type 0 where
 -- one more change; the count stands still at 2^64 - 1
 abbrev pub one_more : ℕ → ℕ
 one_more changes = min (changes + 1) (2 ^ 64 - 1)
+
+-- a tree after a change that left it this text
+abbrev pub changed_once : TreeValue → Branches Provision → TreeValue
+changed_once tree body = record tree { body = body; changes = one_more tree.changes }

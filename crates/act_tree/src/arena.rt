@@ -1,7 +1,7 @@
 //! Arena: the provisions of a tree in slots, each with the number of the one above it and the numbers of those below it,
 //! and an index that leads from a wId to a number. Slots are added and never taken away.
 
-ghost use Rattle.std.specs.Prelude.{◌≡◌, ◌==◌, not, filter, ℕ, List, [], ◌∷◌, ◌++◌, ◌<◌, IfOk, OnOk, Some, None, length, slice_set, slice_index_or, if◌then◌else◌};
+ghost use Rattle.std.specs.Prelude.{◌≡◌, ◌==◌, not, filter, ℕ, List, [], ◌∷◌, ◌++◌, ◌<◌, ◌≤◌, ◌^◌, IfOk, OnOk, OnErr, Some, None, length, slice_set, slice_index_or, if◌then◌else◌};
 ghost use Rattle.std.specs.Str.{bytes_eq};
 ghost use Rattle.indexmap.specs.IndexMap.{get_by};
 
@@ -48,8 +48,9 @@ pub fn note(
     wid: &str,
     id: NodeId,
 ) -> Result<(), Memory>
-    ensures { OnOk result ((w : List ℕ) → get_by (λ k. bytes_eq w k.items) numbers.new
+    ensures noted { OnOk result ((w : List ℕ) → get_by (λ k. bytes_eq w k.items) numbers.new
         ≡ (if bytes_eq wid.now w then Some id else get_by (λ k. bytes_eq w k.items) numbers.old)) }
+    ensures kept { OnErr result ((w : List ℕ) → get_by (λ k. bytes_eq w k.items) numbers.new ≡ get_by (λ k. bytes_eq w k.items) numbers.old) }
 {
     numbers.insert(wid.as_bytes().to_vec(alloc)?, id)?;
     Ok(())
@@ -109,14 +110,18 @@ impl Arena {
         }
     }
 
-    /// Adds a provision, and lets the index lead to it.
+    /// Adds a provision, and lets the index lead to it. `Err`: there was not enough memory, and nothing was added.
     pub fn add(&mut self, alloc: Global, slot: Slot) -> Result<NodeId, Memory>
         ensures id { IfOk result (λ id. id ≡ length self.old.slots.items) }
         ensures slots { OnOk result (self.new.slots.items ≡ self.old.slots.items ++ slot ∷ []) }
         ensures numbers { OnOk result ((w : List ℕ) → number self.new w
             ≡ (if bytes_eq slot.wid w then Some (length self.old.slots.items) else number self.old w)) }
+        ensures fits { OnOk result (size self.new ≤ 2 ^ 32) }
+        ensures slots_kept { OnErr result (self.new.slots.items ≡ self.old.slots.items) }
+        ensures numbers_kept { OnErr result ((w : List ℕ) → number self.new w ≡ number self.old w) }
     {
         let id = NodeId::of_place(self.slots.len()).ok_or(Memory)?;
+        self.slots.reserve(1)?;
         note(alloc, &mut self.numbers, slot.wid.as_str(), id)?;
         self.slots.push(slot)?;
         Ok(id)
@@ -168,8 +173,8 @@ impl Arena {
         false
     }
 
-    // Sets the number right above one.
-    fn set_above(&mut self, id: NodeId, above: NodeId)
+    /// Sets the number right above one.
+    pub fn set_above(&mut self, id: NodeId, above: NodeId)
         requires { id < size self.old }
         ensures numbers { self.new.numbers ≡ self.old.numbers }
         ensures size { size self.new ≡ size self.old }

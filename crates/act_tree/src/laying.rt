@@ -1,13 +1,14 @@
 //! Laying down: the nodes that an act brings become provisions, whose wIds are the eIds that they have there.
 
-ghost use Rattle.std.specs.Prelude.{◌≡◌, [], ◌∷◌, IfOk, option_map};
+ghost use Rattle.std.specs.Prelude.{◌≡◌, [], ◌∷◌, IfOk, OnErr, option_map};
 ghost use Rattle.act_tree.specs.Arena.{root_provision};
 ghost use Rattle.act_tree.specs.Branches.{branch, branches_of};
 ghost use Rattle.act_tree.specs.Eids as spec;
 ghost use Rattle.act_tree.specs.Eids.{all_enacted};
-ghost use Rattle.act_tree.specs.Planted.{IsLaid, AreLaid};
+ghost use Rattle.act_tree.specs.Planted.{HasGrown, IsLaid, AreLaid};
 ghost use Rattle.act_tree.specs.Slots.{provision_of};
 ghost use Rattle.act_tree.specs.Specs.{own_of};
+ghost use Rattle.act_tree.specs.Wids.{wids, all_wids};
 
 use crate::arena::{Arena, Slot};
 use crate::{NodeId, NodeSpec, Nodes, Refs, eid_below};
@@ -66,7 +67,8 @@ pub fn root_slot(alloc: Global) -> Result<Slot, Memory>
 }
 
 /// Lays down a provision, and the nodes that stand below it. Their eIds are those below the eId `wid`, or right below
-/// the root where that is `None`.
+/// the root where that is `None`. `Err`: there was not enough memory; some of them may have been laid down behind what
+/// the arena had.
 #[cycle(laying)]
 pub fn lay(
     alloc: Global,
@@ -77,8 +79,10 @@ pub fn lay(
     children: &Nodes,
 ) -> Result<NodeId, Memory>
     requires { slot.below.items ≡ [] }
-    ensures { IfOk result (λ id. IsLaid arena.old arena.new slot.above id
+    ensures laid { IfOk result (λ id. IsLaid arena.old arena.new slot.above id
         (branch (provision_of slot) (all_enacted numbering (option_map (λ s. s.now) wid.entry) (branches_of children.now)))) }
+    ensures kept { OnErr result (HasGrown arena.old arena.new
+        (wids (branch (provision_of slot) (all_enacted numbering (option_map (λ s. s.now) wid.entry) (branches_of children.now))))) }
 {
     let id = arena.add(alloc, slot)?;
     let below = lay_all(alloc, arena, numbering, id, wid, children)?;
@@ -86,9 +90,10 @@ pub fn lay(
     Ok(id)
 }
 
-// Lays down nodes below the number `above`, which has the wId `wid`.
+/// Lays down nodes below the number `above`, which has the wId `wid`. `Err`: there was not enough memory; some of them may
+/// have been laid down behind what the arena had.
 #[cycle(laying)]
-fn lay_all(
+pub fn lay_all(
     alloc: Global,
     arena: &mut Arena,
     numbering: Numbering,
@@ -96,8 +101,10 @@ fn lay_all(
     wid: Option<&str>,
     nodes: &Nodes,
 ) -> Result<Vec<NodeId>, Memory>
-    ensures { IfOk result (λ ids. AreLaid arena.old arena.new above ids.items
+    ensures laid { IfOk result (λ ids. AreLaid arena.old arena.new above ids.items
         (all_enacted numbering (option_map (λ s. s.now) wid.entry) (branches_of nodes.now))) }
+    ensures kept { OnErr result (HasGrown arena.old arena.new
+        (all_wids (all_enacted numbering (option_map (λ s. s.now) wid.entry) (branches_of nodes.now)))) }
 {
     let mut ids = Vec::with_capacity(alloc, nodes.items.len())?;
     for node in &nodes.items {

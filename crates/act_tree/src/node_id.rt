@@ -1,6 +1,6 @@
 //! NodeId: a clause sees one as its number, which is 0 at the root.
 
-ghost use Rattle.std.specs.Prelude.{◌≡◌, IfSome};
+ghost use Rattle.std.specs.Prelude.{◌≡◌, ◌<◌, ◌^◌, ◌↔◌, IfSome, is_some, true};
 
 use std::marker::Model;
 
@@ -30,7 +30,8 @@ impl NodeId {
 
     /// The id of a place among slots. `None`: no id is as large.
     pub(crate) fn of_place(place: usize) -> Option<NodeId>
-        ensures { IfSome result (λ id. id ≡ place) }
+        ensures id { IfSome result (λ id. id ≡ place) }
+        ensures fits { is_some result ≡ true ↔ place < 2 ^ 32 }
     {
         match u32::try_from(place) {
             Ok(number) => Some(NodeId { number }),

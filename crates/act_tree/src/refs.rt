@@ -56,4 +56,15 @@ impl Refs {
         }
         Ok(Refs { items })
     }
+
+    /// These refs, and behind them others.
+    pub fn joined(&self, alloc: Global, more: &Refs) -> Result<Refs, Memory>
+        ensures { IfOk result (λ refs. refs ≡ self.now ++ more.now) }
+    {
+        let mut refs = self.copy(alloc)?;
+        for iri in more.as_slice() {
+            refs.push(iri.copy()?)?;
+        }
+        Ok(refs)
+    }
 }

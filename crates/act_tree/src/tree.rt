@@ -7,12 +7,13 @@ ghost use Rattle.act_tree.specs.Slots.{at, number, size};
 
 use crate::arena::{Arena, Slot};
 use crate::eids::eid_of_number;
+use crate::grafting::{bringer, place_in};
 use crate::laying::{lay, root_slot};
 use crate::survey::Survey;
 use crate::surveying::fault_of;
 use crate::walks::{count, find_eid, survey};
 use crate::{BuildFail, BuildFault, Cause, NodeId, Nodes, Refs};
-use desk_base::{Memory, Steps, Text};
+use desk_base::{Id, Memory, Steps, Text};
 use eid_paths::{Element, Num, Numbering};
 use std::alloc::Global;
 use std::sync::ledger::Ledger;
@@ -80,18 +81,24 @@ fn view_of(slot: &Slot, is_root: bool) -> NodeView<'_>
 }
 
 impl Tree {
-    ghost use Rattle.std.specs.Prelude.{◌≡◌, ◌==◌, ◌+◌, ℕ, ◌-◌, ◌^◌, min, true, false, IfOk, OnOk, IfErr, IfSome, is_some, map, option_map, None, Some, if◌then◌else◌};
+    ghost use Rattle.std.specs.Prelude.{◌≡◌, ◌==◌, ◌+◌, ℕ, ◌-◌, ◌^◌, min, true, false, IfOk, OnOk, OnErr, IfErr, IfSome, is_some, map, length, ◌≤◌, ◌<◌, option_map, None, Some, if◌then◌else◌};
     ghost use Rattle.std.specs.List.{All};
     ghost use Rattle.std.specs.Str.{bytes_eq};
-    ghost use Rattle.act_tree.specs.Branches.{branches_of, counts};
+    ghost use Rattle.act_tree.specs.Branches.{Branches, branches_of, counts};
+    ghost use Rattle.act_tree.specs.Provisions.{Provision};
     ghost use Rattle.act_tree.specs.Faults.{first_fault, first_cause, all_owns, all_eids, FailsBy};
     ghost use Rattle.act_tree.specs.Slots.{provision_of};
-    ghost use Rattle.act_tree.specs.Changes.{is_in, removed};
+    ghost use Rattle.act_tree.specs.Brought.{brought, has_brought, second_part};
+    ghost use Rattle.act_tree.specs.Changes.{after, before, changed, grafted, is_in, merged, next_of, parted, removed, renumbered, substituted, with_content};
+    ghost use Rattle.act_tree.specs.declared.surveying.TheConstants.{NONE_THROUGHOUT};
     ghost use Rattle.act_tree.specs.Eids.{all_enacted};
     ghost use Rattle.act_tree.specs.EidsOfNodes.{eid_at, IsNodeOf};
-    ghost use Rattle.act_tree.specs.Trees.{one_more};
+    ghost use Rattle.act_tree.specs.Trees.{one_more, changed_once};
     ghost use Rattle.act_tree.specs.Wids.{all_wids, one_twice, is_among};
     ghost use Rattle.act_tree.specs.Seen.{tree_view, has_node, provision_at, children_at, branch_at, below_at};
+    ghost use Rattle.std.specs.Prelude.{◌↔◌, [], ◌∷◌, drop};
+    ghost use Rattle.act_tree.specs.Arena.{above_in};
+    ghost use Rattle.act_tree.specs.Changes.{found, root_wid};
 
     /// The tree of an act as enacted: the wId of each provision is the eId that it has there. `Err`: the first fault, or
     /// want of memory.
@@ -156,6 +163,8 @@ impl Tree {
         ensures found { is_some result ≡ is_in wid.now (tree_view self.now).body }
         ensures wid { IfSome result (λ id. (provision_at self.now id).wid ≡ wid.now) }
         ensures node { IfSome result (λ id. has_node self.now id ≡ true) }
+        ensures root { IfSome result (λ id. (id ≡ 0) ↔ (wid.now ≡ root_wid)) }
+        ensures branch { IfSome result (λ id. (id ≡ 0 → ⊥) → found wid.now (tree_view self.now).body ≡ Some (branch_at self.now id)) }
     {
         let id = *self.arena.numbers.get(wid)?;
         if self.arena.climbs(id) {
@@ -163,6 +172,46 @@ impl Tree {
         } else {
             None
         }
+    }
+
+    /// The next sibling of a node that is not the root. `None`: it is the last.
+    pub fn next(&self, id: NodeId) -> Option<NodeId>
+        requires node { has_node self.now id ≡ true }
+        requires provision { id ≡ 0 → ⊥ }
+        ensures branch { option_map (branch_at self.now) result ≡ next_of (provision_at self.now id).wid (tree_view self.now).body }
+        ensures node { IfSome result (λ next. has_node self.now next ≡ true) }
+        ensures provision { IfSome result (λ next. next ≡ 0 → ⊥) }
+    {
+        self.arena.next(id)
+    }
+
+    /// Gives a node that is not the root another content. It is one change, and needs no memory.
+    pub fn set_content<L: Ledger>(&mut self, id: NodeId, content: Text, steps: &mut Steps<L>)
+        requires node { has_node self.old id ≡ true }
+        requires provision { id ≡ 0 → ⊥ }
+        ensures tree { tree_view self.new ≡ changed_once (tree_view self.old) (changed (with_content content) (provision_at self.old id).wid (tree_view self.old).body) }
+        ensures nodes { (k : ℕ) → has_node self.new k ≡ has_node self.old k }
+        ensures wids { (k : ℕ) → (provision_at self.new k).wid ≡ (provision_at self.old k).wid }
+        ensures step { steps.new ≡ steps.old + 1 }
+    {
+        steps.tick();
+        self.put_content(id, content);
+        self.count_change();
+    }
+
+    /// Gives nodes that are not the root other nums, each the first that pairs name for it. It is one change, and needs no
+    /// memory.
+    pub fn set_nums<L: Ledger>(&mut self, pairs: &[(NodeId, Num)], steps: &mut Steps<L>)
+        requires nodes { All (λ pair. has_node self.old pair.0 ≡ true) pairs.now }
+        requires provisions { All (λ pair. pair.0 ≡ 0 → ⊥) pairs.now }
+        ensures tree { tree_view self.new ≡ changed_once (tree_view self.old) (renumbered (map (λ pair. ((provision_at self.old pair.0).wid, pair.1)) pairs.now) (tree_view self.old).body) }
+        ensures nodes { (k : ℕ) → has_node self.new k ≡ has_node self.old k }
+        ensures wids { (k : ℕ) → (provision_at self.new k).wid ≡ (provision_at self.old k).wid }
+        ensures step { steps.new ≡ steps.old + 1 }
+    {
+        steps.tick();
+        self.put_nums(pairs);
+        self.count_change();
     }
 
     /// The slot of a node.
@@ -227,11 +276,34 @@ impl Tree {
         eid_of_number(alloc, &self.arena, self.numbering, id)
     }
 
-    /// The node of an eId; where more have it, one of them. `None`: no node has it. The root has no eId.
+    // The node whose wId this is, if it is also its eId.
+    fn named(&self, alloc: Global, eid: &str) -> Result<Option<NodeId>, Memory>
+        ensures { IfOk result (λ o. IfSome o (IsNodeOf self.now eid.now)) }
+    {
+        let Some(id) = self.find(eid.as_bytes()) else {
+            return Ok(None);
+        };
+        if id.place() == 0 {
+            return Ok(None);
+        }
+        let own = self.eid_of(alloc, id)?;
+        if own.as_str() == eid {
+            Ok(Some(id))
+        } else {
+            Ok(None)
+        }
+    }
+
+    /// The node of an eId; where more have it, one of them. `None`: no node has it. The root has no eId. Where the eId is also
+    /// the wId, as in an act as enacted, it is one look-up and the way up from there; else all nodes are searched.
     pub fn find_eid(&self, alloc: Global, eid: &str) -> Result<Option<NodeId>, Memory>
         ensures found { IfOk result (λ o. is_some o ≡ is_among eid.now (all_eids (tree_view self.now).numbering None (all_owns (tree_view self.now).body))) }
         ensures node { IfOk result (λ o. IfSome o (IsNodeOf self.now eid.now)) }
     {
+        let named = self.named(alloc, eid)?;
+        if named.is_some() {
+            return Ok(named);
+        }
         let found = find_eid(alloc, self, None, eid, self.children(self.root()))?;
         Ok(found)
     }
@@ -280,10 +352,115 @@ impl Tree {
         self.count_change();
     }
 
+    /// Puts nodes in the place of a node and of all that stands beneath it; of the root, in the place of what stands beneath
+    /// it. They get the wIds of the modification `by`. `Err`: there was not enough memory, and the tree is as it was.
+    pub fn replace<L: Ledger>(
+        &mut self,
+        alloc: Global,
+        id: NodeId,
+        nodes: &Nodes,
+        by: Id,
+        steps: &mut Steps<L>,
+    ) -> Result<(), Memory>
+        requires node { has_node self.old id ≡ true }
+        requires payload { first_fault NONE_THROUGHOUT (branches_of nodes.now) ≡ None }
+        requires fresh { has_brought by (tree_view self.old).body ≡ false }
+        ensures tree { OnOk result (tree_view self.new ≡ changed_once (tree_view self.old) (substituted (provision_at self.old id).wid (brought by (branches_of nodes.now)) (tree_view self.old).body)) }
+        ensures kept { OnErr result (tree_view self.new ≡ tree_view self.old) }
+        ensures step { steps.new ≡ steps.old + 1 }
+    {
+        steps.tick();
+        if id.place() == 0 {
+            self.put_all(alloc, nodes, by)?;
+        } else {
+            self.put_instead(alloc, id, nodes, by)?;
+        }
+        self.count_change();
+        Ok(())
+    }
+
+    /// Puts nodes among the children of a node, behind the first so many. They get the wIds of the modification `by`.
+    /// `Err`: there was not enough memory, and the tree is as it was.
+    pub fn graft<L: Ledger>(
+        &mut self,
+        alloc: Global,
+        parent: NodeId,
+        place: usize,
+        nodes: &Nodes,
+        by: Id,
+        steps: &mut Steps<L>,
+    ) -> Result<(), Memory>
+        requires node { has_node self.old parent ≡ true }
+        requires place { place ≤ length (children_at self.old parent) }
+        requires payload { first_fault NONE_THROUGHOUT (branches_of nodes.now) ≡ None }
+        requires fresh { has_brought by (tree_view self.old).body ≡ false }
+        ensures tree { OnOk result (tree_view self.new ≡ changed_once (tree_view self.old) (grafted (provision_at self.old parent).wid place (brought by (branches_of nodes.now)) (tree_view self.old).body)) }
+        ensures kept { OnErr result (tree_view self.new ≡ tree_view self.old) }
+        ensures step { steps.new ≡ steps.old + 1 }
+    {
+        steps.tick();
+        self.put_nodes(alloc, parent, place, nodes, by)?;
+        self.count_change();
+        Ok(())
+    }
+
+    /// Parts a node: it keeps its first so many children under the content `head`, and right behind it stands a node of the
+    /// same element with the others, and with the content `tail`, the num and the heading, but no refs. That node gets the
+    /// wId of the modification `by`. `Err`: there was not enough memory, and the tree is as it was.
+    pub fn cut_node<L: Ledger>(
+        &mut self,
+        alloc: Global,
+        id: NodeId,
+        first_child: usize,
+        head: Text,
+        tail: Text,
+        num: Num,
+        heading: Text,
+        by: Id,
+        steps: &mut Steps<L>,
+    ) -> Result<(), Memory>
+        requires node { has_node self.old id ≡ true }
+        requires provision { id ≡ 0 → ⊥ }
+        requires place { first_child ≤ length (children_at self.old id) }
+        requires fresh { has_brought by (tree_view self.old).body ≡ false }
+        ensures tree { OnOk result (tree_view self.new ≡ changed_once (tree_view self.old) (changed (parted first_child head (second_part by (provision_at self.old id).own.element num heading tail)) (provision_at self.old id).wid (tree_view self.old).body)) }
+        ensures kept { OnErr result (tree_view self.new ≡ tree_view self.old) }
+        ensures step { steps.new ≡ steps.old + 1 }
+    {
+        steps.tick();
+        let arena = &self.arena;
+        let second = arena.second_part(alloc, id, first_child, tail, num, heading, by)?;
+        self.part(alloc, id, first_child, head, second)?;
+        self.count_change();
+        Ok(())
+    }
+
+    /// Takes the next sibling of a node into it: the node has the content, and its refs and children are followed by those of
+    /// the sibling, which goes. `Err`: there was not enough memory, and the tree is as it was.
+    pub fn merge_next<L: Ledger>(
+        &mut self,
+        alloc: Global,
+        id: NodeId,
+        content: Text,
+        steps: &mut Steps<L>,
+    ) -> Result<(), Memory>
+        requires node { has_node self.old id ≡ true }
+        requires next { is_some (next_of (provision_at self.old id).wid (tree_view self.old).body) ≡ true }
+        ensures tree { OnOk result (tree_view self.new ≡ changed_once (tree_view self.old) (changed (merged content) (provision_at self.old id).wid (tree_view self.old).body)) }
+        ensures kept { OnErr result (tree_view self.new ≡ tree_view self.old) }
+        ensures step { steps.new ≡ steps.old + 1 }
+    {
+        steps.tick();
+        self.take_next_in(alloc, id, content)?;
+        self.count_change();
+        Ok(())
+    }
+
     // Counts a change.
-    #[tactic(auto, unfolding(crate::specs::Seen::tree_view, crate::specs::Seen::provision_at))]
+    #[tactic(auto, unfolding(crate::specs::Seen::tree_view, crate::specs::Seen::has_node, crate::specs::Seen::provision_at))]
     fn count_change(&mut self)
         ensures tree { tree_view self.new ≡ record (tree_view self.old) { changes = one_more (tree_view self.old).changes } }
+        ensures nodes { (k : ℕ) → has_node self.new k ≡ has_node self.old k }
         ensures says { (k : ℕ) → provision_at self.new k ≡ provision_at self.old k }
     {
         self.changes = self.changes.saturating_add(1);
@@ -305,5 +482,143 @@ impl Tree {
         ensures says { (k : ℕ) → provision_at self.new k ≡ provision_at self.old k }
     {
         self.arena.take_all();
+    }
+
+    // Gives a provision another content.
+    fn put_content(&mut self, id: NodeId, content: Text)
+        requires node { has_node self.old id ≡ true }
+        requires provision { id ≡ 0 → ⊥ }
+        ensures tree { tree_view self.new ≡ record (tree_view self.old) { body = changed (with_content content) (provision_at self.old id).wid (tree_view self.old).body } }
+        ensures nodes { (k : ℕ) → has_node self.new k ≡ has_node self.old k }
+        ensures wids { (k : ℕ) → (provision_at self.new k).wid ≡ (provision_at self.old k).wid }
+    {
+        self.arena.set_content(id, content);
+    }
+
+    // Gives a provision another num.
+    fn put_num(&mut self, id: NodeId, num: Num)
+        requires node { has_node self.old id ≡ true }
+        requires provision { id ≡ 0 → ⊥ }
+        ensures tree { tree_view self.new ≡ record (tree_view self.old) { body = renumbered (((provision_at self.old id).wid, num) ∷ []) (tree_view self.old).body } }
+        ensures nodes { (k : ℕ) → has_node self.new k ≡ has_node self.old k }
+        ensures wids { (k : ℕ) → (provision_at self.new k).wid ≡ (provision_at self.old k).wid }
+    {
+        self.arena.set_num(id, num);
+    }
+
+    // Gives provisions other nums, from the last pair to the first, which so has the last word.
+    fn put_nums(&mut self, pairs: &[(NodeId, Num)])
+        requires nodes { All (λ pair. has_node self.old pair.0 ≡ true) pairs.now }
+        requires provisions { All (λ pair. pair.0 ≡ 0 → ⊥) pairs.now }
+        ensures tree { tree_view self.new ≡ record (tree_view self.old) { body = renumbered (map (λ pair. ((provision_at self.old pair.0).wid, pair.1)) pairs.now) (tree_view self.old).body } }
+        ensures nodes { (k : ℕ) → has_node self.new k ≡ has_node self.old k }
+        ensures wids { (k : ℕ) → (provision_at self.new k).wid ≡ (provision_at self.old k).wid }
+    {
+        for place in (0..pairs.len()).rev() {
+            let pair = &pairs[place];
+            self.put_num(pair.0, pair.1.copy());
+        }
+    }
+
+    /// The parent of a node that is not the root, and the place of the node among the children of the parent: what is
+    /// grafted there stands right before the node, and what is grafted at the next place right behind it.
+    pub fn place_of(&self, id: NodeId) -> (NodeId, usize)
+        requires node { has_node self.now id ≡ true }
+        requires provision { id ≡ 0 → ⊥ }
+        ensures parent { has_node self.now result.0 ≡ true }
+        ensures place { result.1 < length (children_at self.now result.0) }
+        ensures before { (new : Branches Provision) → grafted (provision_at self.now result.0).wid result.1 new (tree_view self.now).body ≡ changed (before new) (provision_at self.now id).wid (tree_view self.now).body }
+        ensures after { (new : Branches Provision) → grafted (provision_at self.now result.0).wid (result.1 + 1) new (tree_view self.now).body ≡ changed (after new) (provision_at self.now id).wid (tree_view self.now).body }
+    {
+        let above = self.arena.slots[id.place()].above;
+        (above, place_in(self.children(above), id))
+    }
+
+    // Puts nodes among the children of a node, behind the first so many. All nodes are left.
+    fn put_nodes(
+        &mut self,
+        alloc: Global,
+        parent: NodeId,
+        place: usize,
+        nodes: &Nodes,
+        by: Id,
+    ) -> Result<(), Memory>
+        requires node { has_node self.old parent ≡ true }
+        requires place { place ≤ length (children_at self.old parent) }
+        requires payload { first_fault NONE_THROUGHOUT (branches_of nodes.now) ≡ None }
+        requires fresh { has_brought by (tree_view self.old).body ≡ false }
+        ensures tree { OnOk result (tree_view self.new ≡ record (tree_view self.old) { body = grafted (provision_at self.old parent).wid place (brought by (branches_of nodes.now)) (tree_view self.old).body }) }
+        ensures nodes { OnOk result ((k : ℕ) → has_node self.old k ≡ true → has_node self.new k ≡ true) }
+        ensures says { OnOk result ((k : ℕ) → has_node self.old k ≡ true → provision_at self.new k ≡ provision_at self.old k) }
+        ensures kept { OnErr result (tree_view self.new ≡ tree_view self.old) }
+    {
+        let name = bringer(alloc, by)?;
+        self.arena.graft(alloc, parent, place, name.as_str(), nodes)
+    }
+
+    // Takes the next sibling of a provision into it.
+    fn take_next_in(&mut self, alloc: Global, id: NodeId, content: Text) -> Result<(), Memory>
+        requires node { has_node self.old id ≡ true }
+        requires next { is_some (next_of (provision_at self.old id).wid (tree_view self.old).body) ≡ true }
+        ensures tree { OnOk result (tree_view self.new ≡ record (tree_view self.old) { body = changed (merged content) (provision_at self.old id).wid (tree_view self.old).body }) }
+        ensures kept { OnErr result (tree_view self.new ≡ tree_view self.old) }
+    {
+        let next = self.arena.next(id).unwrap();
+        let refs = self.arena.refs_of_both(alloc, id, next)?;
+        let below = self.arena.below_both(alloc, id, next)?;
+        self.arena.join(id, next, content, refs, below);
+        Ok(())
+    }
+
+    // Puts nodes in the place of a provision and of all that stands beneath it.
+    fn put_instead(
+        &mut self,
+        alloc: Global,
+        id: NodeId,
+        nodes: &Nodes,
+        by: Id,
+    ) -> Result<(), Memory>
+        requires node { has_node self.old id ≡ true }
+        requires provision { id ≡ 0 → ⊥ }
+        requires payload { first_fault NONE_THROUGHOUT (branches_of nodes.now) ≡ None }
+        requires fresh { has_brought by (tree_view self.old).body ≡ false }
+        ensures tree { OnOk result (tree_view self.new ≡ record (tree_view self.old) { body = substituted (provision_at self.old id).wid (brought by (branches_of nodes.now)) (tree_view self.old).body }) }
+        ensures kept { OnErr result (tree_view self.new ≡ tree_view self.old) }
+    {
+        let (parent, place) = self.place_of(id);
+        self.put_nodes(alloc, parent, place, nodes, by)?;
+        self.take_away(id);
+        Ok(())
+    }
+
+    // Puts nodes below the root, in the place of all provisions.
+    fn put_all(&mut self, alloc: Global, nodes: &Nodes, by: Id) -> Result<(), Memory>
+        requires payload { first_fault NONE_THROUGHOUT (branches_of nodes.now) ≡ None }
+        requires fresh { has_brought by (tree_view self.old).body ≡ false }
+        ensures tree { OnOk result (tree_view self.new ≡ record (tree_view self.old) { body = substituted (provision_at self.old 0).wid (brought by (branches_of nodes.now)) (tree_view self.old).body }) }
+        ensures kept { OnErr result (tree_view self.new ≡ tree_view self.old) }
+    {
+        let name = bringer(alloc, by)?;
+        self.arena.replant(alloc, name.as_str(), nodes)
+    }
+
+    // Parts a provision: right behind it stands its second part.
+    fn part(
+        &mut self,
+        alloc: Global,
+        id: NodeId,
+        first_child: usize,
+        head: Text,
+        second: Slot,
+    ) -> Result<(), Memory>
+        requires node { has_node self.old id ≡ true }
+        requires provision { id ≡ 0 → ⊥ }
+        requires above { second.above ≡ above_in (at self.old.arena id) }
+        requires below { second.below.items ≡ drop first_child (children_at self.old id) }
+        requires fresh { is_in second.wid (tree_view self.old).body ≡ false }
+        ensures tree { OnOk result (tree_view self.new ≡ record (tree_view self.old) { body = changed (parted first_child head (provision_of second)) (provision_at self.old id).wid (tree_view self.old).body }) }
+        ensures kept { OnErr result (tree_view self.new ≡ tree_view self.old) }
+    {
+        self.arena.part(alloc, id, first_child, head, second)
     }
 }

@@ -5,8 +5,8 @@ use Rattle.indexmap.specs.IndexMap.{get_by}
 use Rattle.act_tree.proofs.Index.{inserted}
 use Rattle.act_tree.proofs.arena.note.Goals as goal
 
-pub returns : goal.returns
-returns c = λ w.
+pub returns-clause-noted : goal.returns-clause-noted
+returns-clause-noted c = λ w.
     let bytes : Vec ℕ Global → List ℕ = λ k. k.items in
     let same : c.in_ok-to_vec.field-0.items ≡ c.args.wid.now = search rules in
     ap (lookup (λ k. bytes_eq w (bytes k))) c.in_ok-insert.ensures.entries

@@ -14,7 +14,7 @@ invariant_of-result c =
     record {
       whole = (built c.new-arena.result c.lay.new.arena c.in_ok-root_slot.field-0.above c.in_ok-_root._root (provision_of c.in_ok-root_slot.field-0) body
           (ap length c.new-arena.ensures.slots) c.new-arena.ensures.numbers c.in_ok-root_slot.ensures.above c.in_ok-root_slot.ensures.provision
-          (no_roots c.args.numbering None (branches_of c.args.body.now)) c.requires c.in_ok-_root.ensures).whole;
+          (no_roots c.args.numbering None (branches_of c.args.body.now)) c.requires c.in_ok-_root.ensures.laid).whole;
     }
 
 pub returns : goal.returns
@@ -24,4 +24,4 @@ returns c =
     ap {B = TreeValue} (λ bs. record { numbering = c.args.numbering; body = bs; changes = 0 })
     (built c.new-arena.result c.lay.new.arena c.in_ok-root_slot.field-0.above c.in_ok-_root._root (provision_of c.in_ok-root_slot.field-0) body
     (ap length c.new-arena.ensures.slots) c.new-arena.ensures.numbers c.in_ok-root_slot.ensures.above c.in_ok-root_slot.ensures.provision
-    (no_roots c.args.numbering None (branches_of c.args.body.now)) c.requires c.in_ok-_root.ensures).reads
+    (no_roots c.args.numbering None (branches_of c.args.body.now)) c.requires c.in_ok-_root.ensures.laid).reads

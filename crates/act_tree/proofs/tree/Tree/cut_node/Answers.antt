@@ -1,0 +1,32 @@
+use Rattle.std.proofs.Common.{◌∙◌, ap, List, ℕ}
+use Rattle.act_tree.specs.Changes.{changed, is_in, parted}
+use Rattle.act_tree.specs.Seen.{tree_view, provision_at, children_at}
+use Rattle.act_tree.specs.Trees.{changed_once}
+use Rattle.act_tree.proofs.PartedNodes.{not_brought}
+use Rattle.act_tree.proofs.SlotsOfNodes.{node_within}
+use Rattle.act_tree.proofs.tree.Tree.cut_node.Goals as goal
+
+pub second_part-requires-clause-within : goal.second_part-requires-clause-within
+second_part-requires-clause-within g c = node_within c.args.self.now c.args.id c.requires.node
+
+pub second_part-requires-clause-place : goal.second_part-requires-clause-place
+unfolding children_at
+second_part-requires-clause-place g c = c.requires.place
+
+pub part-requires-clause-below : goal.part-requires-clause-below
+unfolding children_at
+part-requires-clause-below g c = c.in_ok-second.ensures.below
+
+pub part-requires-clause-fresh : goal.part-requires-clause-fresh
+part-requires-clause-fresh g c =
+    ap (λ p. is_in p.wid (tree_view c.args.self.now).body) c.in_ok-second.ensures.provision
+    ∙ not_brought c.args.by _ c.args.num (tree_view c.args.self.now).body c.requires.fresh
+
+pub returns-clause-tree : goal.returns-clause-tree
+unfolding provision_at
+returns-clause-tree g c =
+    let old = tree_view c.args.self.now in
+    let wid : List ℕ = (provision_at c.args.self.now c.args.id).wid in
+    c.count_change.ensures.tree
+    ∙ ap (λ v. changed_once v v.body) c.in_ok-part.ensures.tree
+    ∙ ap (λ p. changed_once old (changed (parted c.args.first_child c.args.head p) wid old.body)) c.in_ok-second.ensures.provision

@@ -1,0 +1,39 @@
+use Rattle.std.proofs.Common.{ap}
+use Rattle.act_tree.specs.Arena.{IsWhole}
+use Rattle.act_tree.specs.Seen.{has_node, tree_view, provision_at, children_at}
+use Rattle.act_tree.specs.Slots.{at, number, size}
+use Rattle.act_tree.specs.Trees.{TreeValue}
+use Rattle.act_tree.proofs.Grown.{on_ok_map, on_err_map, either_way}
+use Rattle.act_tree.proofs.PartedNodes.{can_part, part_ends}
+use Rattle.act_tree.proofs.tree.Tree.part.Goals as goal
+
+pub part-requires : goal.part-requires
+unfolding has_node children_at
+part-requires c = can_part c.args.self.now.arena c.args.id c.args.first_child c.args.second.below.items c.args.self.now.whole c.requires.node c.requires.provision c.requires.below
+
+pub invariant_of-self : goal.invariant_of-self
+unfolding has_node tree_view children_at
+invariant_of-self c =
+    let old = c.args.self.now.arena in
+    let new = c.part.new.self in
+    let ends = part_ends c.part.result old new c.args.id c.args.first_child c.args.head c.args.second c.args.self.now.whole c.requires.node c.requires.provision c.requires.fresh c.requires.above c.requires.below
+    c.part.ensures.parted c.part.ensures.numbers c.part.ensures.sizes c.part.ensures.fits c.part.ensures.slots_kept c.part.ensures.numbers_kept in
+    record { whole = either_way c.part.result _ _ (IsWhole (at new) (number new) (size new)) (λ is. is.whole) (λ is. is.whole) ends.0 ends.1 }
+
+pub returns-clause-tree : goal.returns-clause-tree
+unfolding has_node tree_view children_at provision_at
+returns-clause-tree c =
+    let old = c.args.self.now.arena in
+    let new = c.part.new.self in
+    let ends = part_ends c.part.result old new c.args.id c.args.first_child c.args.head c.args.second c.args.self.now.whole c.requires.node c.requires.provision c.requires.fresh c.requires.above c.requires.below
+    c.part.ensures.parted c.part.ensures.numbers c.part.ensures.sizes c.part.ensures.fits c.part.ensures.slots_kept c.part.ensures.numbers_kept in
+    on_ok_map c.part.result _ _ (λ is. ap {B = TreeValue} (λ body. record { numbering = c.args.self.now.numbering; body = body; changes = c.args.self.now.changes }) is.reads) ends.0
+
+pub returns-clause-kept : goal.returns-clause-kept
+unfolding has_node tree_view children_at
+returns-clause-kept c =
+    let old = c.args.self.now.arena in
+    let new = c.part.new.self in
+    let ends = part_ends c.part.result old new c.args.id c.args.first_child c.args.head c.args.second c.args.self.now.whole c.requires.node c.requires.provision c.requires.fresh c.requires.above c.requires.below
+    c.part.ensures.parted c.part.ensures.numbers c.part.ensures.sizes c.part.ensures.fits c.part.ensures.slots_kept c.part.ensures.numbers_kept in
+    on_err_map c.part.result _ _ (λ is. ap {B = TreeValue} (λ body. record { numbering = c.args.self.now.numbering; body = body; changes = c.args.self.now.changes }) is.reads) ends.1

@@ -1,0 +1,36 @@
+use Rattle.std.proofs.Common.{ap}
+use Rattle.act_tree.specs.Seen.{has_node, tree_view, provision_at}
+use Rattle.act_tree.specs.Trees.{TreeValue}
+use Rattle.act_tree.proofs.Renumbering.{num_put}
+use Rattle.act_tree.proofs.SlotsOfNodes.{node_within}
+use Rattle.act_tree.proofs.tree.Tree.put_num.Goals as goal
+
+pub set_num-requires : goal.set_num-requires
+set_num-requires c = node_within c.args.self.now c.args.id c.requires.node
+
+pub invariant_of-self : goal.invariant_of-self
+unfolding has_node
+invariant_of-self c =
+    record {
+      whole = (num_put c.args.self.now.arena c.set_num.new.self c.args.id c.args.num c.args.self.now.whole c.requires.node c.requires.provision
+          c.set_num.ensures.numbers c.set_num.ensures.size c.set_num.ensures.restated).holds.whole;
+    }
+
+pub returns-clause-tree : goal.returns-clause-tree
+unfolding has_node tree_view provision_at
+returns-clause-tree c =
+    ap {B = TreeValue} (λ body. record { numbering = c.args.self.now.numbering; body = body; changes = c.args.self.now.changes })
+    (num_put c.args.self.now.arena c.set_num.new.self c.args.id c.args.num c.args.self.now.whole c.requires.node c.requires.provision
+    c.set_num.ensures.numbers c.set_num.ensures.size c.set_num.ensures.restated).holds.reads
+
+pub returns-clause-nodes : goal.returns-clause-nodes
+unfolding has_node
+returns-clause-nodes c =
+    (num_put c.args.self.now.arena c.set_num.new.self c.args.id c.args.num c.args.self.now.whole c.requires.node c.requires.provision
+    c.set_num.ensures.numbers c.set_num.ensures.size c.set_num.ensures.restated).nodes
+
+pub returns-clause-wids : goal.returns-clause-wids
+unfolding has_node provision_at
+returns-clause-wids c =
+    (num_put c.args.self.now.arena c.set_num.new.self c.args.id c.args.num c.args.self.now.whole c.requires.node c.requires.provision
+    c.set_num.ensures.numbers c.set_num.ensures.size c.set_num.ensures.restated).wids

@@ -1,0 +1,164 @@
+//! Grafting: the nodes that a modification brings are laid down in an arena, and put among those below a number.
+
+ghost use Rattle.std.specs.Prelude.{◌≡◌, ◌++◌, ◌≤◌, IfOk, take, drop, length};
+ghost use Rattle.act_tree.specs.Brought as spec;
+ghost use Rattle.act_tree.specs.Grafted.{place_from};
+
+use crate::arena::Arena;
+use crate::laying::lay_all;
+use crate::{NONE_THROUGHOUT, NodeId, Nodes};
+use desk_base::{Id, Memory, Text};
+use std::alloc::Global;
+
+/// The name of a modification in wIds.
+pub fn bringer(alloc: Global, by: Id) -> Result<Text, Memory>
+    ensures { IfOk result (λ t. t ≡ spec.bringer by) }
+{
+    let law = by.law;
+    let item = by.item;
+    Text::from_string(format!(in alloc; "m{law}-{item}")?)
+}
+
+// Numbers with others among them, behind the first so many.
+fn put_numbers(
+    alloc: Global,
+    numbers: &[NodeId],
+    place: usize,
+    others: &[NodeId],
+) -> Result<Vec<NodeId>, Memory>
+    requires { place ≤ length numbers.now }
+    ensures { IfOk result (λ v. v.items ≡ take place numbers.now ++ (others.now ++ drop place numbers.now)) }
+{
+    let mut all = Vec::new(alloc);
+    all.extend_from_slice(&numbers[..place])?;
+    all.extend_from_slice(others)?;
+    all.extend_from_slice(&numbers[place..])?;
+    Ok(all)
+}
+
+/// The place of a number among others, or their number where it is none of them.
+pub fn place_in(numbers: &[NodeId], id: NodeId) -> usize
+    ensures { result ≡ place_from 0 id numbers.now }
+{
+    for (place, number) in numbers.iter().enumerate() {
+        if *number == id {
+            return place;
+        }
+    }
+    numbers.len()
+}
+
+impl Arena {
+    ghost use Rattle.std.specs.Prelude.{ℕ, List, ◌<◌, ◌^◌, OnOk, OnErr, Some, ◌==◌, false};
+    ghost use Rattle.std.specs.List.{All, list_any};
+    ghost use Rattle.act_tree.specs.Branches.{branches_of};
+    ghost use Rattle.act_tree.specs.declared.surveying.TheConstants as constants;
+    ghost use Rattle.act_tree.specs.Arena.{below_in};
+    ghost use Rattle.act_tree.specs.Eids.{all_enacted};
+    ghost use Rattle.act_tree.specs.Grafted.{IsDiscarded, IsGrafted, IsReplanted, IsStopped};
+    ghost use Rattle.act_tree.specs.Planted.{HasGrown};
+    ghost use Rattle.act_tree.specs.Slots.{at, number, size};
+    ghost use Rattle.act_tree.specs.TakenOff.{with_above};
+    ghost use Rattle.act_tree.specs.Wids.{all_wids};
+
+    // Lets the number of a slot be right above itself.
+    fn let_go(&mut self, place: usize)
+        requires within { place < size self.old }
+        requires fits { place < 2 ^ 32 }
+        ensures numbers { self.new.numbers ≡ self.old.numbers }
+        ensures size { size self.new ≡ size self.old }
+        ensures here { at self.new place ≡ with_above place (at self.old place) }
+        ensures others { (k : ℕ) → (k ≡ place → ⊥) → at self.new k ≡ at self.old k }
+    {
+        if let Some(id) = NodeId::of_place(place) {
+            self.set_above(id, id);
+        }
+    }
+
+    // Takes the numbers from one on off. It needs no memory.
+    fn discard(&mut self, start: usize)
+        requires { size self.old ≤ 2 ^ 32 }
+        ensures numbers { self.new.numbers ≡ self.old.numbers }
+        ensures size { size self.new ≡ size self.old }
+        ensures discarded { IsDiscarded (at self.old) (at self.new) start }
+    {
+        for place in start..self.slots.len() {
+            self.let_go(place);
+        }
+    }
+
+    // Lays nodes down below a number, and puts them among those below it, behind the first so many.
+    fn grow(
+        &mut self,
+        alloc: Global,
+        parent: NodeId,
+        place: usize,
+        name: &str,
+        nodes: &Nodes,
+    ) -> Result<(), Memory>
+        requires within { parent < size self.old }
+        requires place { place ≤ length (below_in (at self.old parent)) }
+        ensures grafted { OnOk result (IsGrafted self.old self.new parent place (all_enacted constants.NONE_THROUGHOUT (Some name.now) (branches_of nodes.now))) }
+        ensures kept { OnErr result (HasGrown self.old self.new (all_wids (all_enacted constants.NONE_THROUGHOUT (Some name.now) (branches_of nodes.now)))) }
+    {
+        let ids = lay_all(alloc, self, NONE_THROUGHOUT, parent, Some(name), nodes)?;
+        let below = put_numbers(alloc, &self.slots[parent.place()].below, place, &ids)?;
+        self.set_below(parent, below);
+        Ok(())
+    }
+
+    /// Lays nodes down below a number, and puts them among those below it, behind the first so many. `Err`: there was not
+    /// enough memory, and what was laid down is taken off.
+    pub fn graft(
+        &mut self,
+        alloc: Global,
+        parent: NodeId,
+        place: usize,
+        name: &str,
+        nodes: &Nodes,
+    ) -> Result<(), Memory>
+        requires within { parent < size self.old }
+        requires place { place ≤ length (below_in (at self.old parent)) }
+        requires fits { size self.old ≤ 2 ^ 32 }
+        ensures grafted { OnOk result (IsGrafted self.old self.new parent place (all_enacted constants.NONE_THROUGHOUT (Some name.now) (branches_of nodes.now))) }
+        ensures kept { OnErr result (IsStopped self.old self.new (all_wids (all_enacted constants.NONE_THROUGHOUT (Some name.now) (branches_of nodes.now)))) }
+    {
+        let start = self.slots.len();
+        let grown = self.grow(alloc, parent, place, name, nodes);
+        if grown.is_err() {
+            self.discard(start);
+        }
+        grown
+    }
+
+    /// Lays nodes down below the root, in the place of all that was below it. `Err`: there was not enough memory, and what
+    /// was laid down is taken off.
+    pub fn replant(&mut self, alloc: Global, name: &str, nodes: &Nodes) -> Result<(), Memory>
+        requires root { 0 < size self.old }
+        requires within { All (λ k. k < size self.old) (below_in (at self.old 0)) }
+        requires apart { list_any (λ j. j == 0) (below_in (at self.old 0)) ≡ false }
+        requires fits { size self.old ≤ 2 ^ 32 }
+        ensures replanted { OnOk result (IsReplanted self.old self.new (all_enacted constants.NONE_THROUGHOUT (Some name.now) (branches_of nodes.now))) }
+        ensures kept { OnErr result (IsStopped self.old self.new (all_wids (all_enacted constants.NONE_THROUGHOUT (Some name.now) (branches_of nodes.now)))) }
+    {
+        let start = self.slots.len();
+        match lay_all(
+            alloc,
+            self,
+            NONE_THROUGHOUT,
+            NodeId::root(),
+            Some(name),
+            nodes,
+        ) {
+            Ok(below) => {
+                self.take_all();
+                self.set_below(NodeId::root(), below);
+                Ok(())
+            }
+            Err(stop) => {
+                self.discard(start);
+                Err(stop)
+            }
+        }
+    }
+}

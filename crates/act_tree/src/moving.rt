@@ -1,0 +1,100 @@
+//! Provisions that move: their children get another place, and so another number right above them.
+
+ghost use Rattle.std.specs.Prelude.{◌≡◌};
+ghost use Rattle.act_tree.specs.Siblings as spec;
+
+use crate::arena::Arena;
+use crate::{NodeId, Refs};
+use desk_base::{Memory, Text};
+use std::alloc::Global;
+
+// The number right behind another in a list.
+fn number_behind(numbers: &[NodeId], id: NodeId) -> Option<NodeId>
+    ensures { result ≡ spec.number_behind id numbers.now }
+{
+    for place in 0..numbers.len() {
+        if numbers[place] == id {
+            return numbers.get(place + 1).copied();
+        }
+    }
+    None
+}
+
+impl Arena {
+    ghost use Rattle.std.specs.Prelude.{◌≡◌, ◌==◌, ◌<◌, ◌++◌, IfOk};
+    ghost use Rattle.std.specs.List.{All};
+    ghost use Rattle.act_tree.specs.Arena.{above_in, below_in, provision_in};
+    ghost use Rattle.act_tree.specs.Moved.{CanJoin, IsFilled, IsJoined, IsSettled};
+    ghost use Rattle.act_tree.specs.Slots.{at, size};
+
+    /// The number right behind one among those right below the number above it.
+    pub fn next(&self, id: NodeId) -> Option<NodeId>
+        requires within { id < size self.now }
+        requires above { above_in (at self.now id) < size self.now }
+        ensures { result ≡ spec.number_behind id (below_in (at self.now (above_in (at self.now id)))) }
+    {
+        let above = self.slots[id.place()].above;
+        number_behind(&self.slots[above.place()].below, id)
+    }
+
+    /// The refs of two provisions, one after the other.
+    pub fn refs_of_both(&self, alloc: Global, id: NodeId, next: NodeId) -> Result<Refs, Memory>
+        requires within { id < size self.now }
+        requires next { next < size self.now }
+        ensures { IfOk result (λ refs. refs ≡ (provision_in (at self.now id)).own.refs ++ (provision_in (at self.now next)).own.refs) }
+    {
+        self.slots[id.place()]
+            .refs
+            .joined(alloc, &self.slots[next.place()].refs)
+    }
+
+    /// The numbers right below two, one after the other.
+    pub fn below_both(&self, alloc: Global, id: NodeId, next: NodeId) -> Result<Vec<NodeId>, Memory>
+        requires within { id < size self.now }
+        requires next { next < size self.now }
+        ensures { IfOk result (λ numbers. numbers.items ≡ below_in (at self.now id) ++ below_in (at self.now next)) }
+    {
+        let mut below = self.slots[id.place()].below.as_slice().to_vec(alloc)?;
+        below.extend_from_slice(&self.slots[next.place()].below)?;
+        Ok(below)
+    }
+
+    // Gives a provision another content and refs, and sets the numbers right below it.
+    fn fill(&mut self, id: NodeId, content: Text, refs: Refs, below: Vec<NodeId>)
+        requires { id < size self.old }
+        ensures numbers { self.new.numbers ≡ self.old.numbers }
+        ensures size { size self.new ≡ size self.old }
+        ensures filled { IsFilled (at self.old) (at self.new) id (record (provision_in (at self.old id)).own { content = content; refs = refs }) below.items }
+    {
+        let slot = &mut self.slots[id.place()];
+        slot.content = content;
+        slot.refs = refs;
+        slot.below = below;
+    }
+
+    /// Lets each of those right below a number have it right above them. It needs no memory.
+    pub fn settle(&mut self, id: NodeId)
+        requires within { id < size self.old }
+        requires children { All (λ k. k < size self.old) (below_in (at self.old id)) }
+        ensures numbers { self.new.numbers ≡ self.old.numbers }
+        ensures size { size self.new ≡ size self.old }
+        ensures settled { IsSettled (at self.old) (at self.new) id }
+    {
+        for place in 0..self.slots[id.place()].below.len() {
+            let child = self.slots[id.place()].below[place];
+            self.set_above(child, id);
+        }
+    }
+
+    /// Takes a number off, and gives another one the content, the refs, and all those right below it.
+    pub fn join(&mut self, id: NodeId, next: NodeId, content: Text, refs: Refs, below: Vec<NodeId>)
+        requires { CanJoin (at self.old) (size self.old) id next below.items }
+        ensures numbers { self.new.numbers ≡ self.old.numbers }
+        ensures size { size self.new ≡ size self.old }
+        ensures joined { IsJoined (at self.old) (at self.new) id next (record (provision_in (at self.old id)).own { content = content; refs = refs }) below.items }
+    {
+        self.take_off(next);
+        self.fill(id, content, refs, below);
+        self.settle(id);
+    }
+}

@@ -1,0 +1,33 @@
+//! Provisions that say something else of themselves, and stand where they stood.
+
+use crate::NodeId;
+use crate::arena::Arena;
+use desk_base::Text;
+use eid_paths::Num;
+
+impl Arena {
+    ghost use Rattle.std.specs.Prelude.{◌≡◌, ◌<◌};
+    ghost use Rattle.act_tree.specs.Arena.{provision_in};
+    ghost use Rattle.act_tree.specs.Restated.{with_own, IsRestated};
+    ghost use Rattle.act_tree.specs.Slots.{at, size};
+
+    /// Gives a provision another content.
+    pub fn set_content(&mut self, id: NodeId, content: Text)
+        requires { id < size self.old }
+        ensures numbers { self.new.numbers ≡ self.old.numbers }
+        ensures size { size self.new ≡ size self.old }
+        ensures restated { IsRestated (at self.old) (at self.new) id (record (provision_in (at self.old id)).own { content = content }) }
+    {
+        self.slots[id.place()].content = content;
+    }
+
+    /// Gives a provision another num.
+    pub fn set_num(&mut self, id: NodeId, num: Num)
+        requires { id < size self.old }
+        ensures numbers { self.new.numbers ≡ self.old.numbers }
+        ensures size { size self.new ≡ size self.old }
+        ensures restated { IsRestated (at self.old) (at self.new) id (record (provision_in (at self.old id)).own { num = num }) }
+    {
+        self.slots[id.place()].num = num;
+    }
+}
