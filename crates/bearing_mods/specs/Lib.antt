@@ -1,0 +1,5 @@
+pub mod Turns
+pub mod Dates
+pub mod Force
+pub mod Efficacy
+pub mod Bearing
