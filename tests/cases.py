@@ -54,6 +54,29 @@ def repeal(wid="sec_1", start="2011-01-01", href=SOURCE, place=1, until=None):
     return textual(source={"href": href, "place": place}, force=force, destination={"wId": wid})
 
 
+def substituted(new, wid="sec_1", **rest):
+    """Nodes or a text in the place of what was there."""
+    return textual(type="substitution", destination={"wId": wid}, new=new, **rest)
+
+
+def inserted(new, wid="body", pos="end", **rest):
+    """Nodes or a text at a place."""
+    return textual(type="insertion", destination={"wId": wid, "pos": pos}, new=new, **rest)
+
+
+def renumbered(wids):
+    """A renumbering of these provisions."""
+    return textual(type="renumbering", destination=None, renumber=[{"wId": wid, "num": "9"} for wid in wids])
+
+
+def split(wid="sec_1", num="2", **rest):
+    return textual(type="split", destination={"wId": wid}, num=num, **rest)
+
+
+def joined(wid="sec_1", second="sec_2", **rest):
+    return textual(type="join", destination={"wId": wid}, second=second, **rest)
+
+
 def node(element="section", num="1", **rest):
     return {"element": element, "num": num, **rest}
 
@@ -122,6 +145,29 @@ FITS = [
     ("place 65535", dossier(mods=[repeal(place=65535)])),
     ("place 0", dossier(mods=[repeal(place=0)])),
     ("8,388,608 bytes", padded(LIMIT)),
+    ("64 sections in the place of one", dossier(mods=[substituted(sections(64))])),
+    ("64 sections are inserted", dossier(mods=[inserted(sections(64))])),
+    ("4,096 provisions are inserted", dossier(mods=[inserted([node("part", children=sections(4095))])])),
+    ("12 levels are inserted", dossier(mods=[inserted(nested(12))])),
+    ("a content of 16,384 bytes is inserted", dossier(mods=[inserted(sections(1, "c" * 16384))])),
+    ("16 refs are inserted", dossier(mods=[inserted(refs(16))])),
+    ("the wIds of what is substituted and inserted have 512 bytes", dossier(mods=[
+        substituted(sections(1), "w" * 512), substituted("", "w" * 512, old="o"), inserted(sections(1), "w" * 512),
+        inserted("", "w" * 512)])),
+    ("one section twice below two parts that are inserted, in an act that numbers sections throughout", dossier(
+        act(numbering=["section"]), [inserted([node("part", "1", children=sections(1)), node("part", "2", children=sections(1))])])),
+    ("texts of 16,384 bytes, one in the place of the other", dossier(mods=[substituted("n" * 16384, old="o" * 16384)])),
+    ("texts of 16,384 bytes, one behind the other", dossier(mods=[inserted("n" * 16384, "sec_1", "after", old="o" * 16384)])),
+    ("a text of 16,384 bytes at the start", dossier(mods=[inserted("n" * 16384, "sec_1", "start")])),
+    ("occurrences 1 and 65,535", dossier(mods=[
+        substituted("n", old="o", occurrence=1), inserted("n", "sec_1", "before", old="o", occurrence=65535)])),
+    ("64 pairs", dossier(mods=[renumbered([f"sec_{k}" for k in range(64)])])),
+    ("a pair with a wId of 512 bytes", dossier(mods=[renumbered(["w" * 512])])),
+    ("a split at a text of 16,384 bytes, with a heading of as many", dossier(mods=[
+        split("w" * 512, old="o" * 16384, occurrence=65535, heading="h" * 16384)])),
+    ("a split at a child with a wId of 512 bytes", dossier(mods=[split(child="c" * 512)])),
+    ("a join of wIds of 512 bytes, with a separator of 16,384", dossier(mods=[
+        joined("w" * 512, "v" * 512, separator="s" * 16384)])),
     ("a key twice: the last counts", dossier().replace(b'"modifications": []', b'"modifications": 1, "modifications": []')),
 ]
 
@@ -246,7 +292,7 @@ SHAPES = [
     ("no type", dossier(mods=[textual(type=None)]), form(2, 1)),
     ("a type that is a number", dossier(mods=[textual(type=1)]), form(2, 1)),
     ("a type that is not listed", dossier(mods=[repeal(), textual(type="Repeal")]), form(7, 2)),
-    ("a type that is listed", dossier(mods=[textual(type="join", source=None)]), form(0, 1)),
+    ("the keys of a join", dossier(mods=[textual(type="join", source=None)]), form(2, 1)),
     ("a type that is not listed comes before the keys", dossier(mods=[textual(type="merge", source=None)]), form(7, 1)),
     ("a modification's key too many", dossier(mods=[textual(until="2011-01-01")]), form(2, 1)),
     ("a modification without a source", dossier(mods=[repeal(), textual(source=None)]), form(2, 2)),
@@ -289,10 +335,72 @@ COMMANDS = [
     ("the wId comes before the period", dossier(mods=[repeal(wid="", until="2011-01-01")]), refused(6, 1)),
     ("the first refused command counts", dossier(mods=[repeal(until="2011-01-01"), repeal(wid="")]), refused(7, 1)),
     ("the act comes before its modifications", dossier(act(force={"from": "2010-06-01", "until": "2010-06-01"}), [repeal(wid="")]), refused(7, 0)),
+    ("one section twice is inserted", dossier(mods=[inserted(sections(2) + sections(1))]), refused(5, 1)),
+    ("one section twice in the place of another", dossier(mods=[repeal(), substituted(sections(2) + sections(1))]), refused(5, 1)),
+    ("13 levels are inserted", dossier(mods=[inserted(nested(13))]), refused(5, 2)),
+    ("4,097 provisions are inserted", dossier(mods=[inserted([node("part", children=sections(4096))])]), refused(5, 3)),
+    ("a content of 16,385 bytes is inserted", dossier(mods=[inserted(sections(1, "c" * 16385))]), refused(5, 4)),
+    ("the lowest fault of what is inserted", dossier(mods=[inserted(sections(1, "c" * 16385) + nested(13))]), refused(5, 2)),
+    ("the nodes come before the wId", dossier(mods=[inserted(sections(1) + sections(1), "")]), refused(5, 1)),
+    ("the nodes come before their number", dossier(mods=[substituted(sections(64) + sections(1))]), refused(5, 1)),
+    ("the nodes come before the period", dossier(mods=[
+        inserted(nested(13), force={"from": "2011-01-01", "until": "2011-01-01"})]), refused(5, 2)),
+    ("the nodes of the 513th modification", dossier(mods=[repeal()] * 512 + [inserted(nested(13))]), refused(5, 2)),
+    ("a modification that is refused before the nodes of the next", dossier(mods=[repeal(wid=""), inserted(nested(13))]), refused(6, 1)),
+    ("no node is inserted", dossier(mods=[inserted([])]), refused(6, 1)),
+    ("no node in the place of a section", dossier(mods=[substituted([])]), refused(6, 1)),
+    ("65 sections are inserted", dossier(mods=[inserted(sections(65))]), refused(6, 1)),
+    ("65 sections in the place of one", dossier(mods=[substituted(sections(65))]), refused(6, 1)),
+    ("17 refs are inserted", dossier(mods=[inserted([node("part", children=refs(17))])]), refused(6, 1)),
+    ("an insertion of nodes at a wId of 513 bytes", dossier(mods=[inserted(sections(1), "w" * 513)]), refused(6, 1)),
+    ("an insertion of a text at no wId", dossier(mods=[inserted("n", "")]), refused(6, 1)),
+    ("a substitution of nodes at a wId of 513 bytes", dossier(mods=[substituted(sections(1), "w" * 513)]), refused(6, 1)),
+    ("a substitution of a text at no wId", dossier(mods=[substituted("n", "", old="o")]), refused(6, 1)),
+    ("a text of 16,385 bytes in the place of another", dossier(mods=[substituted("n" * 16385, old="o")]), refused(6, 1)),
+    ("a text in the place of one of 16,385 bytes", dossier(mods=[substituted("n", old="o" * 16385)]), refused(6, 1)),
+    ("a text in the place of no text", dossier(mods=[substituted("n", old="")]), refused(6, 1)),
+    ("a text in the place of occurrence 0", dossier(mods=[substituted("n", old="o", occurrence=0)]), refused(6, 1)),
+    ("a text of 16,385 bytes at the end", dossier(mods=[inserted("n" * 16385, "sec_1")]), refused(6, 1)),
+    ("a text before one of 16,385 bytes", dossier(mods=[inserted("n", "sec_1", "before", old="o" * 16385)]), refused(6, 1)),
+    ("a text behind no text", dossier(mods=[inserted("n", "sec_1", "after", old="")]), refused(6, 1)),
+    ("a text behind occurrence 0", dossier(mods=[inserted("n", "sec_1", "after", old="o", occurrence=0)]), refused(6, 1)),
+    ("no pair", dossier(mods=[renumbered([])]), refused(6, 1)),
+    ("65 pairs", dossier(mods=[renumbered([f"sec_{k}" for k in range(65)])]), refused(6, 1)),
+    ("a pair of no wId", dossier(mods=[renumbered(["sec_1", ""])]), refused(6, 1)),
+    ("a pair with a wId of 513 bytes", dossier(mods=[renumbered(["w" * 513])]), refused(6, 1)),
+    ("one wId in two pairs", dossier(mods=[renumbered(["sec_1", "sec_2", "sec_1"])]), refused(6, 1)),
+    ("a split of no wId", dossier(mods=[split("", old="o")]), refused(6, 1)),
+    ("a split at no text", dossier(mods=[split(old="")]), refused(6, 1)),
+    ("a split at a text of 16,385 bytes", dossier(mods=[split(old="o" * 16385)]), refused(6, 1)),
+    ("a split at occurrence 0", dossier(mods=[split(old="o", occurrence=0)]), refused(6, 1)),
+    ("a split at a child of no wId", dossier(mods=[split(child="")]), refused(6, 1)),
+    ("a split at a child with a wId of 513 bytes", dossier(mods=[split(child="c" * 513)]), refused(6, 1)),
+    ("a split with a heading of 16,385 bytes", dossier(mods=[split(old="o", heading="h" * 16385)]), refused(6, 1)),
+    ("a join of a section with itself", dossier(mods=[joined("sec_1", "sec_1")]), refused(6, 1)),
+    ("a join of no wId", dossier(mods=[joined("")]), refused(6, 1)),
+    ("a join with no wId", dossier(mods=[joined("sec_1", "")]), refused(6, 1)),
+    ("a join with a wId of 513 bytes", dossier(mods=[joined("sec_1", "w" * 513)]), refused(6, 1)),
+    ("a join with a separator of 16,385 bytes", dossier(mods=[joined(separator="s" * 16385)]), refused(6, 1)),
     ("513 repeals", dossier(mods=[repeal()] * 513), refused(15, 512)),
     ("the 513th of 600 repeals", dossier(mods=[repeal()] * 513 + [repeal(wid="")] * 87), refused(15, 512)),
     ("the wId of the 513th repeal", dossier(mods=[repeal()] * 512 + [repeal(wid="")]), refused(6, 1)),
     ("the period of the 513th repeal", dossier(mods=[repeal()] * 512 + [repeal(until="2011-01-01")]), refused(7, 1)),
     ("a tree before 513 repeals", dossier(act(body=nested(13)), [repeal()] * 513), refused(5, 2)),
     ("a form fault comes before all rules", dossier(act(body=nested(13)), [repeal(until="2011-01-01"), 1]), form(2, 2)),
+]
+
+# Modifications that come to a limit of the tree, and those that pass it: what is applied on their day, and what is not.
+LEAF = "__".join(["para_1"] * 11)
+REACHED = [
+    ("4,095 sections and one more", dossier(act(body=sections(4095)), [inserted([node(num="5000")])]), ["2.1"], []),
+    ("4,096 sections and one more", dossier(act(body=sections(4096)), [inserted([node(num="5000")])]), [], ["TooManyNodes"]),
+    ("4,096 sections, one of them in the place of another", dossier(act(body=sections(4096)), [
+        substituted([node(num="5000")], "sec_7")]), ["2.1"], []),
+    ("11 levels and one more", dossier(act(body=nested(11)), [inserted(nested(1), LEAF)]), ["2.1"], []),
+    ("12 levels and one more", dossier(act(body=nested(12)), [inserted(nested(1), LEAF + "__para_1")]), [], ["TooDeep"]),
+    ("16,383 bytes and one more", dossier(act(body=sections(1, "c" * 16383)), [inserted("c", "sec_1")]), ["2.1"], []),
+    ("16,384 bytes and one more", dossier(act(body=sections(1, "c" * 16384)), [inserted("c", "sec_1")]), [], ["TextTooLong"]),
+    ("the num comes before the depth", dossier(act(body=nested(12)), [inserted(nested(2), LEAF)]), [], ["NumberTaken"]),
+    ("articles are no next siblings of one element", dossier(act(body=[node(), node("article")]), [joined("sec_1", "art_1")]),
+     [], ["KindsDiffer"]),
 ]

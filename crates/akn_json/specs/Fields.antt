@@ -1,5 +1,5 @@
 -- The parts that forms are made of: objects of known keys, and the values that stand at them.
-use Rattle.std.specs.Prelude.{ℕ, Bool, true, ◌&&◌, ◌||◌, nat_le, List, [], ◌∷◌, Option, Some, None, is_some, Ok}
+use Rattle.std.specs.Prelude.{ℕ, Bool, true, false, ◌&&◌, ◌||◌, nat_le, List, [], ◌∷◌, Option, Some, None, is_some, Ok}
 use Rattle.std.specs.List.{list_all, list_any}
 use Rattle.std.specs.Str.{bytes_eq}
 use Rattle.serde_json.specs.Data.{Data, Items, no_items, item, Members, no_members, member}
@@ -25,12 +25,18 @@ has_only required optional (member name d ms) = (is_named name required || is_na
 abbrev pub has_all : List Key → Data → Bool
 has_all keys d = list_all (λ known. is_some (get (key_name known) d)) keys
 
+-- these are the members of an object: it has one at each required key, and none at another than the optional ones
+abbrev pub are_at : List Key → List Key → Data → Option Members → Bool
+are_at required optional d None = false
+are_at required optional d (Some ms) = has_only required optional ms && has_all required d
+
+-- an object has members at the required keys, and at no others than the optional ones
+unfoldable pub has_members : List Key → List Key → Data → Bool
+has_members required optional d = are_at required optional d (as_object d)
+
 -- an object with members at the required keys, and at no others than the optional ones
 unfoldable pub members_in : List Key → List Key → Data → Read Unit
-members_in required optional d = do
-  ms ← or_fault (broken WrongShape) (as_object d)
-  unless_broken (broken WrongShape) (has_only required optional ms)
-  unless_broken (broken WrongShape) (has_all required d)
+members_in required optional d = unless_broken (broken WrongShape) (has_members required optional d)
 
 -- the value at a key of an object
 unfoldable pub field_in : Key → Data → Read Data

@@ -12,5 +12,11 @@ pub mod Works
 pub mod NodeForm
 pub mod ActForm
 pub mod EditKinds
+pub mod Targets
+pub mod Substitutions
+pub mod Insertions
+pub mod Renumberings
+pub mod Splits
+pub mod EditForms
 pub mod ModsForm
 pub mod DossierForm

@@ -2,16 +2,16 @@
 use Rattle.std.specs.Prelude.{ℕ, ◌+◌, Bool, true, false, List, [], ◌∷◌, Ok}
 use Rattle.serde_json.specs.Data.{Data, Items, no_items, item, Members, no_members, member}
 use Rattle.serde_json.specs.Find.{get, as_object}
-use Rattle.textual_mods.specs.declared.edit.TextualMod.TheVariants.{Repeal}
-use Rattle.akn_json.specs.declared.fault.FormRule.TheVariants.{NotBuilt, WrongShape, UnknownWord}
+use Rattle.akn_json.specs.declared.fault.FormRule.TheVariants.{NotBuilt, WrongShape}
 use Rattle.akn_json.specs.declared.modification.ModSource.{ModSource}
 use Rattle.akn_json.specs.declared.modification.Modification.{Modification}
 use Rattle.akn_json.specs.declared.modification.Modification.TheVariants.{Textual}
-use Rattle.akn_json.specs.EditKinds.{kind_named, is_repeal}
+use Rattle.akn_json.specs.EditKinds.{kind_in, form_in}
+use Rattle.akn_json.specs.EditForms.{keys_in, edit_in}
 use Rattle.akn_json.specs.declared.reading.key.Key.TheVariants as key
 use Rattle.akn_json.specs.Keys.{key_name}
 use Rattle.akn_json.specs.Reads.{Read, ◌>>=◌, ◌>>◌, broken, inside, or_fault, unless_broken}
-use Rattle.akn_json.specs.Fields.{members_in, field_in, items_in, text_in, number_in, period_in}
+use Rattle.akn_json.specs.Fields.{members_in, field_in, items_in, number_in, period_in}
 use Rattle.akn_json.specs.Works.{work_in}
 
 -- the source of a modification: the IRI of the work that modifies, and a place within it
@@ -24,33 +24,18 @@ source_in d = do
   place ← number_in 65535 p
   Ok (record { href = href; place = place })
 
--- what a modification is directed at: a wId
-unfoldable pub destination_in : Data → Read (List ℕ)
-destination_in d = do
-  members_in (key.Wid ∷ []) [] d
-  w ← field_in key.Wid d
-  text_in w
-
--- the word that says what a textual modification does: it repeals
-unfoldable pub type_in : Data → Read Unit
-type_in d = do
-  word ← text_in d
-  named ← or_fault (broken UnknownWord) (kind_named word)
-  unless_broken (broken NotBuilt) (is_repeal named)
-
--- a textual modification, which repeals its destination; its word is judged before its keys
+-- a textual modification: its kind, and what it brings, choose the table of its keys and values
 unfoldable pub textual_in : Data → Read Modification
 textual_in d = do
-  t ← field_in key.Type d
-  type_in t
-  members_in (key.Type ∷ key.Source ∷ key.Force ∷ key.Destination ∷ []) [] d
+  kind ← kind_in d
+  form ← form_in kind d
+  keys_in form d
   s ← field_in key.Source d
   source ← source_in s
   f ← field_in key.Force d
   force ← period_in f
-  w ← field_in key.Destination d
-  wid ← destination_in w
-  Ok (Textual source force (Repeal wid))
+  edit ← edit_in form d
+  Ok (Textual source force edit)
 
 -- an object has one member
 abbrev pub is_single : Members → Bool

@@ -43,6 +43,12 @@ impl Model for Mods {
 
     ghost Value = { List Modification };
 
+    ghost use Rattle.std.specs.Coded.{codes};
+    ghost use Rattle.act_tree.specs.Codes.{branches_code};
+    ghost use Rattle.act_tree.specs.OwnCode.{own_code};
+
+    ghost coded = { Prim.hlevel (codes, branches_code own_code) };
+
     ghost view = { λ m. m.items.items };
 }
 

@@ -10,12 +10,18 @@ ghost use Rattle.akn_json.specs.DossierForm.{dossier_of};
 ghost use Rattle.akn_json.specs.declared.fault.FormRule.TheVariants.{NotJson};
 
 mod act_form;
+mod edit_form;
 mod edit_kind;
 mod faults;
 mod fields;
+mod insertion;
 mod key;
 mod mods_form;
 mod node_form;
+mod renumbering;
+mod split;
+mod substitution;
+mod targets;
 mod works;
 
 use crate::{Dossier, ReadFail};

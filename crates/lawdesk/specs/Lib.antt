@@ -3,6 +3,7 @@ pub mod Rules
 pub mod Input
 pub mod Jobs
 pub mod Showing
+pub mod Awaiting
 pub mod VersionValues
 pub mod Versions
 pub mod Replay

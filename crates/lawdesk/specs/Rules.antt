@@ -1,12 +1,21 @@
 -- The rules of the register that a dossier can break: its act is enacted first, and then each modification is recorded alone.
-use Rattle.std.specs.Prelude.{ℕ, ◌+◌, nat_le, nat_lt, Bool, true, ◌&&◌, List, [], ◌∷◌, length, Option, Some, None, if◌then◌else◌}
+use Rattle.std.specs.Prelude.{ℕ, ◌+◌, nat_le, nat_lt, Bool, true, not, ◌&&◌, List, [], ◌∷◌, length, map, Option, Some, None, if◌then◌else◌}
+use Rattle.std.specs.List.{list_all}
+use Rattle.std.specs.Str.{bytes_eq}
 use Rattle.desk_base.specs.declared.period.Period.{Period}
 use Rattle.act_tree.specs.Branches.{Branch, Branches, branch, no_branches, more_branches, branches_of}
 use Rattle.act_tree.specs.Faults.{first_fault}
+use Rattle.act_tree.specs.Wids.{one_twice}
 use Rattle.act_tree.specs.Provisions.{Own}
 use Rattle.act_tree.specs.declared.build_fault.BuildFault.{BuildFault}
+use Rattle.act_tree.specs.declared.surveying.TheConstants.{NONE_THROUGHOUT}
+use Rattle.textual_mods.specs.declared.edit.Spot.{Spot}
+use Rattle.textual_mods.specs.declared.edit.SplitAt.{SplitAt}
+use Rattle.textual_mods.specs.declared.edit.SplitAt.TheVariants as cuts
+use Rattle.textual_mods.specs.declared.edit.TextPos.{TextPos}
+use Rattle.textual_mods.specs.declared.edit.TextPos.TheVariants as stands
 use Rattle.textual_mods.specs.declared.edit.TextualMod.{TextualMod}
-use Rattle.textual_mods.specs.declared.edit.TextualMod.TheVariants.{Repeal}
+use Rattle.textual_mods.specs.declared.edit.TextualMod.TheVariants.{Repeal, SubstituteNodes, SubstituteText, InsertNodes, InsertText, Renumber, Split, Join}
 use Rattle.akn_json.specs.declared.act.Act.{Act}
 use Rattle.akn_json.specs.declared.dossier.Dossier.{Dossier}
 use Rattle.akn_json.specs.declared.modification.Modification.{Modification}
@@ -21,6 +30,14 @@ most_refs = 16
 -- the most bytes of a wId
 abbrev pub most_wid_bytes : ℕ
 most_wid_bytes = 512
+
+-- the most bytes of a text that an edit brings or looks for
+abbrev pub most_text_bytes : ℕ
+most_text_bytes = 16384
+
+-- the most nodes side by side that an edit brings, and the most pairs of a renumbering
+abbrev pub most_items : ℕ
+most_items = 64
 
 -- the most ids of a work
 abbrev pub most_ids : ℕ
@@ -39,9 +56,46 @@ abbrev mutual
 abbrev pub is_wid : List ℕ → Bool
 is_wid wid = nat_lt 0 (length wid) && nat_le (length wid) most_wid_bytes
 
+-- a text is no longer than an edit may bring or look for
+abbrev pub text_fits : List ℕ → Bool
+text_fits text = nat_le (length text) most_text_bytes
+
+-- an occurrence is counted from 1, of a text that is not empty
+abbrev pub spot_fits : Spot → Bool
+spot_fits spot = nat_lt 0 (length spot.old) && text_fits spot.old && nat_lt 0 spot.occurrence
+
+-- nodes that are brought: there are some, not too many side by side, and none has too many refs
+abbrev pub payload_fits : List (Branch Own) → Bool
+payload_fits nodes = nat_lt 0 (length nodes) && nat_le (length nodes) most_items && have_few_refs (branches_of nodes)
+
+-- the pairs of a renumbering: there are some, not too many, and none names a provision that another names
+abbrev pub pairs_fit : List (List ℕ × List ℕ) → Bool
+pairs_fit pairs =
+    nat_lt 0 (length pairs) && nat_le (length pairs) most_items && list_all (λ pair. is_wid pair.0) pairs
+    && not (one_twice (map (λ pair. pair.0) pairs))
+
+-- where a text is inserted: an occurrence keeps its limits
+abbrev pub text_pos_fits : TextPos → Bool
+text_pos_fits stands.Start = true
+text_pos_fits stands.End = true
+text_pos_fits (stands.Before spot) = spot_fits spot
+text_pos_fits (stands.After spot) = spot_fits spot
+
+-- where a provision is split: an occurrence keeps its limits, and so does the name of a child
+abbrev pub split_at_fits : SplitAt → Bool
+split_at_fits (cuts.Text spot) = spot_fits spot
+split_at_fits (cuts.Child wid) = is_wid wid
+
 -- what an edit names and brings keeps its limits
 abbrev pub edit_fits : TextualMod → Bool
 edit_fits (Repeal wid) = is_wid wid
+edit_fits (SubstituteNodes wid new) = is_wid wid && payload_fits new
+edit_fits (SubstituteText wid spot new) = is_wid wid && spot_fits spot && text_fits new
+edit_fits (InsertNodes wid pos new) = is_wid wid && payload_fits new
+edit_fits (InsertText wid at new) = is_wid wid && text_pos_fits at && text_fits new
+edit_fits (Renumber pairs) = pairs_fit pairs
+edit_fits (Split wid at num heading) = is_wid wid && split_at_fits at && text_fits heading
+edit_fits (Join wid second separator) = is_wid wid && is_wid second && not (bytes_eq wid second) && text_fits separator
 
 -- what a modification names and brings keeps its limits
 abbrev pub modification_fits : Modification → Bool
@@ -82,11 +136,27 @@ act_limits_rule act = rule_or (broken_unless (have_few_refs (branches_of act.bod
 abbrev pub enact_rule : Act → Option Rule
 enact_rule act = rule_or (tree_rule (first_fault act.numbering (branches_of act.body))) (act_limits_rule act)
 
--- the first rule that the record of one modification breaks, in a work that has this many ids
-abbrev pub record_rule : ℕ → Modification → Option Rule
-record_rule ids m =
+-- the first fault of the nodes that an edit brings, below a root at which no element is numbered throughout
+abbrev pub payload_fault : TextualMod → Option BuildFault
+payload_fault (SubstituteNodes wid new) = first_fault NONE_THROUGHOUT (branches_of new)
+payload_fault (InsertNodes wid pos new) = first_fault NONE_THROUGHOUT (branches_of new)
+payload_fault _ = None
+
+-- the rule that the nodes which a modification brings break
+abbrev pub payload_rule : Modification → Option Rule
+payload_rule (Textual source force edit) = tree_rule (payload_fault edit)
+
+-- the first rule that the record of one modification breaks, beside that of the nodes which it brings, in a work that has this
+-- many ids
+abbrev pub record_limits_rule : ℕ → Modification → Option Rule
+record_limits_rule ids m =
     rule_or (broken_unless (modification_fits m) (BadModification 1))
     (rule_or (broken_unless (times_fit m) (BadPeriod 1)) (broken_unless (nat_lt ids most_ids) (WorkFull most_ids)))
+
+-- the first rule that the record of one modification breaks, in a work that has this many ids: that of the nodes which it brings
+-- comes before the others
+abbrev pub record_rule : ℕ → Modification → Option Rule
+record_rule ids m = rule_or (payload_rule m) (record_limits_rule ids m)
 
 -- the first rule that these modifications break, recorded one after another in a work that has this many ids
 abbrev pub records_rule : ℕ → List Modification → Option Rule

@@ -1,9 +1,12 @@
 //! Answering: the answer that a dossier gives on a day.
 
-ghost use Rattle.std.specs.Prelude.{◌≡◌, ◌+◌, ◌^◌, ◌<◌, ◌≤◌, IfOk, length};
+ghost use Rattle.std.specs.Prelude.{◌≡◌, ◌+◌, ◌^◌, ◌<◌, ◌≤◌, None, IfOk, length};
+ghost use Rattle.act_tree.specs.Branches.{branches_of};
+ghost use Rattle.act_tree.specs.Faults.{first_fault};
 ghost use Rattle.act_tree.specs.Seen.{tree_view};
 ghost use Rattle.lawdesk.specs.Answering as spec;
 ghost use Rattle.lawdesk.specs.Replay.{as_enacted};
+ghost use Rattle.lawdesk.specs.Rules.{records_rule};
 ghost use Rattle.lawdesk.specs.Versions.{version_view};
 ghost use Rattle.lawdesk.specs.Answering.{question_on, shown_tree, answer_from};
 
@@ -60,7 +63,8 @@ fn answer_of(
 
 /// The answer that a dossier gives on a day, with all its modifications known, from its act as enacted.
 ///
-/// It counts one step at most for each modification that is due.
+/// It counts one step at most for each modification that is due. The text of the act is well-formed, and the modifications keep
+/// the rules.
 #[tactic(auto, unfolding(crate::specs::Answering::answer_on))]
 pub fn answer_on<L: Ledger>(
     alloc: Global,
@@ -69,7 +73,8 @@ pub fn answer_on<L: Ledger>(
     day: Day,
     steps: &mut Steps<L>,
 ) -> Result<Answer, Memory>
-    requires mods { length dossier.now.mods ≤ 512 }
+    requires fits { first_fault dossier.now.act.numbering (branches_of dossier.now.act.body) ≡ None }
+    requires kept { records_rule 0 dossier.now.mods ≡ None }
     requires enacted { version_view enacted ≡ as_enacted dossier.now.act }
     ensures { IfOk result (λ answer. answer ≡ spec.answer_on dossier.now day) }
 {

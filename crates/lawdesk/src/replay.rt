@@ -1,8 +1,11 @@
 //! Replay: the modifications that are due, applied in order to the act as enacted.
 
-ghost use Rattle.std.specs.Prelude.{◌≡◌, ◌+◌, ◌≤◌, IfOk, IfErr, OnOk, None, Some, length, slice_get, ◌-◌};
+ghost use Rattle.std.specs.Prelude.{◌≡◌, ◌+◌, ◌≤◌, IfOk, IfErr, OnOk, None, Some, false, length, slice_get, ◌-◌};
 ghost use Rattle.act_tree.specs.Branches.{branches_of};
-ghost use Rattle.act_tree.specs.Faults.{first_fault, FailsBy};
+ghost use Rattle.act_tree.specs.Brought.{has_brought};
+ghost use Rattle.act_tree.specs.Faults.{first_cause, first_fault, FailsBy};
+ghost use Rattle.lawdesk.specs.Awaiting.{AddsWidsOf, AreNew};
+ghost use Rattle.lawdesk.specs.Rules.{payload_rule, records_rule};
 ghost use Rattle.lawdesk.specs.Versions.{version_view};
 ghost use Rattle.lawdesk.specs.Replay.{as_enacted, modified, replayed};
 
@@ -28,7 +31,7 @@ pub fn enact(alloc: Global, act: &Act) -> Result<Version, BuildFail>
     })
 }
 
-// Applies one modification, and lists it.
+// Applies one modification, and lists it. It keeps the rules, and is new to the text, which is well-formed.
 fn modify<L: Ledger>(
     alloc: Global,
     version: &mut Version,
@@ -36,8 +39,13 @@ fn modify<L: Ledger>(
     modification: &Modification,
     steps: &mut Steps<L>,
 ) -> Result<(), Memory>
+    requires kept { payload_rule modification.now ≡ None }
+    requires fits { first_cause (version_view version.old).tree ≡ None }
+    requires unused { has_brought id (version_view version.old).tree.body ≡ false }
     ensures version { OnOk result (version_view version.new ≡ modified (version_view version.old) id (Some modification.now)) }
     ensures step { steps.new ≡ steps.old + 1 }
+    ensures fits { first_cause (version_view version.new).tree ≡ None }
+    ensures others { AddsWidsOf id (version_view version.old).tree.body (version_view version.new).tree.body }
 {
     let Modification::Textual { edit, .. } = modification;
     match apply(alloc, &mut version.tree, id, edit, steps)? {
@@ -54,8 +62,13 @@ fn modify_by_id<L: Ledger>(
     mods: &[Modification],
     steps: &mut Steps<L>,
 ) -> Result<(), Memory>
+    requires kept { records_rule 0 mods.now ≡ None }
+    requires fits { first_cause (version_view version.old).tree ≡ None }
+    requires unused { has_brought id (version_view version.old).tree.body ≡ false }
     ensures version { OnOk result (version_view version.new ≡ modified (version_view version.old) id (slice_get mods.now (id.law - 2))) }
     ensures steps { steps.new ≤ steps.old + 1 }
+    ensures fits { first_cause (version_view version.new).tree ≡ None }
+    ensures others { AddsWidsOf id (version_view version.old).tree.body (version_view version.new).tree.body }
 {
     match mods.get((id.law as usize).saturating_sub(2)) {
         Some(modification) => modify(alloc, version, id, modification, steps),
@@ -63,7 +76,8 @@ fn modify_by_id<L: Ledger>(
     }
 }
 
-/// The version that the modifications that are due make of another. It takes one step at most for each of them.
+/// The version that the modifications that are due make of another, to which they are new. It takes one step at most for each of
+/// them. The modifications keep the rules, and the text of the other version is well-formed.
 pub fn replay<L: Ledger>(
     alloc: Global,
     mut version: Version,
@@ -71,6 +85,9 @@ pub fn replay<L: Ledger>(
     dues: &[Due],
     steps: &mut Steps<L>,
 ) -> Result<Version, Memory>
+    requires kept { records_rule 0 mods.now ≡ None }
+    requires fits { first_cause (version_view version).tree ≡ None }
+    requires unused { AreNew (version_view version).tree.body dues.now }
     ensures version { IfOk result (λ v. version_view v ≡ replayed mods.now (version_view version) dues.now) }
     ensures steps { steps.new ≤ steps.old + length dues.now }
 {

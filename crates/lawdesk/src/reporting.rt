@@ -1,9 +1,12 @@
 //! Reporting: what the program tells of its input, as a status and bytes.
 
-ghost use Rattle.std.specs.Prelude.{◌≡◌, ◌++◌, ◌∷◌, [], Ok, IfOk, length, ◌≤◌};
+ghost use Rattle.std.specs.Prelude.{◌≡◌, ◌++◌, ◌∷◌, [], Ok, None, IfOk, length, ◌≤◌};
+ghost use Rattle.act_tree.specs.Branches.{branches_of};
+ghost use Rattle.act_tree.specs.Faults.{first_fault};
 ghost use Rattle.akn_json.specs.DossierForm.{dossier_of};
 ghost use Rattle.lawdesk.specs.Reports.{told, told_on, told_of_text, told_rule, told_fault};
 ghost use Rattle.lawdesk.specs.Replay.{as_enacted};
+ghost use Rattle.lawdesk.specs.Rules.{records_rule};
 ghost use Rattle.lawdesk.specs.Versions.{version_view};
 ghost use Rattle.lawdesk.specs.Views.{report_view};
 
@@ -39,7 +42,8 @@ fn report_text<L: Ledger>(
     day: Day,
     steps: &mut Steps<L>,
 ) -> Result<Report, Memory>
-    requires mods { length dossier.now.mods ≤ 512 }
+    requires fits { first_fault dossier.now.act.numbering (branches_of dossier.now.act.body) ≡ None }
+    requires kept { records_rule 0 dossier.now.mods ≡ None }
     requires enacted { version_view enacted ≡ as_enacted dossier.now.act }
     ensures { IfOk result (λ report. report_view report ≡ told_of_text day dossier.now) }
 {
@@ -77,7 +81,7 @@ fn report_on<L: Ledger>(
     ensures { IfOk result (λ report. report_view report ≡ told_on day dossier.now) }
 {
     match enact(alloc, &dossier.act) {
-        Ok(enacted) => match limits_rule(dossier) {
+        Ok(enacted) => match limits_rule(alloc, dossier)? {
             Some(rule) => report_rule(alloc, rule),
             None => report_text(alloc, dossier, enacted, day, steps),
         },

@@ -1,0 +1,11 @@
+pub mod Behind
+pub mod Contents
+pub mod Finding
+pub mod Keeping
+pub mod Limits
+pub mod Names
+pub mod Naming
+pub mod Placing
+pub mod Removals
+pub mod Starting
+pub mod Sublists

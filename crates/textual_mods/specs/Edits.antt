@@ -1,31 +1,62 @@
 -- What one textual modification makes of the text of an act.
-use Rattle.std.specs.Prelude.{ℕ, List, Result, Ok, Err, if◌then◌else◌}
+use Rattle.std.specs.Prelude.{◌≡◌, Option, Some, None, Result, Ok, Err}
 use Rattle.desk_base.specs.declared.id.Id.{Id}
 use Rattle.act_tree.specs.declared.cause.Cause.{Cause}
-use Rattle.act_tree.specs.declared.cause.Cause.TheVariants.{TargetMissing}
-use Rattle.act_tree.specs.Branches.{Branches}
+use Rattle.act_tree.specs.declared.surveying.TheConstants.{NONE_THROUGHOUT}
+use Rattle.act_tree.specs.Branches.{Branches, branches_of}
+use Rattle.act_tree.specs.Faults.{first_cause, first_fault}
 use Rattle.act_tree.specs.Provisions.{Provision}
-use Rattle.act_tree.specs.Changes.{is_in, removed}
-use Rattle.act_tree.specs.Trees.{TreeValue, one_more}
+use Rattle.act_tree.specs.Trees.{TreeValue, changed_once}
+use Rattle.textual_mods.specs.StructureEdits.{repealed, nodes_substituted, nodes_inserted}
+use Rattle.textual_mods.specs.TextEdits.{text_substituted, text_inserted}
+use Rattle.textual_mods.specs.Renumberings.{nums_given}
+use Rattle.textual_mods.specs.Splits.{split_at_cut}
+use Rattle.textual_mods.specs.Joins.{joined_with}
 use Rattle.textual_mods.specs.declared.edit.TextualMod.{TextualMod}
-use Rattle.textual_mods.specs.declared.edit.TextualMod.TheVariants.{Repeal}
+use Rattle.textual_mods.specs.declared.edit.TextualMod.TheVariants.{Repeal, SubstituteNodes, SubstituteText, InsertNodes, InsertText, Renumber, Split, Join}
 use Rattle.textual_mods.specs.declared.outcome.Outcome.{Outcome}
 use Rattle.textual_mods.specs.declared.outcome.Outcome.TheVariants.{Done, Unapplied}
 
--- a repeal takes its target away with all that stands beneath it; a repeal of the root leaves nothing
-abbrev pub repealed : List ℕ → Branches Provision → Result (Branches Provision) Cause
-repealed wid body = if is_in wid body then Ok (removed wid body) else Err TargetMissing
+-- the text that an edit of the modification of this id makes of a text, or the first of the causes that hold it back before a
+-- change is made: a target is missing, an anchor is missing, an occurrence is missing, two elements differ
+abbrev pub edited : Id → TextualMod → Branches Provision → Result (Branches Provision) Cause
+edited by (Repeal wid) body = repealed wid body
+edited by (SubstituteNodes wid new) body = nodes_substituted by wid (branches_of new) body
+edited by (SubstituteText wid spot new) body = text_substituted wid spot new body
+edited by (InsertNodes wid pos new) body = nodes_inserted by wid pos (branches_of new) body
+edited by (InsertText wid at new) body = text_inserted wid at new body
+edited by (Renumber pairs) body = nums_given pairs body
+edited by (Split wid at num heading) body = split_at_cut by wid at num heading body
+edited by (Join wid second separator) body = joined_with wid second separator body
+
+-- a text, or the cause for which no tree has it
+abbrev pub unless_for : Option Cause → Branches Provision → Result (Branches Provision) Cause
+unless_for None body = Ok body
+unless_for (Some cause) body = Err cause
+
+-- a changed text of a tree, unless the tree would not be well-formed with it: two provisions would have one eId, or it would be
+-- too deep, have too many provisions, or too long a text
+abbrev pub within_limits : TreeValue → Result (Branches Provision) Cause → Result (Branches Provision) Cause
+within_limits tree (Err cause) = Err cause
+within_limits tree (Ok body) = unless_for (first_cause (record tree { body = body })) body
 
 -- the text that a modification of this id makes of a tree, or the first cause that holds it back
 abbrev pub applied : TreeValue → Id → TextualMod → Result (Branches Provision) Cause
-applied tree by (Repeal wid) = repealed wid tree.body
+applied tree by edit = within_limits tree (edited by edit tree.body)
 
 -- the tree afterwards: changed once, or as it was
 abbrev pub tree_after : TreeValue → Result (Branches Provision) Cause → TreeValue
-tree_after tree (Ok body) = record tree { body = body; changes = one_more tree.changes }
+tree_after tree (Ok body) = changed_once tree body
 tree_after tree (Err cause) = tree
 
 -- what is answered
 abbrev pub outcome_of : Result (Branches Provision) Cause → Outcome
 outcome_of (Ok body) = Done
 outcome_of (Err cause) = Unapplied cause
+
+-- what an edit keeps before it comes to a tree: nodes that it brings would make a tree by themselves, as the children of a root at
+-- which no element is numbered throughout
+abbrev pub IsSound : TextualMod → Type 0
+IsSound (SubstituteNodes wid new) = first_fault NONE_THROUGHOUT (branches_of new) ≡ None
+IsSound (InsertNodes wid pos new) = first_fault NONE_THROUGHOUT (branches_of new) ≡ None
+IsSound edit = Unit {0}

@@ -3,11 +3,20 @@
 
 mod applying;
 mod edit;
+mod held_back;
+mod joining;
+pub mod laws;
+mod occurrences;
 mod outcome;
-mod repeal;
-#[cfg(test)]
-mod tests;
+mod pairs;
+mod renumbering;
+mod settling;
+mod splitting;
+mod structure;
+mod targets;
+mod text;
 
 pub use applying::apply;
-pub use edit::TextualMod;
+pub use edit::{Pos, SplitAt, Spot, TextPos, TextualMod};
 pub use outcome::Outcome;
+pub use pairs::Pairs;

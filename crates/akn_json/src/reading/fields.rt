@@ -9,8 +9,9 @@ ghost use Rattle.akn_json.specs.declared.reading.key.Key.TheVariants.{Until};
 use super::faults::{BAD_DAY, BAD_NUMBER, WRONG_SHAPE};
 use super::key::Key;
 use crate::ReadFail;
-use desk_base::{Day, Period};
+use desk_base::{Day, Period, Text};
 use serde_json::{Map, Value};
+use std::alloc::Global;
 
 // Whether one of these keys has the name.
 fn is_named(name: &str, keys: &[Key]) -> bool
@@ -38,16 +39,23 @@ fn has_all(value: &Value, keys: &[Key]) -> bool
     keys.iter().all(|key| value.get(key.name()).is_some())
 }
 
+// Whether an object has members at the required keys, and at no others than the optional ones.
+#[tactic(auto, unfolding(crate::specs::Fields::has_members))]
+pub(super) fn has_members(value: &Value, required: &[Key], optional: &[Key]) -> bool
+    ensures { result ≡ spec.has_members required.now optional.now (view value.now) }
+{
+    match value.as_object() {
+        Some(object) => has_only(object, required, optional) && has_all(value, required),
+        None => false,
+    }
+}
+
 // An object with members at the required keys, and at no others than the optional ones.
 #[tactic(auto, unfolding(crate::specs::Fields::members_in))]
 pub(super) fn members(value: &Value, required: &[Key], optional: &[Key]) -> Result<(), ReadFail>
     ensures { Gives (λ u. u) result (spec.members_in required.now optional.now (view value.now)) }
 {
-    let object = value.as_object().ok_or(WRONG_SHAPE)?;
-    if !has_only(object, required, optional) {
-        return Err(WRONG_SHAPE);
-    }
-    if !has_all(value, required) {
+    if !has_members(value, required, optional) {
         return Err(WRONG_SHAPE);
     }
     Ok(())
@@ -84,6 +92,13 @@ pub(super) fn text(value: &Value) -> Result<&str, ReadFail>
         Some(text) => Ok(text),
         None => Err(WRONG_SHAPE),
     }
+}
+
+// A text, copied.
+pub(super) fn copied(alloc: Global, value: &Value) -> Result<Text, ReadFail>
+    ensures { Gives (λ t. t) result (spec.text_in (view value.now)) }
+{
+    Ok(Text::copy_of(alloc, text(value)?)?)
 }
 
 // The text at a key, and the empty one where the object has no such key.

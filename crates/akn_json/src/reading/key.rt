@@ -31,6 +31,14 @@ pub(super) enum Key {
     From,
     Until,
     Wid,
+    New,
+    Old,
+    Occurrence,
+    Pos,
+    Renumber,
+    Child,
+    Second,
+    Separator,
 }
 
 impl Key {
@@ -64,6 +72,14 @@ impl Key {
             Key::From => "from",
             Key::Until => "until",
             Key::Wid => "wId",
+            Key::New => "new",
+            Key::Old => "old",
+            Key::Occurrence => "occurrence",
+            Key::Pos => "pos",
+            Key::Renumber => "renumber",
+            Key::Child => "child",
+            Key::Second => "second",
+            Key::Separator => "separator",
         }
     }
 }

@@ -5,16 +5,14 @@ ghost use Rattle.serde_json.specs.View.{view, items_view};
 ghost use Rattle.akn_json.specs.Reads.{Gives, inside};
 ghost use Rattle.akn_json.specs.ModsForm as spec;
 
-use super::edit_kind::EditKind;
-use super::faults::{NOT_BUILT, UNKNOWN_WORD, WRONG_SHAPE};
-use super::fields::{field, items, members, number, period, text};
+use super::edit_form::{EditForm, kind};
+use super::faults::{NOT_BUILT, WRONG_SHAPE};
+use super::fields::{field, items, members, number, period};
 use super::key::Key;
 use super::works::work;
 use crate::{FormFault, ModSource, Modification, Mods, ReadFail};
-use desk_base::Text;
 use serde_json::Value;
 use std::alloc::Global;
-use textual_mods::TextualMod;
 
 // The source of a modification: the IRI of the work that modifies, and a place within it.
 #[tactic(auto, unfolding(crate::specs::ModsForm::source_in))]
@@ -30,47 +28,20 @@ fn source(alloc: Global, value: &Value) -> Result<ModSource, ReadFail>
     })
 }
 
-// What a modification is directed at: a wId.
-#[tactic(auto, unfolding(crate::specs::ModsForm::destination_in))]
-fn destination(value: &Value) -> Result<&str, ReadFail>
-    ensures { Gives (λ s. s.now) result (spec.destination_in (view value.now)) }
-{
-    members(value, &[Key::Wid], &[])?;
-    text(field(value, Key::Wid)?)
-}
-
-// The word that says what a textual modification does: it repeals.
-#[tactic(auto, unfolding(crate::specs::ModsForm::type_in))]
-fn repeal_type(value: &Value) -> Result<(), ReadFail>
-    ensures { Gives (λ u. u) result (spec.type_in (view value.now)) }
-{
-    match EditKind::from_word(text(value)?) {
-        Some(EditKind::Repeal) => Ok(()),
-        Some(_) => Err(NOT_BUILT),
-        None => Err(UNKNOWN_WORD),
-    }
-}
-
-// A textual modification, which repeals its destination. Its word is judged before its keys.
+// A textual modification. Its table is chosen before its keys are judged, and its values are read in the order of the table.
 #[tactic(auto, unfolding(crate::specs::ModsForm::textual_in))]
 fn textual(alloc: Global, value: &Value) -> Result<Modification, ReadFail>
     ensures { Gives (λ m. m) result (spec.textual_in (view value.now)) }
 {
-    repeal_type(field(value, Key::Type)?)?;
-    members(
-        value,
-        &[Key::Type, Key::Source, Key::Force, Key::Destination],
-        &[],
-    )?;
+    let form = EditForm::of(kind(value)?, value)?;
+    form.keys(value)?;
     let source = source(alloc, field(value, Key::Source)?)?;
     let force = period(field(value, Key::Force)?)?;
-    let wid = destination(field(value, Key::Destination)?)?;
+    let edit = form.edit(alloc, value)?;
     Ok(Modification::Textual {
         source,
         force,
-        edit: TextualMod::Repeal {
-            wid: Text::copy_of(alloc, wid)?,
-        },
+        edit,
     })
 }
 

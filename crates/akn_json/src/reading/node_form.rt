@@ -33,7 +33,7 @@ pub(super) fn element(value: &Value) -> Result<Element, ReadFail>
 
 // The num of a node.
 #[tactic(auto, unfolding(crate::specs::NodeForm::num_in))]
-fn num(value: &Value) -> Result<Num, ReadFail>
+pub(super) fn num(value: &Value) -> Result<Num, ReadFail>
     ensures { Gives (λ n. n) result (spec.num_in (view value.now)) }
 {
     match Num::from_text(text(value)?) {

@@ -1,0 +1,31 @@
+-- The form of renumberings: provisions get nums, all at once.
+use Rattle.std.specs.Prelude.{ℕ, List, [], ◌∷◌, Ok}
+use Rattle.serde_json.specs.Data.{Data}
+use Rattle.textual_mods.specs.declared.edit.TextualMod.{TextualMod}
+use Rattle.textual_mods.specs.declared.edit.TextualMod.TheVariants.{Renumber}
+use Rattle.akn_json.specs.declared.reading.key.Key.TheVariants as key
+use Rattle.akn_json.specs.Reads.{Read, ◌>>=◌, ◌>>◌}
+use Rattle.akn_json.specs.Fields.{members_in, field_in, items_in, each, text_in}
+use Rattle.akn_json.specs.NodeForm.{num_in}
+
+-- the keys of a renumbering
+unfoldable pub renumber_keys_in : Data → Read Unit
+renumber_keys_in d = members_in (key.Type ∷ key.Source ∷ key.Force ∷ key.Renumber ∷ []) [] d
+
+-- a provision, with the num that it gets
+unfoldable pub pair_in : Data → Read (List ℕ × List ℕ)
+pair_in d = do
+  members_in (key.Wid ∷ key.Num ∷ []) [] d
+  w ← field_in key.Wid d
+  wid ← text_in w
+  n ← field_in key.Num d
+  num ← num_in n
+  Ok (wid, num)
+
+-- a renumbering
+unfoldable pub renumber_in : Data → Read TextualMod
+renumber_in d = do
+  r ← field_in key.Renumber d
+  items ← items_in r
+  pairs ← each pair_in items
+  Ok (Renumber pairs)

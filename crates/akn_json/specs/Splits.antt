@@ -1,0 +1,65 @@
+-- The forms of splits and of joins: one provision becomes two, or two become one.
+use Rattle.std.specs.Prelude.{Bool, ◌||◌, [], ◌∷◌, Option, Some, None, Ok}
+use Rattle.serde_json.specs.Data.{Data}
+use Rattle.serde_json.specs.Find.{get}
+use Rattle.textual_mods.specs.declared.edit.SplitAt.{SplitAt}
+use Rattle.textual_mods.specs.declared.edit.SplitAt.TheVariants as at
+use Rattle.textual_mods.specs.declared.edit.TextualMod.{TextualMod}
+use Rattle.textual_mods.specs.declared.edit.TextualMod.TheVariants.{Split, Join}
+use Rattle.akn_json.specs.declared.fault.FormRule.TheVariants.{WrongShape}
+use Rattle.akn_json.specs.declared.reading.key.Key.TheVariants as key
+use Rattle.akn_json.specs.Keys.{key_name}
+use Rattle.akn_json.specs.Reads.{Read, ◌>>=◌, broken, unless_broken}
+use Rattle.akn_json.specs.Fields.{has_members, members_in, field_in, optional_in, text_in}
+use Rattle.akn_json.specs.NodeForm.{num_in}
+use Rattle.akn_json.specs.Targets.{destination_in, spot_in}
+
+-- the keys of a split at a child
+abbrev pub has_child_keys : Data → Bool
+has_child_keys d = has_members (key.Type ∷ key.Source ∷ key.Force ∷ key.Destination ∷ key.Child ∷ key.Num ∷ []) (key.Heading ∷ []) d
+
+-- the keys of a split at a text
+abbrev pub has_text_keys : Data → Bool
+has_text_keys d =
+    has_members (key.Type ∷ key.Source ∷ key.Force ∷ key.Destination ∷ key.Old ∷ key.Num ∷ []) (key.Occurrence ∷ key.Heading ∷ []) d
+
+-- the keys of a split: those of the one or of the other
+unfoldable pub split_keys_in : Data → Read Unit
+split_keys_in d = unless_broken (broken WrongShape) (has_child_keys d || has_text_keys d)
+
+-- at the child that is named, and else at one occurrence of a text
+abbrev pub split_at_or : Option Data → Data → Read SplitAt
+split_at_or None d = do
+  spot ← spot_in d
+  Ok (at.Text spot)
+split_at_or (Some c) d = do
+  child ← text_in c
+  Ok (at.Child child)
+
+-- where a provision is split
+unfoldable pub split_at_in : Data → Read SplitAt
+split_at_in d = split_at_or (get (key_name key.Child) d) d
+
+-- the split of a provision
+unfoldable pub split_in : Data → Read TextualMod
+split_in d = do
+  wid ← destination_in d
+  at ← split_at_in d
+  n ← field_in key.Num d
+  num ← num_in n
+  heading ← optional_in key.Heading [] text_in d
+  Ok (Split wid at num heading)
+
+-- the keys of a join
+unfoldable pub join_keys_in : Data → Read Unit
+join_keys_in d =
+    members_in (key.Type ∷ key.Source ∷ key.Force ∷ key.Destination ∷ key.Second ∷ []) (key.Separator ∷ []) d
+
+-- the join of two provisions
+unfoldable pub join_in : Data → Read TextualMod
+join_in d = do
+  wid ← destination_in d
+  s ← field_in key.Second d
+  second ← text_in s
+  separator ← optional_in key.Separator [] text_in d
+  Ok (Join wid second separator)

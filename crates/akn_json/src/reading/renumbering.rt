@@ -1,0 +1,61 @@
+//! The form of renumberings.
+
+ghost use Rattle.std.specs.Prelude.{◌≡◌};
+ghost use Rattle.serde_json.specs.View.{view, items_view};
+ghost use Rattle.akn_json.specs.Reads.{Gives};
+ghost use Rattle.akn_json.specs.Fields.{each};
+ghost use Rattle.akn_json.specs.Renumberings as spec;
+
+use super::fields::{copied, field, items, members};
+use super::key::Key;
+use super::node_form::num;
+use crate::ReadFail;
+use desk_base::Text;
+use eid_paths::Num;
+use serde_json::Value;
+use std::alloc::Global;
+use textual_mods::{Pairs, TextualMod};
+
+// The keys of a renumbering.
+#[tactic(auto, unfolding(crate::specs::Renumberings::renumber_keys_in))]
+pub(super) fn renumber_keys(value: &Value) -> Result<(), ReadFail>
+    ensures { Gives (λ u. u) result (spec.renumber_keys_in (view value.now)) }
+{
+    members(
+        value,
+        &[Key::Type, Key::Source, Key::Force, Key::Renumber],
+        &[],
+    )
+}
+
+// A provision, with the num that it gets.
+#[tactic(auto, unfolding(crate::specs::Renumberings::pair_in))]
+fn pair(alloc: Global, value: &Value) -> Result<(Text, Num), ReadFail>
+    ensures { Gives (λ p. p) result (spec.pair_in (view value.now)) }
+{
+    members(value, &[Key::Wid, Key::Num], &[])?;
+    let wid = copied(alloc, field(value, Key::Wid)?)?;
+    let num = num(field(value, Key::Num)?)?;
+    Ok((wid, num))
+}
+
+// Each of these pairs, in order.
+fn each_pair(alloc: Global, values: &[Value]) -> Result<Pairs, ReadFail>
+    ensures { Gives (λ p. p) result (each spec.pair_in (items_view values.now)) }
+{
+    let mut pairs = Pairs::new(alloc);
+    for value in values {
+        let (wid, num) = pair(alloc, value)?;
+        pairs.push(wid, num)?;
+    }
+    Ok(pairs)
+}
+
+// A renumbering.
+#[tactic(auto, unfolding(crate::specs::Renumberings::renumber_in))]
+pub(super) fn renumber(alloc: Global, value: &Value) -> Result<TextualMod, ReadFail>
+    ensures { Gives (λ e. e) result (spec.renumber_in (view value.now)) }
+{
+    let pairs = each_pair(alloc, items(field(value, Key::Renumber)?)?)?;
+    Ok(TextualMod::Renumber { pairs })
+}

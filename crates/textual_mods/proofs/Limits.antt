@@ -1,0 +1,74 @@
+-- A text that keeps the limits, told limit by limit.
+use Rattle.std.proofs.Common.{◌≡◌, ◌∙◌, sym, ap, refl, ℕ, ◌<◌, ◌≤◌, Bool, true, false, cond, List, length, nat_lt, Option, Some, None, ◌⊎◌, inl, inr, arith}
+use Rattle.std.specs.Prelude.{option_map, Result, Ok, Err, OnOk, OnErr}
+use Rattle.std.proofs.lemmas.Bool.{cases_Bool, cases_lt, lt-ltb, le-ltb}
+use Rattle.eid_paths.specs.declared.numbering.Numbering.{Numbering}
+use Rattle.act_tree.specs.declared.build_fault.BuildFault.{BuildFault}
+use Rattle.act_tree.specs.declared.build_fault.BuildFault.TheVariants.{EidTwice, TooDeep, TooManyNodes, TextTooLong}
+use Rattle.act_tree.specs.Branches.{Branches, heights, counts}
+use Rattle.act_tree.specs.Provisions.{Own, Provision}
+use Rattle.act_tree.specs.Faults.{all_eids, all_owns, have_long, first_fault, first_cause, fault_cause}
+use Rattle.act_tree.specs.Trees.{TreeValue}
+use Rattle.act_tree.specs.Wids.{one_twice}
+use Rattle.act_tree.specs.declared.cause.Cause.{Cause}
+use Rattle.desk_base.specs.declared.memory.Memory.{Memory}
+use Rattle.textual_mods.specs.Edits.{unless_for, within_limits, tree_after}
+use Rattle.textual_mods.specs.declared.outcome.Outcome.{Outcome}
+
+-- a text whose eIds differ, and which is neither too deep nor too large
+pub record IsPlaced (n : Numbering) (bs : Branches Own) : Type 0 where
+  pub once : one_twice (all_eids n None bs) ≡ false
+  pub low : heights bs ≤ 12
+  pub few : counts bs ≤ 4096
+
+-- the first fault, of the four tests
+abbrev fault_by : Bool → Bool → Bool → Bool → Option BuildFault
+fault_by twice deep many long = cond twice (Some EidTwice) (cond deep (Some TooDeep) (cond many (Some TooManyNodes) (cond long (Some TextTooLong) None)))
+
+tests : (twice deep many long : Bool) → fault_by twice deep many long ≡ None → (twice ≡ false) × (deep ≡ false) × (many ≡ false) × (long ≡ false)
+tests false false false false none = (refl, refl, refl, refl)
+tests true deep many long none = absurd cc
+tests false true many long none = absurd cc
+tests false false true long none = absurd cc
+tests false false false true none = absurd cc
+
+at_most : (k m : ℕ) → nat_lt k m ≡ false → m ≤ k
+at_most k m test =
+    elim (cases_lt k m) [ inl less ↦ absurd (let told : nat_lt k m ≡ true = lt-ltb k m less in cc) | inr most ↦ most ]
+
+pub is_placed : (n : Numbering) (bs : Branches Own) → first_fault n bs ≡ None → IsPlaced n bs
+is_placed n bs none =
+    let t = tests (one_twice (all_eids n None bs)) (nat_lt 12 (heights bs)) (nat_lt 4096 (counts bs)) (have_long bs) none in
+    record { once = t.0; low = at_most 12 (heights bs) t.1; few = at_most 4096 (counts bs) t.2 }
+
+pub is_short : (n : Numbering) (bs : Branches Own) → first_fault n bs ≡ None → have_long bs ≡ false
+is_short n bs none = (tests (one_twice (all_eids n None bs)) (nat_lt 12 (heights bs)) (nat_lt 4096 (counts bs)) (have_long bs) none).3
+
+-- of a text that is placed only the length of a heading or content is left to ask
+pub fault_of_length : (n : Numbering) (bs : Branches Own) (long : Bool) → IsPlaced n bs → have_long bs ≡ long → first_fault n bs ≡ cond long (Some TextTooLong) None
+fault_of_length n bs long placed is =
+    ap (λ t. fault_by t (nat_lt 12 (heights bs)) (nat_lt 4096 (counts bs)) (have_long bs)) placed.once
+    ∙ ap (λ t. fault_by false t (nat_lt 4096 (counts bs)) (have_long bs)) (le-ltb 12 (heights bs) placed.low)
+    ∙ ap (λ t. fault_by false false t (have_long bs)) (le-ltb 4096 (counts bs) placed.few)
+    ∙ ap (λ t. fault_by false false false t) is
+
+no_fault : (f : Option BuildFault) → option_map fault_cause f ≡ None → f ≡ None
+no_fault None none = refl
+no_fault (Some f) none = absurd cc
+
+-- a tree with no cause against it has no fault
+pub faultless : (t : TreeValue) → first_cause t ≡ None → first_fault t.numbering (all_owns t.body) ≡ None
+faultless t none = no_fault (first_fault t.numbering (all_owns t.body)) none
+
+-- a tree that is well-formed is so after an edit, which is held back where it would not be
+pub fits_after : (t : TreeValue) (r : Result (Branches Provision) Cause) → first_cause t ≡ None → first_cause (tree_after t (within_limits t r)) ≡ None
+fits_after t (Err cause) none = none
+fits_after t (Ok body) none = by_cause (first_cause (record t { body = body })) refl where
+  by_cause : (cause : Option Cause) → first_cause (record t { body = body }) ≡ cause → first_cause (tree_after t (unless_for cause body)) ≡ None
+  by_cause None is = is
+  by_cause (Some cause) is = none
+
+-- of a call either of both holds
+pub either_way : (r : Result Outcome Memory) (A B : Type 0) → OnOk r A → OnErr r B → A ⊎ B
+either_way (Ok o) A B ok err = inl ok
+either_way (Err e) A B ok err = inr err

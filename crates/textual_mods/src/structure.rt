@@ -1,0 +1,121 @@
+//! Edits of structure: repeal, and substitution and insertion of provisions.
+
+ghost use Rattle.std.specs.Prelude.{◌≡◌, ◌+◌, ◌≤◌, None, false, true, length, is_some, IfOk, IfSome, OnOk, OnErr};
+ghost use Rattle.act_tree.specs.Branches.{Branches, branches_of};
+ghost use Rattle.act_tree.specs.Brought.{has_brought};
+ghost use Rattle.act_tree.specs.Changes.{after, changed, grafted};
+ghost use Rattle.act_tree.specs.Faults.{first_cause, first_fault};
+ghost use Rattle.act_tree.specs.Provisions.{Provision};
+ghost use Rattle.act_tree.specs.Seen.{tree_view, has_node, provision_at, children_at};
+ghost use Rattle.act_tree.specs.declared.surveying.TheConstants.{NONE_THROUGHOUT};
+ghost use Rattle.textual_mods.specs.Edits.{within_limits, tree_after, outcome_of};
+ghost use Rattle.textual_mods.specs.StructureEdits.{repealed, nodes_substituted, nodes_inserted, is_anchor, placed};
+
+use crate::held_back::{held_back, or_step};
+use crate::settling::settle;
+use crate::targets::provision_named;
+use crate::{Outcome, Pos};
+use act_tree::{Cause, NodeId, Nodes, Tree};
+use desk_base::{Id, Memory, Steps};
+use std::alloc::Global;
+use std::sync::ledger::Ledger;
+
+/// Takes the target away with all that stands beneath it, or all provisions where the target is the root. No limit can be
+/// passed by that, so it is done in place.
+pub fn repeal<L: Ledger>(tree: &mut Tree, wid: &str, steps: &mut Steps<L>) -> Outcome
+    requires { first_cause (tree_view tree.old) ≡ None }
+    ensures outcome { result ≡ outcome_of (within_limits (tree_view tree.old) (repealed wid.now (tree_view tree.old).body)) }
+    ensures tree { tree_view tree.new ≡ tree_after (tree_view tree.old) (within_limits (tree_view tree.old) (repealed wid.now (tree_view tree.old).body)) }
+    ensures step { steps.new ≡ steps.old + 1 }
+{
+    match tree.find(wid.as_bytes()) {
+        Some(id) => {
+            tree.remove(id, steps);
+            Outcome::Done
+        }
+        None => held_back(Cause::TargetMissing, steps),
+    }
+}
+
+/// Puts nodes in the place of the target and of all that stands beneath it.
+pub fn substitute_nodes<L: Ledger>(
+    alloc: Global,
+    tree: &mut Tree,
+    by: Id,
+    wid: &str,
+    new: &Nodes,
+    steps: &mut Steps<L>,
+) -> Result<Outcome, Memory>
+    requires payload { first_fault NONE_THROUGHOUT (branches_of new.now) ≡ None }
+    requires fresh { has_brought by (tree_view tree.old).body ≡ false }
+    ensures outcome { IfOk result (λ o. o ≡ outcome_of (within_limits (tree_view tree.old) (nodes_substituted by wid.now (branches_of new.now) (tree_view tree.old).body))) }
+    ensures tree { OnOk result (tree_view tree.new ≡ tree_after (tree_view tree.old) (within_limits (tree_view tree.old) (nodes_substituted by wid.now (branches_of new.now) (tree_view tree.old).body))) }
+    ensures kept { OnErr result (tree_view tree.new ≡ tree_view tree.old) }
+    ensures step { steps.new ≡ steps.old + 1 }
+{
+    let Some(id) = tree.find(wid.as_bytes()) else {
+        return Ok(held_back(Cause::TargetMissing, steps));
+    };
+    let before = or_step(tree.copy(alloc), steps)?;
+    tree.replace(alloc, id, new, by, steps)?;
+    settle(alloc, tree, before)
+}
+
+/// Puts nodes beside a provision, or among its children.
+pub fn insert_nodes<L: Ledger>(
+    alloc: Global,
+    tree: &mut Tree,
+    by: Id,
+    wid: &str,
+    pos: Pos,
+    new: &Nodes,
+    steps: &mut Steps<L>,
+) -> Result<Outcome, Memory>
+    requires payload { first_fault NONE_THROUGHOUT (branches_of new.now) ≡ None }
+    requires fresh { has_brought by (tree_view tree.old).body ≡ false }
+    ensures outcome { IfOk result (λ o. o ≡ outcome_of (within_limits (tree_view tree.old) (nodes_inserted by wid.now pos (branches_of new.now) (tree_view tree.old).body))) }
+    ensures tree { OnOk result (tree_view tree.new ≡ tree_after (tree_view tree.old) (within_limits (tree_view tree.old) (nodes_inserted by wid.now pos (branches_of new.now) (tree_view tree.old).body))) }
+    ensures kept { OnErr result (tree_view tree.new ≡ tree_view tree.old) }
+    ensures step { steps.new ≡ steps.old + 1 }
+{
+    let Some((parent, place)) = place_for(tree, wid, pos) else {
+        return Ok(held_back(Cause::AnchorMissing, steps));
+    };
+    let before = or_step(tree.copy(alloc), steps)?;
+    tree.graft(alloc, parent, place, new, by, steps)?;
+    settle(alloc, tree, before)
+}
+
+// Among whose children nodes stand that are inserted, and behind how many of them. `None`: the place is not there.
+fn place_for(tree: &Tree, wid: &str, pos: Pos) -> Option<(NodeId, usize)>
+    ensures anchor { is_some result ≡ is_anchor pos wid.now (tree_view tree.now).body }
+    ensures node { IfSome result (λ at. has_node tree.now at.0 ≡ true) }
+    ensures place { IfSome result (λ at. at.1 ≤ length (children_at tree.now at.0)) }
+    ensures gives { IfSome result (λ at. (new : Branches Provision)
+        → grafted (provision_at tree.now at.0).wid at.1 new (tree_view tree.now).body ≡ placed pos wid.now new (tree_view tree.now).body) }
+{
+    match pos {
+        Pos::Before => Some(tree.place_of(provision_named(tree, wid)?)),
+        Pos::After => Some(place_behind(tree, provision_named(tree, wid)?)),
+        Pos::Start => Some((tree.find(wid.as_bytes())?, 0)),
+        Pos::End => {
+            let id = tree.find(wid.as_bytes())?;
+            Some((id, tree.children(id).len()))
+        }
+    }
+}
+
+// The node right above a provision, and how many of its children stand before what is right behind the provision.
+fn place_behind(tree: &Tree, id: NodeId) -> (NodeId, usize)
+    requires node { has_node tree.now id ≡ true }
+    requires provision { id ≡ 0 → ⊥ }
+    ensures node { has_node tree.now result.0 ≡ true }
+    ensures place { result.1 ≤ length (children_at tree.now result.0) }
+    ensures gives { (new : Branches Provision) → grafted (provision_at tree.now result.0).wid result.1 new (tree_view tree.now).body
+        ≡ changed (after new) (provision_at tree.now id).wid (tree_view tree.now).body }
+{
+    let (parent, place) = tree.place_of(id);
+    let siblings = tree.children(parent).len();
+    prove!(place < siblings);
+    (parent, place + 1)
+}
