@@ -1,0 +1,10 @@
+mod Windows
+mod Moments
+mod Records
+mod Scans
+mod Crash
+mod Appending
+mod Frames
+mod MemorySteps
+mod Painting
+mod Histories

@@ -1,0 +1,116 @@
+-- The state of a journal, and what its calls promise.
+use Rattle.std.specs.Prelude.{ℕ, suc, ◌≡◌, ◌≢◌, ◌⊎◌, ◌+◌, ◌<◌, ◌≤◌, Bool, true, false, not, ◌&&◌, ◌==◌, is_none, get_or, List, [], ◌∷◌, ◌++◌, length, Option, Some, None, Result, Ok, Err, IsTrue, Vec}
+use Rattle.std.specs.declared.alloc.Global.{Global}
+use Rattle.desk_base.specs.Streams.{Rose}
+use Rattle.law_journal.specs.Disks.{Outlook, Only}
+use Rattle.law_journal.specs.Grammar.{Step, ends, holds, breaks, Listing, magic, is_size, step_at, step_list, list_from, with_first, with_last, magic_fault, list_of, frame_of, payload_of}
+use Rattle.desk_base.specs.declared.load_fault.LoadFault.{LoadFault}
+use Rattle.desk_base.specs.declared.load_fault.LoadFault.TheVariants.{Failed, Damaged, Memory}
+use Rattle.law_journal.specs.declared.step.Found.{Found}
+use Rattle.law_journal.specs.declared.step.Found.TheVariants.{End, Entry, Broken}
+
+-- payloads in front of a list
+abbrev pub with_front : List (List ℕ) → Listing → Listing
+with_front [] listing = listing
+with_front (payload ∷ payloads) listing = with_first payload (with_front payloads listing)
+
+-- bytes that are whole records of these payloads: from place 8 on, whatever gate and bytes stand behind them, the
+-- list has these payloads in front, and goes on at that gate
+abbrev pub AreRecords : List (List ℕ) → List ℕ → Type 0
+AreRecords payloads bytes = (gate : ℕ) (behind : List ℕ) (steps : ℕ) →
+    list_from (length payloads + suc steps) 8 (bytes ++ gate ∷ behind)
+    ≡ with_front payloads (step_list (8 + length bytes) (step_at (8 + length bytes) (gate ∷ behind)) (list_from steps))
+
+-- the file is the magic, whole records, and a gate at this place, with what follows it
+pub record IsJournal (file : List ℕ) (place : ℕ) (behind : List ℕ) : Type 0 where
+  pub payloads : List (List ℕ)
+  pub bytes : List ℕ
+  pub are_records : AreRecords payloads bytes
+  pub no_more : length payloads ≤ length bytes
+  pub file_is : file ≡ magic ++ bytes ++ behind
+  pub at_place : place ≡ 8 + length bytes
+
+-- the file ends with a closed gate at this place, and all of it is on the disk
+pub record Rests (o : Outlook) (gate : ℕ) : Type 0 where
+  pub shut : ℕ
+  pub is_shut : shut ≢ 1
+  pub journal : IsJournal o.seen gate (shut ∷ [])
+  pub durable : Only o.seen o.may_leave
+
+-- bytes are the frame of a payload of 1 to 16,777,216 bytes
+pub record IsFrame (framed : List ℕ) : Type 0 where
+  pub is_size : IsTrue (is_size (length (payload_of framed)))
+  pub is_frame : framed ≡ frame_of (payload_of framed)
+
+-- a file stands for the list of another, with one payload more or without it
+abbrev pub IsBeforeOrAfter : List ℕ → List ℕ → List ℕ → Type 0
+IsBeforeOrAfter old payload file = (list_of file ≡ list_of old) ⊎ (list_of file ≡ with_last payload (list_of old))
+
+-- a file is one that a crash could leave before the call, or stands for the list that the disk had
+abbrev pub IsOldOrSame : Outlook → List ℕ → Type 0
+IsOldOrSame old file = old.may_leave file ⊎ (list_of file ≡ list_of old.seen)
+
+-- a fault of the disk is told only where the count of faults rose; else the count is as it was
+abbrev pub HasLoadCause : {T : Type 0} → ℕ → ℕ → Result T LoadFault → Type 0
+HasLoadCause before now (Ok value) = now ≡ before
+HasLoadCause before now (Err Failed) = Rose before now
+HasLoadCause before now (Err (Damaged place byte)) = now ≡ before
+HasLoadCause before now (Err Memory) = now ≡ before
+
+-- what is found at a gate, of a step
+abbrev pub found_of : Step → Found
+found_of ends = End
+found_of (holds payload rest) = Entry (length payload)
+found_of (breaks damage) = Broken damage.place damage.byte
+
+-- damage is told exactly as the list has it
+abbrev pub Tells : Listing → LoadFault → Type 0
+Tells listing Failed = Unit {0}
+Tells listing (Damaged place byte) = listing ≡ Err (record { place = place; byte = byte })
+Tells listing Memory = Unit {0}
+
+-- a payload that is found, and the next gate, are in the file
+abbrev pub FitsIn : ℕ → ℕ → Found → Type 0
+FitsIn place len End = Unit {0}
+FitsIn place len (Entry size) = place + 5 + size < len
+FitsIn place len (Broken at byte) = Unit {0}
+
+-- the file's list ends at this place, with a closed gate
+pub record HasEnd (file : List ℕ) (gate : ℕ) : Type 0 where
+  pub shut : ℕ
+  pub behind : List ℕ
+  pub is_shut : shut ≢ 1
+  pub journal : IsJournal file gate (shut ∷ behind)
+
+-- a file of at most nine bytes
+abbrev pub IsShort : List ℕ → Type 0
+IsShort file = length file ≤ 9
+
+-- a file stands for the list of another
+abbrev pub IsSameList : List ℕ → List ℕ → Type 0
+IsSameList old file = list_of file ≡ list_of old
+
+-- the bytes are the magic and a closed gate, and nothing else
+abbrev pub is_started : List ℕ → Bool
+is_started bytes = (length bytes == 9) && (is_none (magic_fault 0 magic bytes) && not (get_or bytes 8 0 == 1))
+
+-- what is read at a gate is what stands there
+abbrev pub GivesEntry : ℕ → Step → Result (Option (Vec ℕ Global × ℕ)) LoadFault → Type 0
+GivesEntry place step (Ok None) = step ≡ ends
+GivesEntry place step (Ok (Some entry)) = ((rest : List ℕ) × (step ≡ holds entry.0.items rest)) × (entry.1 ≡ place + 5 + length entry.0.items)
+GivesEntry place step (Err Failed) = Unit {0}
+GivesEntry place step (Err (Damaged at byte)) = step ≡ breaks (record { place = at; byte = byte })
+GivesEntry place step (Err Memory) = Unit {0}
+
+-- a refusal that is no damage
+abbrev pub IsNoDamage : LoadFault → Type 0
+IsNoDamage Failed = Unit {0}
+IsNoDamage (Damaged place byte) = ⊥
+IsNoDamage Memory = Unit {0}
+
+-- a journal stays ready after an answer or for want of memory
+abbrev pub stays_ready : {T : Type 0} → Result T LoadFault → Bool
+stays_ready (Ok value) = true
+stays_ready (Err Failed) = false
+stays_ready (Err (Damaged place byte)) = false
+stays_ready (Err Memory) = true

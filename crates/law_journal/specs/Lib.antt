@@ -1,0 +1,10 @@
+pub mod Disks
+pub mod Unknown
+pub mod Answers
+pub mod Grammar
+pub mod Journals
+pub mod States
+pub mod Steps
+pub mod MemoryDisks
+pub mod MemoryLaws
+pub mod Windows

@@ -1,0 +1,169 @@
+//! Journal: payloads in a file on a disk. A clause sees the disk's outlook, the place of the closed gate, and whether
+//! the journal is ready.
+
+ghost use Rattle.std.specs.Prelude.{◌≡◌, ◌≤◌, ◌∷◌, true, false, IsTrue, length, drop, IfOk, IfErr, OnOk, OnErr};
+ghost use Rattle.desk_base.specs.Streams.{HasCause};
+ghost use Rattle.law_journal.specs.Disks.{Idles, LeavesOnly};
+ghost use Rattle.law_journal.specs.Grammar.{is_size, frame_of, payload_of, step_at, list_of, with_last};
+ghost use Rattle.law_journal.specs.Journals.{GivesEntry, HasLoadCause, stays_ready, IsBeforeOrAfter, IsFrame, IsOldOrSame, IsSameList, Tells};
+ghost use Rattle.law_journal.specs.States as state;
+
+use crate::Disk;
+use crate::reading::entry_at;
+use crate::recovering::recover;
+use crate::window::Window;
+use crate::writing::write_synced;
+use desk_base::{Failed, LoadFault, Memory};
+use std::alloc::Global;
+
+/// A journal on a disk.
+#[derive(Drop)]
+pub struct Journal<D: Disk> {
+    disk: D,
+    window: Window,
+    /// The place of the closed gate that ends the list.
+    gate: u64,
+    ready: bool,
+}
+
+/// A disk whose file is no journal that could be opened, and why.
+#[derive(Drop)]
+pub struct JournalRefused<D: Disk> {
+    /// The disk.
+    pub disk: D,
+    /// Why.
+    pub fault: LoadFault,
+}
+
+/// The frame of a payload: its length in four bytes, the payload, and a closed gate.
+pub fn frame(alloc: Global, payload: &[u8]) -> Result<Vec<u8>, Memory>
+    requires { IsTrue (is_size (length payload.now)) }
+    ensures bytes { IfOk result (λ framed. framed.items ≡ frame_of payload.now) }
+    ensures frame { IfOk result (λ framed. IsFrame framed.items) }
+    ensures payload { IfOk result (λ framed. payload_of framed.items ≡ payload.now) }
+{
+    let size = payload.len();
+    let mut framed = Vec::with_capacity(alloc, size + 5)?;
+    framed.push((size / 16_777_216) as u8)?;
+    framed.push((size / 65_536 % 256) as u8)?;
+    framed.push((size / 256 % 256) as u8)?;
+    framed.push((size % 256) as u8)?;
+    framed.extend_from_slice(payload)?;
+    framed.push(0)?;
+    Ok(framed)
+}
+
+impl<D: Disk> Journal<D> {
+    /// Opens the journal on a disk: syncs, reads, cuts off what a crash left behind the closed gate. A file of at
+    /// most nine bytes becomes a journal with no payload.
+    pub fn open(alloc: Global, disk: D) -> Result<Journal<D>, JournalRefused<D>>
+        ensures opened { IfOk result (state.IsReady D.outlook) }
+        ensures same { (D.outlook disk).tells → IfOk result (λ journal. IsSameList (D.outlook disk).seen (D.outlook journal.disk).seen) }
+        ensures kept { (D.outlook disk).tells → IfErr result (λ refused. IsSameList (D.outlook disk).seen (D.outlook refused.disk).seen) }
+        ensures damaged { (D.outlook disk).tells → IfErr result (λ refused. Tells (list_of (D.outlook disk).seen) refused.fault) }
+        ensures any_moment { (D.outlook disk).tells → IfOk result (λ journal. LeavesOnly (IsOldOrSame (D.outlook disk)) (D.outlook disk) (D.outlook journal.disk)) }
+        ensures any_moment_refused { (D.outlook disk).tells → IfErr result (λ refused. LeavesOnly (IsOldOrSame (D.outlook disk)) (D.outlook disk) (D.outlook refused.disk)) }
+        ensures cause { IfOk result (λ journal. D.faults journal.disk ≡ D.faults disk) }
+        ensures cause_refused { IfErr result (λ refused. state.HasFault (D.faults disk) (D.faults refused.disk) refused.fault) }
+    {
+        let window = match Window::new(alloc) {
+            Ok(window) => window,
+            Err(_) => return Err(JournalRefused {
+                disk,
+                fault: LoadFault::Memory,
+            }),
+        };
+        let mut journal = Journal {
+            disk,
+            window,
+            gate: 0,
+            ready: false,
+        };
+        match journal.reopen() {
+            Ok(()) => Ok(journal),
+            Err(fault) => Err(JournalRefused {
+                disk: journal.disk,
+                fault,
+            }),
+        }
+    }
+
+    /// Opens the journal again on the same disk.
+    pub fn reopen(&mut self) -> Result<(), LoadFault>
+        ensures opened { OnOk result (state.IsReady D.outlook self.new) }
+        ensures refused { OnErr result (self.new.ready ≡ false) }
+        ensures same { (D.outlook self.old.disk).tells → IsSameList (D.outlook self.old.disk).seen (D.outlook self.new.disk).seen }
+        ensures damaged { (D.outlook self.old.disk).tells → IfErr result (Tells (list_of (D.outlook self.old.disk).seen)) }
+        ensures any_moment { (D.outlook self.old.disk).tells → LeavesOnly (IsOldOrSame (D.outlook self.old.disk)) (D.outlook self.old.disk) (D.outlook self.new.disk) }
+        ensures cause { HasLoadCause (D.faults self.old.disk) (D.faults self.new.disk) result }
+    {
+        self.ready = false;
+        self.window.forget();
+        self.gate = recover(&mut self.disk, &mut self.window)?;
+        self.ready = true;
+        Ok(())
+    }
+
+    /// Whether records can be read and appended. Where they cannot, open the journal again.
+    pub fn ready(&self) -> bool
+        ensures { result ≡ self.now.ready }
+    {
+        self.ready
+    }
+
+    /// The disk that was handed in.
+    pub fn disk(&self) -> &D
+        ensures { result.now ≡ self.now.disk }
+    {
+        &self.disk
+    }
+
+    /// The payload behind the gate at a place, and the place of the next gate; None at the closed gate. The first
+    /// gate is at place 8. After a failure or damage the journal has to be opened again.
+    pub fn read_record(
+        &mut self,
+        alloc: Global,
+        place: u64,
+    ) -> Result<Option<(Vec<u8>, u64)>, LoadFault>
+        requires { state.IsReady D.outlook self.old }
+        ensures read { (D.outlook self.old.disk).tells → GivesEntry place (step_at place (drop place (D.outlook self.old.disk).seen)) result }
+        ensures still { IsTrue (stays_ready result) → state.IsReady D.outlook self.new }
+        ensures ready { self.new.ready ≡ stays_ready result }
+        ensures idle { Idles (D.outlook self.old.disk) (D.outlook self.new.disk) }
+        ensures cause { HasLoadCause (D.faults self.old.disk) (D.faults self.new.disk) result }
+    {
+        let entry = entry_at(
+            alloc,
+            &mut self.disk,
+            &mut self.window,
+            place,
+            self.gate + 1,
+        );
+        self.ready = matches!(entry, Ok(_) | Err(LoadFault::Memory));
+        entry
+    }
+
+    /// Adds the payload of a frame. Once it is Ok, each crash leaves a file whose list has the payload; the place is
+    /// that of the closed gate behind it. After a failure the journal has to be opened again, and has the payload or
+    /// has not.
+    pub fn append(&mut self, framed: &[u8]) -> Result<u64, Failed>
+        requires ready { state.IsReady D.outlook self.old }
+        requires frame { IsFrame framed.now }
+        ensures ready { OnOk result (state.IsReady D.outlook self.new) }
+        ensures refused { OnErr result (self.new.ready ≡ false) }
+        ensures place { IfOk result (λ place. place ≡ self.new.gate) }
+        ensures added { OnOk result ((D.outlook self.old.disk).tells → list_of (D.outlook self.new.disk).seen ≡ with_last (payload_of framed.now) (list_of (D.outlook self.old.disk).seen)) }
+        ensures left { (D.outlook self.old.disk).tells → IsBeforeOrAfter (D.outlook self.old.disk).seen (payload_of framed.now) (D.outlook self.new.disk).seen }
+        ensures any_moment { (D.outlook self.old.disk).tells → LeavesOnly (IsBeforeOrAfter (D.outlook self.old.disk).seen (payload_of framed.now)) (D.outlook self.old.disk) (D.outlook self.new.disk) }
+        ensures cause { HasCause (D.faults self.old.disk) (D.faults self.new.disk) result }
+    {
+        self.ready = false;
+        self.window.forget();
+        // The record has to be on the disk, behind its closed gate, before the gate is opened.
+        write_synced(&mut self.disk, self.gate + 1, framed)?;
+        write_synced(&mut self.disk, self.gate, &[1])?;
+        self.gate += framed.len() as u64;
+        self.ready = true;
+        Ok(self.gate)
+    }
+}

@@ -1,0 +1,21 @@
+//! The journal: payloads in a file, each on the disk before it is acknowledged, whatever moment a crash comes.
+#![tactic(auto)]
+
+mod disk;
+mod file_disk;
+mod history;
+mod journal;
+mod memory_disk;
+mod reading;
+mod recovering;
+mod scanning;
+mod step;
+#[cfg(test)]
+mod tests;
+mod window;
+mod writing;
+
+pub use disk::Disk;
+pub use file_disk::FileDisk;
+pub use journal::{Journal, JournalRefused, frame};
+pub use memory_disk::MemoryDisk;

@@ -1,0 +1,128 @@
+//! MemoryDisk: a disk in memory. It keeps each change with the bytes from before it, and some of its calls fail.
+
+ghost use Rattle.std.specs.Prelude.{◌≡◌, ◌≤◌, IfOk, OnOk};
+ghost use Rattle.desk_base.specs.Streams.{HasCause};
+ghost use Rattle.law_journal.specs.MemoryDisks as spec;
+
+use crate::Disk;
+use crate::history::History;
+use desk_base::{Failed, FailingCalls, Memory, count_fault};
+use std::alloc::Global;
+
+/// A disk in memory, which takes all its memory when it is made. A write, a cut or a sync past so many of them fails, so
+/// does a write that brings the bytes written in all above the capacity, and so do the calls whose numbers are listed,
+/// counted from 1. A call that fails does nothing.
+#[derive(Drop)]
+pub struct MemoryDisk {
+    history: History,
+    plan: FailingCalls,
+    faults: u64,
+}
+
+impl MemoryDisk {
+    /// A disk that holds these bytes, all of them synced.
+    pub fn of(
+        alloc: Global,
+        bytes: Vec<u8>,
+        capacity: usize,
+        calls: usize,
+        failing: &[u64],
+    ) -> Result<MemoryDisk, Memory>
+        ensures held { IfOk result (λ disk. disk.history ≡ spec.begun bytes.items capacity calls) }
+        ensures plan { IfOk result (λ disk. disk.plan ≡ record { failing = failing.now; made = 0 }) }
+        ensures faults { IfOk result (λ disk. disk.faults ≡ 0) }
+    {
+        Ok(MemoryDisk {
+            history: History::new(alloc, bytes, capacity, calls)?,
+            plan: FailingCalls::new(alloc, failing)?,
+            faults: 0,
+        })
+    }
+
+    /// The bytes that a read gives.
+    pub fn bytes(&self) -> &[u8]
+        ensures { result.now ≡ self.now.history.bytes }
+    {
+        self.history.bytes()
+    }
+
+    /// An image that a crash may leave: for 0 the bytes as last synced, for 1 the bytes as a read gives them, for any
+    /// other value the bytes as a read gives them with each byte written since the last sync turned into it.
+    pub fn image(&self, alloc: Global, pick: u8) -> Result<Vec<u8>, Memory>
+        ensures picked { IfOk result (λ image. image.items ≡ spec.image_of pick self.now.history) }
+        ensures left { IfOk result (λ image. (spec.outlook_of self.now.history.bytes self.now.history.pasts).may_leave image.items) }
+    {
+        self.history.image(alloc, pick)
+    }
+
+    // Counts a call, which fails if it is listed.
+    fn count_call(&mut self) -> Result<(), Failed>
+        ensures history { self.new.history ≡ self.old.history }
+        ensures cause { HasCause self.old.faults self.new.faults result }
+    {
+        if self.plan.count_call() {
+            return Err(count_fault(&mut self.faults));
+        }
+        Ok(())
+    }
+
+    // Counts a write of so many bytes, a cut or a sync, which fails if it is listed or there is no room for it.
+    fn count_change(&mut self, written: usize) -> Result<(), Failed>
+        ensures history { self.new.history ≡ self.old.history }
+        ensures room { OnOk result (written ≤ self.old.history.room) }
+        ensures left { OnOk result (1 ≤ self.old.history.left) }
+        ensures cause { HasCause self.old.faults self.new.faults result }
+    {
+        self.count_call()?;
+        if self.history.left() == 0 || self.history.room() < written {
+            return Err(count_fault(&mut self.faults));
+        }
+        Ok(())
+    }
+}
+
+impl Disk for MemoryDisk {
+    ghost use Rattle.law_journal.specs.MemoryDisks.{outlook_of};
+    ghost use Rattle.law_journal.specs.MemoryLaws.{memory_is};
+
+    ghost outlook = { λ d. outlook_of d.history.bytes d.history.pasts };
+
+    ghost faults = { λ d. d.faults };
+
+    fn len(&mut self) -> Result<u64, Failed> {
+        self.count_call()?;
+        Ok(self.bytes().len() as u64)
+    }
+
+    fn read(&mut self, place: u64, into: &mut [u8]) -> Result<usize, Failed> {
+        self.count_call()?;
+        let bytes = self.history.bytes();
+        if place >= bytes.len() as u64 {
+            return Ok(0);
+        }
+        let place = place as usize;
+        let count = into.len().min(bytes.len() - place);
+        into[..count].copy_from_slice(&bytes[place..place + count]);
+        Ok(count)
+    }
+
+    fn write_at(&mut self, place: u64, bytes: &[u8]) -> Result<(), Failed> {
+        self.count_change(bytes.len())?;
+        self.history.write(place as usize, bytes);
+        Ok(())
+    }
+
+    fn cut(&mut self, len: u64) -> Result<(), Failed> {
+        self.count_change(0)?;
+        self.history.cut(len as usize);
+        Ok(())
+    }
+
+    fn sync(&mut self) -> Result<(), Failed> {
+        self.count_change(0)?;
+        self.history.sync();
+        Ok(())
+    }
+
+    ghost is_outlook = { λ d. memory_is d.history.bytes d.history.pasts };
+}

@@ -1,0 +1,118 @@
+//! Window: a piece of the disk that is kept in memory, so that many short reads cost one long one.
+
+ghost use Rattle.std.specs.Prelude.{◌≡◌, ◌+◌, ◌-◌, ◌≤◌, min, length, IfOk, IfSome, OnOk};
+ghost use Rattle.desk_base.specs.Streams.{HasCause};
+ghost use Rattle.law_journal.specs.Disks.{Idles, Reads};
+ghost use Rattle.law_journal.specs.Windows as spec;
+ghost use Rattle.law_journal.specs.Windows.{IsWindow};
+
+use crate::Disk;
+use desk_base::Failed;
+use std::alloc::{AllocError, Global};
+
+/// The bytes of a piece.
+const PIECE: usize = 65_536;
+
+/// A piece of a disk.
+#[derive(Drop)]
+pub struct Window {
+    /// The place where it begins.
+    start: u64,
+    /// How many of the bytes are the disk's.
+    held: usize,
+    bytes: Vec<u8>,
+}
+
+// The bytes of the piece from an index on.
+fn copy_from(bytes: &[u8], at: usize, into: &mut [u8])
+    requires { at + length into.old ≤ length bytes.now }
+    ensures { into.new ≡ spec.piece_from at (length into.old) bytes.now }
+{
+    into.copy_from_slice(&bytes[at..at + into.len()]);
+}
+
+// Copies as many bytes as there are into the front, and says how many.
+fn copy_front(bytes: &[u8], into: &mut [u8]) -> usize
+    ensures front { spec.IsFront bytes.now into.new result }
+    ensures length { length into.new ≡ length into.old }
+{
+    let count = bytes.len().min(into.len());
+    into[..count].copy_from_slice(&bytes[..count]);
+    count
+}
+
+impl Window {
+    /// A window that holds nothing yet.
+    pub fn new(alloc: Global) -> Result<Window, AllocError>
+        ensures { IfOk result (λ w. w.held ≡ 0) }
+    {
+        Ok(Window {
+            start: 0,
+            held: 0,
+            bytes: vec![in alloc; 0u8; PIECE]?,
+        })
+    }
+
+    /// Lets go of what it holds, since the disk is about to change.
+    pub fn forget(&mut self)
+        ensures { self.new.held ≡ 0 }
+    {
+        self.held = 0;
+    }
+
+    // Where a place and so many bytes from there on stand in the piece, if all of them do.
+    fn index_of(&self, place: u64, count: usize) -> Option<usize>
+        ensures { IfSome result (λ at. (place ≡ self.now.start + at) × (at + count ≤ self.now.held)) }
+    {
+        if place < self.start || place - self.start > self.held as u64 {
+            return None;
+        }
+        let at = (place - self.start) as usize;
+        if count <= self.held - at {
+            Some(at)
+        } else {
+            None
+        }
+    }
+
+    // Fills the piece from a place on.
+    fn fill<D: Disk>(&mut self, disk: &mut D, place: u64) -> Result<(), Failed>
+        requires { IsWindow (D.outlook disk.old) self.old }
+        ensures window { IsWindow (D.outlook disk.new) self.new }
+        ensures start { OnOk result (self.new.start ≡ place) }
+        ensures size { length self.new.bytes.items ≡ length self.old.bytes.items }
+        ensures held { OnOk result ((D.outlook disk.old).tells → self.new.held ≡ min (length self.old.bytes.items) (length (D.outlook disk.old).seen - place)) }
+        ensures idle { Idles (D.outlook disk.old) (D.outlook disk.new) }
+        ensures cause { HasCause (D.faults disk.old) (D.faults disk.new) result }
+    {
+        self.held = 0;
+        self.start = place;
+        self.held = disk.read(place, self.bytes.as_mut_slice())?;
+        Ok(())
+    }
+
+    /// Reads as the disk does, and mostly without asking it.
+    pub fn read<D: Disk>(
+        &mut self,
+        disk: &mut D,
+        place: u64,
+        into: &mut [u8],
+    ) -> Result<usize, Failed>
+        requires { IsWindow (D.outlook disk.old) self.old }
+        ensures window { IsWindow (D.outlook disk.new) self.new }
+        ensures given { Reads (D.outlook disk.old) place result into.new }
+        ensures fits { IfOk result (λ n. n ≤ length into.new) }
+        ensures idle { Idles (D.outlook disk.old) (D.outlook disk.new) }
+        ensures cause { HasCause (D.faults disk.old) (D.faults disk.new) result }
+    {
+        if let Some(at) = self.index_of(place, into.len()) {
+            copy_from(&self.bytes, at, into);
+            return Ok(into.len());
+        }
+        if into.len() >= self.bytes.len() {
+            return disk.read(place, into);
+        }
+        self.fill(disk, place)?;
+        Ok(copy_front(&self.bytes[..self.held], into))
+    }
+}

@@ -1,0 +1,57 @@
+//! Changes of a file that wait until they are on the disk.
+
+ghost use Rattle.std.specs.Prelude.{◌≡◌, ◌+◌, ◌^◌, ◌<◌, ◌≤◌, [], ◌∷◌, ◌++◌, Some, take, length, OnOk};
+ghost use Rattle.desk_base.specs.Streams.{HasCause};
+ghost use Rattle.law_journal.specs.Disks.{LeavesOnly, Only, Torn, Cut, overwritten};
+ghost use Rattle.law_journal.specs.Grammar.{magic};
+ghost use Rattle.law_journal.specs.Journals.{IsShort};
+
+use crate::Disk;
+use desk_base::Failed;
+
+/// Writes bytes over what is there, and past the end, and waits until they are on the disk.
+pub fn write_synced<D: Disk>(disk: &mut D, place: u64, bytes: &[u8]) -> Result<(), Failed>
+    requires place { (D.outlook disk.old).tells → place ≤ length (D.outlook disk.old).seen }
+    requires durable { (D.outlook disk.old).tells → Only (D.outlook disk.old).seen (D.outlook disk.old).may_leave }
+    ensures written { OnOk result ((D.outlook disk.old).tells → (D.outlook disk.new).seen ≡ overwritten place bytes.now (D.outlook disk.old).seen) }
+    ensures durable { OnOk result ((D.outlook disk.old).tells → Only (D.outlook disk.new).seen (D.outlook disk.new).may_leave) }
+    ensures any_moment { (D.outlook disk.old).tells → LeavesOnly (Torn place (length bytes.now) (D.outlook disk.old).seen) (D.outlook disk.old) (D.outlook disk.new) }
+    ensures tells { (D.outlook disk.new).tells → (D.outlook disk.old).tells }
+    ensures bound { OnOk result (place + length bytes.now < 2 ^ 63) }
+    ensures cause { HasCause (D.faults disk.old) (D.faults disk.new) result }
+{
+    disk.write_at(place, bytes)?;
+    disk.sync()?;
+    Ok(())
+}
+
+/// Cuts the file to a length, and waits until that is on the disk.
+pub fn cut_synced<D: Disk>(disk: &mut D, len: u64) -> Result<(), Failed>
+    requires len { (D.outlook disk.old).tells → len ≤ length (D.outlook disk.old).seen }
+    requires durable { (D.outlook disk.old).tells → Only (D.outlook disk.old).seen (D.outlook disk.old).may_leave }
+    ensures cut { OnOk result ((D.outlook disk.old).tells → (D.outlook disk.new).seen ≡ take len (D.outlook disk.old).seen) }
+    ensures durable { OnOk result ((D.outlook disk.old).tells → Only (D.outlook disk.new).seen (D.outlook disk.new).may_leave) }
+    ensures any_moment { (D.outlook disk.old).tells → LeavesOnly (Cut len (D.outlook disk.old).seen) (D.outlook disk.old) (D.outlook disk.new) }
+    ensures tells { (D.outlook disk.new).tells → (D.outlook disk.old).tells }
+    ensures cause { HasCause (D.faults disk.old) (D.faults disk.new) result }
+{
+    disk.cut(len)?;
+    disk.sync()?;
+    Ok(())
+}
+
+/// Makes a journal with no record of a file of at most nine bytes. A crash leaves one of at most nine bytes, too.
+pub fn start_synced<D: Disk>(disk: &mut D) -> Result<(), Failed>
+    requires short { (D.outlook disk.old).tells → length (D.outlook disk.old).seen ≤ 9 }
+    requires durable { (D.outlook disk.old).tells → Only (D.outlook disk.old).seen (D.outlook disk.old).may_leave }
+    ensures started { OnOk result ((D.outlook disk.old).tells → (D.outlook disk.new).seen ≡ magic ++ 0 ∷ []) }
+    ensures durable { OnOk result ((D.outlook disk.old).tells → Only (D.outlook disk.new).seen (D.outlook disk.new).may_leave) }
+    ensures any_moment { (D.outlook disk.old).tells → LeavesOnly IsShort (D.outlook disk.old) (D.outlook disk.new) }
+    ensures tells { (D.outlook disk.new).tells → (D.outlook disk.old).tells }
+    ensures cause { HasCause (D.faults disk.old) (D.faults disk.new) result }
+{
+    disk.cut(0)?;
+    disk.write_at(0, b"AKNLAW01\0")?;
+    disk.sync()?;
+    Ok(())
+}
