@@ -1,6 +1,6 @@
 -- Of a text that keeps the limits only its own length can be held against another content.
 use Rattle.std.proofs.Common.{◌≡◌, ◌∙◌, sym, ap, refl, ℕ, ◌+◌, ◌<◌, ◌≤◌, Bool, true, false, cond, ◌||◌, ◌&&◌, max, List, ◌∷◌, ◌++◌, length, nat_lt, Option, Some, None, arith}
-use Rattle.std.specs.Prelude.{option_map, Result, Ok, Err}
+use Rattle.std.specs.Prelude.{option_map, Ok, Err}
 use Rattle.std.specs.Str.{bytes_eq}
 use Rattle.std.proofs.lemmas.Bool.{cond_both, lt-ltb, le-ltb}
 use Rattle.eid_paths.specs.declared.numbering.Numbering.{Numbering}
@@ -8,7 +8,7 @@ use Rattle.act_tree.specs.Branches.{Branch, Branches, branch, no_branches, more_
 use Rattle.act_tree.specs.Changes.{has_wid, holds, any_holds, inside_changed, changed, with_content}
 use Rattle.act_tree.specs.Eids.{eid_below}
 use Rattle.act_tree.specs.Faults.{owns, all_owns, eids, all_eids, is_long, has_long, have_long, first_fault, first_cause, fault_cause}
-use Rattle.act_tree.specs.Provisions.{Own, Provision}
+use Rattle.act_tree.specs.Provisions.{Provision}
 use Rattle.act_tree.specs.Trees.{TreeValue}
 use Rattle.act_tree.specs.Wids.{one_twice}
 use Rattle.act_tree.specs.declared.build_fault.BuildFault.TheVariants.{TextTooLong}

@@ -1,25 +1,23 @@
 -- What holds of each wId of a text and of each that an edit brings holds of each wId of the text afterwards.
-use Rattle.std.proofs.Common.{◌≡◌, ◌∙◌, sym, ap, subst, refl, ℕ, zero, suc, Bool, true, false, cond, List, [], ◌∷◌, ◌++◌, append_assoc, Option, Some, None, inl, inr}
-use Rattle.std.specs.Prelude.{nat_eq, Result, Ok, Err, option_map, is_some}
-use Rattle.std.specs.List.{starts_with, list_all}
+use Rattle.std.proofs.Common.{refl, ℕ, zero, suc, Bool, true, false, cond, List, Option, Some, None}
+use Rattle.std.specs.Prelude.{Result, Ok, Err, is_some}
+use Rattle.std.specs.List.{list_all}
 use Rattle.std.specs.Str.{bytes_eq}
 use Rattle.std.proofs.lemmas.Bool.{cond_both}
 use Rattle.desk_base.specs.declared.id.Id.{Id}
-use Rattle.eid_paths.specs.Elements.{element_place}
 use Rattle.eid_paths.specs.Levels.{level_text}
 use Rattle.act_tree.specs.Branches.{Branch, Branches, branch, no_branches, more_branches, branches_of}
 use Rattle.act_tree.specs.Brought.{bringer, brought, second_part}
 use Rattle.act_tree.specs.Changes.{Step, has_wid, inside_without, without, removed, root_wid, is_in, inside_changed, changed, joined, first, behind, instead, before, after, put_in, among_children, with_content, parted, merged, substituted, grafted, inside_renumbered, renumbered, next_of}
 use Rattle.act_tree.specs.Faults.{first_cause}
 use Rattle.act_tree.specs.Provisions.{Own, Provision}
-use Rattle.act_tree.specs.Trees.{TreeValue, changed_once}
+use Rattle.act_tree.specs.Trees.{TreeValue}
 use Rattle.act_tree.specs.declared.cause.Cause.{Cause}
 use Rattle.textual_mods.proofs.Behind.{brought_behind, IsBehind, AllWids, HaveWids}
 use Rattle.textual_mods.specs.Edits.{edited, unless_for, within_limits, applied, tree_after}
-use Rattle.textual_mods.specs.Joins.{join_of_kind, join_with_next, join_of, joined_with}
-use Rattle.textual_mods.specs.Renumberings.{nums_given}
-use Rattle.textual_mods.specs.Splits.{cut_of, split_along, split_of, split_at_cut}
-use Rattle.textual_mods.specs.StructureEdits.{repealed, nodes_substituted, nodes_inserted, is_anchor, placed}
+use Rattle.textual_mods.specs.Joins.{join_of_kind, join_with_next, join_of}
+use Rattle.textual_mods.specs.Splits.{cut_of, split_along, split_of}
+use Rattle.textual_mods.specs.StructureEdits.{is_anchor, placed}
 use Rattle.textual_mods.specs.Targets.{provision_named, children_named}
 use Rattle.textual_mods.specs.TextEdits.{content_set, content_changed, with_spot, with_text}
 use Rattle.textual_mods.specs.declared.edit.Pos.{Pos}

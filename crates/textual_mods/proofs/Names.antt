@@ -1,5 +1,5 @@
 -- The names of two modifications begin no wId both.
-use Rattle.std.proofs.Common.{◌≡◌, ◌≢◌, ◌∙◌, sym, ap, refl, ℕ, ◌+◌, ◌<◌, ◌≤◌, ◌^◌, Bool, true, false, List, [], ◌∷◌, ◌++◌, append_assoc, inl, inr, drop, length, arith}
+use Rattle.std.proofs.Common.{◌≡◌, ◌≢◌, ◌∙◌, sym, ap, refl, ℕ, ◌<◌, ◌^◌, Bool, false, List, [], ◌∷◌, ◌++◌, append_assoc, inl, inr, drop, length, arith}
 use Rattle.std.specs.Prelude.{nat_eq}
 use Rattle.std.specs.Fmt.{decimal}
 use Rattle.std.specs.List.{starts_with}
@@ -12,8 +12,6 @@ use Rattle.std.proofs.lemmas.Str.Parse.{digit_from_value}
 use Rattle.std.proofs.lemmas.Slice.Eq.{starts_is}
 use Rattle.desk_base.specs.declared.id.Id.{Id}
 use Rattle.act_tree.specs.Brought.{bringer, has_brought}
-use Rattle.act_tree.specs.Branches.{Branches}
-use Rattle.act_tree.specs.Provisions.{Provision}
 use Rattle.act_tree.specs.Trees.{TreeValue}
 use Rattle.textual_mods.proofs.Behind.{IsBehind, all_fail, all_none}
 use Rattle.textual_mods.proofs.Keeping.{applied_has}

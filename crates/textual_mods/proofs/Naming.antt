@@ -1,15 +1,15 @@
 -- The provisions that a wId names.
-use Rattle.std.proofs.Common.{◌≡◌, ◌∙◌, sym, ap, refl, ℕ, Bool, true, false, cond, ◌||◌, List, length, map, Option, Some, None, inl, inr}
+use Rattle.std.proofs.Common.{◌≡◌, ◌∙◌, sym, ap, refl, ℕ, Bool, true, false, cond, ◌||◌, List, length, map, Some, None, inl, inr}
 use Rattle.std.specs.Prelude.{◌↔◌, is_some}
 use Rattle.std.specs.Str.{bytes_eq}
 use Rattle.std.proofs.lemmas.List.{length-map}
-use Rattle.act_tree.proofs.Texts.{text_cases, equal_text, other_text, same_text}
+use Rattle.act_tree.proofs.Texts.{text_cases, equal_text, other_text}
 use Rattle.act_tree.proofs.Walking.{branch_is, body_is}
 use Rattle.act_tree.specs.declared.tree.Tree.{Tree}
 use Rattle.act_tree.specs.Branches.{Branch, Branches, branch, no_branches, more_branches, branches_of, listed, listed-branches_of}
-use Rattle.act_tree.specs.Changes.{has_wid, holds, any_holds, is_in, found, sought, or_else, root_wid}
+use Rattle.act_tree.specs.Changes.{holds, any_holds, is_in, found, sought, or_else, root_wid}
 use Rattle.act_tree.specs.Provisions.{Provision}
-use Rattle.act_tree.specs.Seen.{tree_view, provision_at, branch_at, below_at}
+use Rattle.act_tree.specs.Seen.{tree_view, branch_at, below_at}
 use Rattle.textual_mods.specs.StructureEdits.{is_anchor}
 use Rattle.textual_mods.specs.Targets.{provision_named, below, children_named}
 use Rattle.textual_mods.specs.declared.edit.Pos.{Pos}

@@ -1,5 +1,5 @@
 -- An edit leaves a tree well-formed, and brings no wIds but its own.
-use Rattle.std.proofs.Common.{◌≡◌, ◌∙◌, ap, None, inl, inr, ◌⊎◌, ◌<◌, ◌^◌, false, arith}
+use Rattle.std.proofs.Common.{◌≡◌, ◌∙◌, ap, inl, inr, arith}
 use Rattle.act_tree.specs.Brought.{has_brought}
 use Rattle.act_tree.specs.Faults.{first_cause}
 use Rattle.act_tree.specs.Seen.{tree_view}

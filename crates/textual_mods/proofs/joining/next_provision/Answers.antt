@@ -1,4 +1,4 @@
-use Rattle.std.proofs.Common.{◌≡◌, ◌∙◌}
+use Rattle.std.proofs.Common.{◌∙◌}
 use Rattle.textual_mods.proofs.Placing.{branches_are}
 use Rattle.textual_mods.proofs.joining.next_provision.Goals as goal
 

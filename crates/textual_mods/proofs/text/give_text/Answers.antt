@@ -1,5 +1,5 @@
 -- Another content is held back only by its length.
-use Rattle.std.proofs.Common.{◌≡◌, ◌∙◌, sym, ap, ◌<◌, ◌≤◌, length, List, ℕ, arith}
+use Rattle.std.proofs.Common.{◌∙◌, sym, ap, ◌<◌, ◌≤◌, length}
 use Rattle.act_tree.specs.Seen.{tree_view, provision_at}
 use Rattle.textual_mods.specs.Edits.{tree_after, outcome_of}
 use Rattle.textual_mods.proofs.Contents.{content_done, content_long}
