@@ -9,9 +9,11 @@ LIMIT = 8_388_608
 IRI = "/akn/gb/act/2010-05-01/7"
 SOURCE = "/akn/gb/act/2010-12-01/20"
 
-FORM_RULES = ["NotBuilt", "NotJson", "WrongShape", "BadName", "BadDay", "BadElement", "BadNumber", "UnknownWord",
-              "DateDiffers", "TooLong"]
-RULES = {5: "BadTree", 6: "BadModification", 7: "BadPeriod", 15: "WorkFull"}
+FORM_RULES = {1: "NotJson", 2: "WrongShape", 3: "BadName", 4: "BadDay", 5: "BadElement", 6: "BadNumber", 7: "UnknownWord",
+              8: "DateDiffers", 9: "TooLong"}
+RULES = {5: "BadTree", 6: "BadModification", 7: "BadPeriod", 8: "UnknownModification", 11: "WrongKind", 15: "WorkFull"}
+FORCE_TYPES = ["entryIntoForce", "postponementOfEntryIntoForce", "endOfEnactment", "prorogationOfForce", "reEnactment"]
+DATED_TYPES = ["entryIntoEfficacy", "endOfEfficacy", "postponementOfEfficacy", "prorogationOfEfficacy"]
 
 
 def form(rule, place=0):
@@ -21,7 +23,7 @@ def form(rule, place=0):
 
 def refused(rule, kept):
     """The line of a command that is refused."""
-    return f'{{"kept":{kept},"name":"{RULES[rule]}","rule":{rule}}}\n'.encode()
+    return f'{{"kept":{json.dumps(kept)},"name":"{RULES[rule]}","rule":{rule}}}\n'.encode()
 
 
 def act(**changes):
@@ -75,6 +77,36 @@ def split(wid="sec_1", num="2", **rest):
 
 def joined(wid="sec_1", second="sec_2", **rest):
     return textual(type="join", destination={"wId": wid}, second=second, **rest)
+
+
+def directed(kind, type, **changes):
+    """A modification of force or efficacy as a dossier spells it, with changes; a change to None takes the key away."""
+    mod = {
+        "type": type,
+        "source": {"href": SOURCE, "place": 1},
+        "destination": {"wId": "sec_1"},
+        "on": "2011-01-01",
+        "date": "2011-02-01",
+    }
+    mod.update(changes)
+    return {kind: {key: value for key, value in mod.items() if value is not None}}
+
+
+def force(type="entryIntoForce", **changes):
+    return directed("forceMod", type, **changes)
+
+
+def efficacy(type="entryIntoEfficacy", **changes):
+    return directed("efficacyMod", type, **changes)
+
+
+def inapplied(**changes):
+    """An inapplication, which has days in the place of a date."""
+    return efficacy("inapplication", **{"date": None, "days": {"from": "2011-02-01", "until": "2011-03-01"}, **changes})
+
+
+def to(id):
+    return {"modification": id}
 
 
 def node(element="section", num="1", **rest):
@@ -168,6 +200,16 @@ FITS = [
     ("a split at a child with a wId of 512 bytes", dossier(mods=[split(child="c" * 512)])),
     ("a join of wIds of 512 bytes, with a separator of 16,384", dossier(mods=[
         joined("w" * 512, "v" * 512, separator="s" * 16384)])),
+    *[(f"{type} of a provision", dossier(mods=[force(type)])) for type in FORCE_TYPES],
+    *[(f"{type} of a provision", dossier(mods=[efficacy(type)])) for type in DATED_TYPES],
+    ("retroactivity, which has no day from which it counts", dossier(mods=[efficacy("retroactivity", on=None)])),
+    ("extraefficacy, which has no date", dossier(mods=[efficacy("extraefficacy", date=None)])),
+    ("inapplication, which has days", dossier(mods=[inapplied()])),
+    ("inapplication without an end", dossier(mods=[inapplied(days={"from": "2011-02-01"})])),
+    ("the force of the act, and of what is not there", dossier(mods=[force(destination={"wId": "body"}), force(destination={"wId": "none"})])),
+    ("the force and the efficacy of a modification", dossier(mods=[repeal(), force(destination=to("2.1")), efficacy(destination=to("2.1"))])),
+    ("512 modifications, the last of efficacy", dossier(mods=[repeal(place=k) for k in range(511)] + [efficacy(destination=to("512.1"))])),
+    ("a date before the day from which it counts", dossier(mods=[force(date="0001-01-01", on="9999-12-31")])),
     ("a key twice: the last counts", dossier().replace(b'"modifications": []', b'"modifications": 1, "modifications": []')),
 ]
 
@@ -286,8 +328,36 @@ SHAPES = [
     ("a modification of two keys", dossier(mods=[{**repeal(), "forceMod": {}}]), form(2, 1)),
     ("a modification of no key", dossier(mods=[repeal(), {}]), form(2, 2)),
     ("a modification of an unknown key", dossier(mods=[{"scopeMod": {}}]), form(2, 1)),
-    ("a change of force", dossier(mods=[repeal(), repeal(), {"forceMod": 1}]), form(0, 3)),
-    ("a change of efficacy", dossier(mods=[{"efficacyMod": {}}]), form(0, 1)),
+    ("a modification of force of no object", dossier(mods=[repeal(), repeal(), {"forceMod": 1}]), form(2, 3)),
+    ("a modification of efficacy of no key", dossier(mods=[{"efficacyMod": {}}]), form(2, 1)),
+    ("a force type of a number", dossier(mods=[force(1)]), form(2, 1)),
+    ("a force type that is not listed", dossier(mods=[force("entryIntoEfficacy")]), form(7, 1)),
+    ("a force type that is not listed comes before the keys", dossier(mods=[force("repeal", on=None)]), form(7, 1)),
+    ("an efficacy type that is not listed", dossier(mods=[repeal(), efficacy("entryIntoForce")]), form(7, 2)),
+    ("a modification of force without its day", dossier(mods=[force(on=None)]), form(2, 1)),
+    ("a modification of force without a date", dossier(mods=[force(date=None)]), form(2, 1)),
+    ("a modification of force with days", dossier(mods=[force(days={"from": "2011-01-01"})]), form(2, 1)),
+    ("a modification of force with a force", dossier(mods=[force(force={"from": "2011-01-01"})]), form(2, 1)),
+    ("a retroactivity with a day from which it counts", dossier(mods=[efficacy("retroactivity")]), form(2, 1)),
+    ("an extraefficacy with a date", dossier(mods=[efficacy("extraefficacy")]), form(2, 1)),
+    ("an inapplication with a date", dossier(mods=[inapplied(date="2011-02-01")]), form(2, 1)),
+    ("an inapplication without days", dossier(mods=[inapplied(days=None)]), form(2, 1)),
+    ("an inapplication of days that are a text", dossier(mods=[inapplied(days="2011-02-01")]), form(2, 1)),
+    ("an inapplication of days without a start", dossier(mods=[inapplied(days={"until": "2011-02-01"})]), form(2, 1)),
+    ("an inapplication of days that are none", dossier(mods=[inapplied(days={"from": "2011-02-30"})]), form(4, 1)),
+    ("the source comes before the destination", dossier(mods=[force(source={"href": SOURCE, "place": 65536}, destination=1)]), form(6, 1)),
+    ("the source's IRI", dossier(mods=[efficacy(source={"href": "", "place": 1})]), form(3, 1)),
+    ("a destination of two keys", dossier(mods=[force(destination={"wId": "sec_1", "modification": "2.1"})]), form(2, 1)),
+    ("a destination of no key", dossier(mods=[force(destination={})]), form(2, 1)),
+    ("a destination that is a text", dossier(mods=[efficacy(destination="2.1")]), form(2, 1)),
+    ("a destination's wId that is a number", dossier(mods=[force(destination={"wId": 1})]), form(2, 1)),
+    ("a destination's id that is a number", dossier(mods=[force(destination=to(2.1))]), form(2, 1)),
+    *[(f"the id '{id}'", dossier(mods=[repeal(), force(destination=to(id))]), form(3, 2)) for id in (
+        "", "2", "2.", ".1", "2.1.1", "02.1", "2.01", "+2.1", "2.-1", " 2.1", "2,1", "4294967296.1", "2.65536")],
+    ("the destination comes before the day", dossier(mods=[force(destination=to("x"), on="x")]), form(3, 1)),
+    ("a day from which it counts that is none", dossier(mods=[force(on="2011-02-29", date="x")]), form(4, 1)),
+    ("a date that is none", dossier(mods=[repeal(), efficacy(date="2011-00-01")]), form(4, 2)),
+    ("a date that is a number", dossier(mods=[efficacy("retroactivity", on=None, date=20110101)]), form(2, 1)),
     ("a textual modification of no object", dossier(mods=[{"textualMod": []}]), form(2, 1)),
     ("no type", dossier(mods=[textual(type=None)]), form(2, 1)),
     ("a type that is a number", dossier(mods=[textual(type=1)]), form(2, 1)),
@@ -381,6 +451,24 @@ COMMANDS = [
     ("a join with no wId", dossier(mods=[joined("sec_1", "")]), refused(6, 1)),
     ("a join with a wId of 513 bytes", dossier(mods=[joined("sec_1", "w" * 513)]), refused(6, 1)),
     ("a join with a separator of 16,385 bytes", dossier(mods=[joined(separator="s" * 16385)]), refused(6, 1)),
+    ("a force modification of no wId", dossier(mods=[force(destination={"wId": ""})]), refused(6, 1)),
+    ("an efficacy modification of a wId of 513 bytes", dossier(mods=[repeal(), efficacy(destination={"wId": "w" * 513})]), refused(6, 1)),
+    ("days that end as they start", dossier(mods=[inapplied(days={"from": "2011-02-01", "until": "2011-02-01"})]), refused(7, 1)),
+    ("the wId comes before the days", dossier(mods=[
+        inapplied(destination={"wId": ""}, days={"from": "2011-02-01", "until": "2011-01-01"})]), refused(6, 1)),
+    ("the force of what comes later", dossier(mods=[force(destination=to("3.1")), repeal()]), refused(8, "3.1")),
+    ("the force of itself", dossier(mods=[repeal(), force(destination=to("3.1"))]), refused(8, "3.1")),
+    ("the force of a second item", dossier(mods=[repeal(), force(destination=to("2.2"))]), refused(8, "2.2")),
+    ("the force of the act's entry", dossier(mods=[repeal(), force(destination=to("1.1"))]), refused(8, "1.1")),
+    ("the efficacy of item 0", dossier(mods=[repeal(), efficacy(destination=to("2.0"))]), refused(8, "2.0")),
+    ("the efficacy of entry 0", dossier(mods=[repeal(), efficacy(destination=to("0.1"))]), refused(8, "0.1")),
+    ("the efficacy of the last id there may be", dossier(mods=[efficacy(destination=to("4294967295.65535"))]), refused(8, "4294967295.65535")),
+    ("the days come before what is not recorded", dossier(mods=[
+        inapplied(destination=to("9.1"), days={"from": "2011-02-01", "until": "2011-02-01"})]), refused(7, 1)),
+    ("the force of a modification of force", dossier(mods=[force(), force(destination=to("2.1"))]), refused(11, "2.1")),
+    ("the efficacy of a modification of efficacy", dossier(mods=[repeal(), efficacy(), efficacy(destination=to("3.1"))]), refused(11, "3.1")),
+    ("what is not recorded, in a full work", dossier(mods=[repeal()] * 512 + [force(destination=to("999.1"))]), refused(8, "999.1")),
+    ("another kind, in a full work", dossier(mods=[force()] * 512 + [force(destination=to("2.1"))]), refused(11, "2.1")),
     ("513 repeals", dossier(mods=[repeal()] * 513), refused(15, 512)),
     ("the 513th of 600 repeals", dossier(mods=[repeal()] * 513 + [repeal(wid="")] * 87), refused(15, 512)),
     ("the wId of the 513th repeal", dossier(mods=[repeal()] * 512 + [repeal(wid="")]), refused(6, 1)),

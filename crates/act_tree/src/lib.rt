@@ -26,5 +26,5 @@ pub use eid::eid_below;
 pub use node_id::NodeId;
 pub use node_spec::{NodeSpec, Nodes};
 pub use refs::Refs;
-pub use surveying::{NONE_THROUGHOUT, check_nodes};
+pub use surveying::{NONE_THROUGHOUT, check_nodes, fault_of};
 pub use tree::{NodeView, ProvisionView, Tree};

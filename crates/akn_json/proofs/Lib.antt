@@ -1,3 +1,4 @@
+pub mod Decimals
 pub mod Forms
 pub mod PrintedTexts
 pub mod PrintedValues

@@ -10,10 +10,10 @@ use Rattle.act_tree.specs.declared.cause.Cause.{Cause}
 use Rattle.eid_paths.specs.Elements.{element_name}
 use Rattle.act_tree.specs.Causes.{cause_name}
 use Rattle.act_tree.specs.Branches.{Branch, Branches, branch, no_branches, more_branches, branches_of}
-use Rattle.akn_json.specs.Shown.{Shown}
-use Rattle.akn_json.specs.Questions.{reading_name}
-use Rattle.akn_json.specs.declared.question.Question.{Question}
-use Rattle.akn_json.specs.declared.answer.Answer.{Answer}
+use Rattle.law_register.specs.Shown.{Shown}
+use Rattle.law_register.specs.Questions.{reading_name}
+use Rattle.law_register.specs.declared.question.Question.{Question}
+use Rattle.law_register.specs.declared.answer.Answer.{Answer}
 
 -- texts, as the items of a list
 abbrev pub texts_data : List (List ℕ) → Items

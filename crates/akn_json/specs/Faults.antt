@@ -1,11 +1,10 @@
 -- The rules of forms, and their faults.
 use Rattle.std.specs.Prelude.{ℕ, List, codes}
 use Rattle.akn_json.specs.declared.fault.FormRule.{FormRule}
-use Rattle.akn_json.specs.declared.fault.FormRule.TheVariants.{NotBuilt, NotJson, WrongShape, BadName, BadDay, BadElement, BadNumber, UnknownWord, DateDiffers, TooLong}
+use Rattle.akn_json.specs.declared.fault.FormRule.TheVariants.{NotJson, WrongShape, BadName, BadDay, BadElement, BadNumber, UnknownWord, DateDiffers, TooLong}
 
 -- the number of a rule, as refusals print it
 abbrev pub rule_number : FormRule → ℕ
-rule_number NotBuilt = 0
 rule_number NotJson = 1
 rule_number WrongShape = 2
 rule_number BadName = 3
@@ -18,7 +17,6 @@ rule_number TooLong = 9
 
 -- the name of a rule, as refusals print it
 abbrev pub rule_name : FormRule → List ℕ
-rule_name NotBuilt = codes "NotBuilt"
 rule_name NotJson = codes "NotJson"
 rule_name WrongShape = codes "WrongShape"
 rule_name BadName = codes "BadName"

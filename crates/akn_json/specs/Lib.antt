@@ -1,9 +1,5 @@
 pub mod Faults
-pub mod Questions
-pub mod Shown
-pub mod ShownNodes
 pub mod AnswerData
-pub mod Queries
 pub mod RefusalData
 pub mod Reads
 pub mod Keys
@@ -18,5 +14,8 @@ pub mod Insertions
 pub mod Renumberings
 pub mod Splits
 pub mod EditForms
+pub mod Ids
+pub mod BearingKinds
+pub mod BearingForms
 pub mod ModsForm
 pub mod DossierForm

@@ -1,28 +1,18 @@
 -- The form of modifications: each is a textual one, a change of force or one of efficacy.
-use Rattle.std.specs.Prelude.{ℕ, ◌+◌, Bool, true, false, List, [], ◌∷◌, Ok}
+use Rattle.std.specs.Prelude.{ℕ, ◌+◌, Bool, true, false, List, [], ◌∷◌, Option, Some, None, Ok}
 use Rattle.serde_json.specs.Data.{Data, Items, no_items, item, Members, no_members, member}
 use Rattle.serde_json.specs.Find.{get, as_object}
-use Rattle.akn_json.specs.declared.fault.FormRule.TheVariants.{NotBuilt, WrongShape}
-use Rattle.akn_json.specs.declared.modification.ModSource.{ModSource}
-use Rattle.akn_json.specs.declared.modification.Modification.{Modification}
-use Rattle.akn_json.specs.declared.modification.Modification.TheVariants.{Textual}
+use Rattle.akn_json.specs.declared.fault.FormRule.TheVariants.{WrongShape}
+use Rattle.law_register.specs.declared.modification.Modification.{Modification}
+use Rattle.law_register.specs.declared.modification.Modification.TheVariants.{Textual}
 use Rattle.akn_json.specs.EditKinds.{kind_in, form_in}
 use Rattle.akn_json.specs.EditForms.{keys_in, edit_in}
 use Rattle.akn_json.specs.declared.reading.key.Key.TheVariants as key
 use Rattle.akn_json.specs.Keys.{key_name}
 use Rattle.akn_json.specs.Reads.{Read, ◌>>=◌, ◌>>◌, broken, inside, or_fault, unless_broken}
-use Rattle.akn_json.specs.Fields.{members_in, field_in, items_in, number_in, period_in}
-use Rattle.akn_json.specs.Works.{work_in}
-
--- the source of a modification: the IRI of the work that modifies, and a place within it
-unfoldable pub source_in : Data → Read ModSource
-source_in d = do
-  members_in (key.Href ∷ key.Place ∷ []) [] d
-  h ← field_in key.Href d
-  href ← work_in h
-  p ← field_in key.Place d
-  place ← number_in 65535 p
-  Ok (record { href = href; place = place })
+use Rattle.akn_json.specs.Fields.{members_in, field_in, items_in, period_in}
+use Rattle.akn_json.specs.Works.{source_in}
+use Rattle.akn_json.specs.BearingForms.{force_in, efficacy_in}
 
 -- a textual modification: its kind, and what it brings, choose the table of its keys and values
 unfoldable pub textual_in : Data → Read Modification
@@ -49,13 +39,28 @@ single_in d = do
   ms ← or_fault (broken WrongShape) (as_object d)
   unless_broken (broken WrongShape) (is_single ms)
 
--- a modification, named by its one key; changes of force and of efficacy are not read yet
+-- the change of force that is stated, and else a change of efficacy
+abbrev pub force_or : Option Data → Data → Read Modification
+force_or (Some f) d = force_in f
+force_or None d = do
+  e ← field_in key.EfficacyMod d
+  efficacy_in e
+
+-- a change of force or of efficacy
+unfoldable pub bearing_in : Data → Read Modification
+bearing_in d = force_or (get (key_name key.ForceMod) d) d
+
+-- the textual modification that is stated, and else a change of force or of efficacy
+abbrev pub textual_or : Option Data → Data → Read Modification
+textual_or (Some t) d = textual_in t
+textual_or None d = bearing_in d
+
+-- a modification, named by its one key
 unfoldable pub modification_in : Data → Read Modification
 modification_in d = do
   members_in [] (key.TextualMod ∷ key.ForceMod ∷ key.EfficacyMod ∷ []) d
   single_in d
-  t ← or_fault (broken NotBuilt) (get (key_name key.TextualMod) d)
-  textual_in t
+  textual_or (get (key_name key.TextualMod) d) d
 
 -- these modifications, the first of which stands at this place
 abbrev pub each_from : ℕ → Items → Read (List Modification)

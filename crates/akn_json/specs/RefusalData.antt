@@ -1,13 +1,17 @@
 -- Refusals as JSON, with the keys of each object in ascending byte order.
-use Rattle.std.specs.Prelude.{codes}
+use Rattle.std.specs.Prelude.{ℕ, List, ◌∷◌, ◌++◌, codes, encode_utf8_all}
+use Rattle.std.specs.Fmt.{decimal}
 use Rattle.serde_json.specs.Data.{Data, unsigned, number, string, object, no_members, member}
 use Rattle.desk_base.specs.Days.{day_text}
+use Rattle.desk_base.specs.Ids.{id_text}
+use Rattle.act_tree.specs.Faults.{fault_number}
 use Rattle.akn_json.specs.Faults.{rule_number, rule_name}
-use Rattle.akn_json.specs.Queries.{query_number, query_name, register_number, register_name, kept_number}
-use Rattle.akn_json.specs.declared.refusal.Rule.{Rule}
+use Rattle.law_register.specs.Queries.{query_number, query_name, register_number, register_name}
+use Rattle.law_register.specs.declared.rules.Rule.{Rule}
 use Rattle.akn_json.specs.declared.fault.FormFault.{FormFault}
-use Rattle.akn_json.specs.declared.refusal.QueryRule.{QueryRule}
-use Rattle.akn_json.specs.declared.refusal.QueryRule.TheVariants.{NotYetEnacted}
+use Rattle.law_register.specs.declared.rules.QueryRule.{QueryRule}
+use Rattle.law_register.specs.declared.rules.QueryRule.TheVariants.{UnknownWork, ViewpointAhead, NotYetEnacted, OtherLanguage, UnknownPortion}
+use Rattle.law_register.specs.declared.rules.Rule.TheVariants.{BadTree, BadModification, BadPeriod, UnknownModification, WrongKind, WorkFull}
 
 -- bytes that are not of a form: the rule that they break, by number and name, and the place
 abbrev pub form_fault_data : FormFault → Data
@@ -16,9 +20,14 @@ form_fault_data f =
     (member (codes "name") (string (rule_name f.rule))
     (member (codes "place") (number (unsigned f.place)) no_members)))
 
--- the value that a refusal shows: the day of the act, where a day before it was asked for
+-- the value that the refusal of a question shows: the IRI of the work, the number of law entries, the day of the act, its
+-- language, or the eId that was asked for
 abbrev pub kept_data : QueryRule → Data
+kept_data (UnknownWork work) = string work
+kept_data (ViewpointAhead front) = number (unsigned front)
 kept_data (NotYetEnacted day) = string (day_text day)
+kept_data (OtherLanguage language) = string (encode_utf8_all language)
+kept_data (UnknownPortion eid) = string eid
 
 -- a question that is refused: the value that the refusal shows, and the rule by name and number
 abbrev pub query_data : QueryRule → Data
@@ -27,9 +36,24 @@ query_data r =
     (member (codes "name") (string (query_name r))
     (member (codes "query") (number (unsigned (query_number r))) no_members)))
 
--- a command that is refused: the number that the refusal shows, and the rule by name and number
+-- the id `n.i` that an unknown modification is asked for by, both in decimal
+abbrev pub item_text : ℕ → ℕ → List ℕ
+item_text law item = decimal law ++ 46 ∷ decimal item
+
+-- the value that the refusal of a command shows: of a text that is not well-formed the number of its first fault, of a
+-- modification or a period the number of the item, of an unknown id and of one of another kind the id, of a full work the most
+-- ids of one
+abbrev pub rule_kept_data : Rule → Data
+rule_kept_data (BadTree fault) = number (unsigned (fault_number fault))
+rule_kept_data (BadModification item) = number (unsigned item)
+rule_kept_data (BadPeriod item) = number (unsigned item)
+rule_kept_data (UnknownModification law item) = string (item_text law item)
+rule_kept_data (WrongKind id) = string (id_text id)
+rule_kept_data (WorkFull most) = number (unsigned most)
+
+-- a command that is refused: the value that the refusal shows, and the rule by name and number
 abbrev pub rule_data : Rule → Data
 rule_data r =
-    object (member (codes "kept") (number (unsigned (kept_number r)))
+    object (member (codes "kept") (rule_kept_data r)
     (member (codes "name") (string (register_name r))
     (member (codes "rule") (number (unsigned (register_number r))) no_members)))

@@ -1,5 +1,5 @@
--- The IRIs of works and expressions in forms, and the day that goes with a work.
-use Rattle.std.specs.Prelude.{ℕ, ◌==◌, Bool, nat_eq, List, Ok, Err}
+-- The IRIs of works and expressions in forms, the day that goes with a work, and the work that modifies.
+use Rattle.std.specs.Prelude.{ℕ, ◌==◌, Bool, nat_eq, List, [], ◌∷◌, Ok, Err}
 use Rattle.std.specs.List.{starts_with}
 use Rattle.serde_json.specs.Data.{Data}
 use Rattle.desk_base.specs.Days.{day_of}
@@ -9,9 +9,11 @@ use Rattle.frbr_names.specs.Reads.{Read as NameRead}
 use Rattle.frbr_names.specs.Works.{Work, work_of, date_named}
 use Rattle.frbr_names.specs.declared.date.IriDate.{IriDate}
 use Rattle.frbr_names.specs.declared.date.IriDate.TheVariants.{Year, Full}
+use Rattle.law_register.specs.declared.modification.ModSource.{ModSource}
 use Rattle.akn_json.specs.declared.fault.FormRule.TheVariants.{BadName, BadDay, DateDiffers}
 use Rattle.akn_json.specs.Reads.{Read, ◌>>=◌, ◌>>◌, broken, or_fault, unless_broken}
-use Rattle.akn_json.specs.Fields.{text_in}
+use Rattle.akn_json.specs.declared.reading.key.Key.TheVariants as key
+use Rattle.akn_json.specs.Fields.{members_in, field_in, text_in, number_in}
 
 -- the text of the IRI of a work, if it was read as one
 abbrev pub work_read : NameRead Work → Read (List ℕ)
@@ -52,3 +54,13 @@ act_day_in work d = do
   date ← or_fault (broken BadName) (date_named work)
   unless_broken (broken DateDiffers) (agrees text day date)
   Ok day
+
+-- the source of a modification: the IRI of the work that modifies, and a place within it
+unfoldable pub source_in : Data → Read ModSource
+source_in d = do
+  members_in (key.Href ∷ key.Place ∷ []) [] d
+  h ← field_in key.Href d
+  href ← work_in h
+  p ← field_in key.Place d
+  place ← number_in 65535 p
+  Ok (record { href = href; place = place })

@@ -1,6 +1,6 @@
 //! A dossier: an act and the modifications made to it.
 
-use crate::{Act, Mods};
+use law_register::{Act, Mods};
 
 /// An act with its modifications, in the order in which they were recorded.
 #[derive(Debug, Drop)]

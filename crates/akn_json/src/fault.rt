@@ -9,13 +9,11 @@ use std::alloc::{AllocError, AllocFailed};
 /// The rule of a form that bytes break.
 #[derive(Clone, Copy, Debug, PartialEq, Eq)]
 pub enum FormRule {
-    /// The dossier has a part that this desk does not read yet.
-    NotBuilt = 0,
     /// The bytes are no JSON text.
     NotJson = 1,
     /// A value is of another JSON kind than stated, or an object has other keys than stated.
     WrongShape = 2,
-    /// An IRI or a language breaks its rule.
+    /// An IRI, a language or an id breaks its rule.
     BadName = 3,
     /// A text that should be a day is none.
     BadDay = 4,
@@ -44,7 +42,6 @@ impl FormRule {
         ensures { result.now ≡ rule_name self }
     {
         match self {
-            FormRule::NotBuilt => "NotBuilt",
             FormRule::NotJson => "NotJson",
             FormRule::WrongShape => "WrongShape",
             FormRule::BadName => "BadName",

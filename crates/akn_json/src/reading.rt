@@ -10,10 +10,13 @@ ghost use Rattle.akn_json.specs.DossierForm.{dossier_of};
 ghost use Rattle.akn_json.specs.declared.fault.FormRule.TheVariants.{NotJson};
 
 mod act_form;
+mod bearing_form;
+mod bearing_kind;
 mod edit_form;
 mod edit_kind;
 mod faults;
 mod fields;
+mod ids;
 mod insertion;
 mod key;
 mod mods_form;
@@ -22,6 +25,9 @@ mod renumbering;
 mod split;
 mod substitution;
 mod targets;
+#[cfg(test)]
+mod tests;
+mod word;
 mod works;
 
 use crate::{Dossier, ReadFail};

@@ -21,7 +21,7 @@ dossier_of-long bytes long = rw (past (length bytes) most_bytes long) refl
 -- of all inputs past the limit the same is told
 told-long : (job : Job) (a b : List ℕ) → most_bytes < length a → most_bytes < length b → told job a ≡ told job b
 unfolding told
-told-long (Text day) a b p q = ap (told_of day) (dossier_of-long a p ∙ sym (dossier_of-long b q))
+told-long (Text day reading) a b p q = ap (told_of day reading) (dossier_of-long a p ∙ sym (dossier_of-long b q))
 
 -- an input that was read, and of which the same is told as of the bytes
 pub record IsWhole (left now : Option (List ℕ)) (bytes : List ℕ) : Type 0 where

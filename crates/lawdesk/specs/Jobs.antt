@@ -1,12 +1,30 @@
 -- What the words of the command line ask for.
-use Rattle.std.specs.Prelude.{ℕ, List, [], ◌∷◌, Option, None, if◌then◌else◌, codes}
-use Rattle.std.specs.Option.{option_map}
+use Rattle.std.specs.Prelude.{ℕ, List, [], ◌∷◌, Option, Some, None, if◌then◌else◌, codes}
 use Rattle.std.specs.Str.{bytes_eq}
 use Rattle.desk_base.specs.Days.{day_of}
+use Rattle.law_register.specs.declared.question.Reading.{Reading}
+use Rattle.law_register.specs.declared.question.Reading.TheVariants.{Force, Efficacy}
 use Rattle.lawdesk.specs.declared.job.Job.{Job}
 use Rattle.lawdesk.specs.declared.job.Job.TheVariants.{Text}
 
--- `text DATE` asks for the text on that day; no other words are a job
+-- the reading that a word names, if it names one
+abbrev pub reading_named : List ℕ → Option Reading
+reading_named word =
+    if bytes_eq word (codes "force") then Some Force
+    else (if bytes_eq word (codes "efficacy") then Some Efficacy else None)
+
+-- the job of the text on a day in a reading, if both were named
+abbrev pub text_on : Option ℕ → Option Reading → Option Job
+text_on None reading = None
+text_on (Some day) None = None
+text_on (Some day) (Some reading) = Some (Text day reading)
+
+-- the job of the text on the day that a word names, if both were named
+abbrev pub text_job : List ℕ → Option Reading → Option Job
+text_job date reading = text_on (day_of date) reading
+
+-- `text DATE` asks for the text on that day in force, and `text DATE READING` in that reading; no other words are a job
 abbrev pub job_of : List (List ℕ) → Option Job
-job_of (word ∷ date ∷ []) = if bytes_eq word (codes "text") then option_map Text (day_of date) else None
+job_of (word ∷ date ∷ []) = if bytes_eq word (codes "text") then text_job date (Some Force) else None
+job_of (word ∷ date ∷ name ∷ []) = if bytes_eq word (codes "text") then text_job date (reading_named name) else None
 job_of words = None

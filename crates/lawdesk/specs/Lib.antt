@@ -1,13 +1,7 @@
-pub mod Order
 pub mod Rules
+pub mod Knowing
 pub mod Input
 pub mod Jobs
-pub mod Showing
-pub mod Awaiting
-pub mod VersionValues
-pub mod Versions
-pub mod Replay
-pub mod Answering
 pub mod Stops
 pub mod Reports
 pub mod Runs

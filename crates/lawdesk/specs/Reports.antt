@@ -1,17 +1,20 @@
 -- What the program tells of its input: a status, and the bytes that are written.
-use Rattle.std.specs.Prelude.{ℕ, List, [], ◌∷◌, ◌++◌, Option, Some, None, Result, Ok, Err, nat_lt, if◌then◌else◌}
+use Rattle.std.specs.Prelude.{ℕ, List, [], ◌∷◌, ◌++◌, Option, Some, None, Result, Ok, Err}
 use Rattle.serde_json.specs.Data.{Data}
 use Rattle.serde_json.specs.Written.{compact_text}
 use Rattle.akn_json.specs.AnswerData.{answer_data}
 use Rattle.akn_json.specs.DossierForm.{dossier_of}
 use Rattle.akn_json.specs.RefusalData.{form_fault_data, query_data, rule_data}
-use Rattle.akn_json.specs.declared.refusal.Rule.{Rule}
+use Rattle.law_register.specs.declared.rules.Rule.{Rule}
 use Rattle.akn_json.specs.declared.dossier.Dossier.{Dossier}
 use Rattle.akn_json.specs.declared.fault.FormFault.{FormFault}
-use Rattle.akn_json.specs.declared.refusal.QueryRule.TheVariants.{NotYetEnacted}
+use Rattle.law_register.specs.declared.answer.Answer.{Answer}
+use Rattle.law_register.specs.declared.question.Reading.{Reading}
+use Rattle.law_register.specs.declared.rules.QueryRule.{QueryRule}
+use Rattle.law_register.specs.Answers.{answer_on}
 use Rattle.lawdesk.specs.declared.job.Job.{Job}
 use Rattle.lawdesk.specs.declared.job.Job.TheVariants.{Text}
-use Rattle.lawdesk.specs.Answering.{answer_on}
+use Rattle.lawdesk.specs.Knowing.{known_of, question_on}
 use Rattle.lawdesk.specs.Rules.{dossier_rule}
 
 -- a status, and the bytes that are written
@@ -23,11 +26,14 @@ pub record Told : Type 0 where
 abbrev pub line_of : Data → List ℕ
 line_of d = compact_text d ++ 10 ∷ []
 
--- a day before that of the act is refused, and any other is answered
-unfoldable pub told_of_text : ℕ → Dossier → Told
-told_of_text day dossier =
-    if nat_lt day dossier.act.day then record { status = 9; bytes = line_of (query_data (NotYetEnacted dossier.act.day)) }
-    else record { status = 0; bytes = line_of (answer_data (answer_on dossier day)) }
+-- an answer is told, and a question that breaks a rule is refused with it
+abbrev pub told_answer : Result Answer QueryRule → Told
+told_answer (Ok answer) = record { status = 0; bytes = line_of (answer_data answer) }
+told_answer (Err rule) = record { status = 9; bytes = line_of (query_data rule) }
+
+-- the answer of what a dossier makes known, on a day and in a reading
+unfoldable pub told_of_text : ℕ → Reading → Dossier → Told
+told_of_text day reading dossier = told_answer (answer_on (known_of dossier) (question_on (known_of dossier) day reading))
 
 -- a command that is refused, with the rule that it breaks
 abbrev pub told_rule : Rule → Told
@@ -39,18 +45,18 @@ told_unless None told = told
 told_unless (Some rule) told = told_rule rule
 
 -- the rules of the commands come before those of the question
-abbrev pub told_on : ℕ → Dossier → Told
-told_on day dossier = told_unless (dossier_rule dossier) (told_of_text day dossier)
+abbrev pub told_on : ℕ → Reading → Dossier → Told
+told_on day reading dossier = told_unless (dossier_rule dossier) (told_of_text day reading dossier)
 
 -- bytes that are no dossier are refused with the fault that comes first
 abbrev pub told_fault : FormFault → Told
 told_fault fault = record { status = 10; bytes = line_of (form_fault_data fault) }
 
 -- a dossier, or the fault that keeps the bytes from being one
-abbrev pub told_of : ℕ → Result Dossier FormFault → Told
-told_of day (Ok dossier) = told_on day dossier
-told_of day (Err fault) = told_fault fault
+abbrev pub told_of : ℕ → Reading → Result Dossier FormFault → Told
+told_of day reading (Ok dossier) = told_on day reading dossier
+told_of day reading (Err fault) = told_fault fault
 
 -- what a job tells of the bytes that it reads
 unfoldable pub told : Job → List ℕ → Told
-told (Text day) input = told_of day (dossier_of input)
+told (Text day reading) input = told_of day reading (dossier_of input)

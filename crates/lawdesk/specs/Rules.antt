@@ -1,27 +1,33 @@
 -- The rules of the register that a dossier can break: its act is enacted first, and then each modification is recorded alone.
-use Rattle.std.specs.Prelude.{ℕ, ◌+◌, nat_le, nat_lt, Bool, true, not, ◌&&◌, List, [], ◌∷◌, length, map, Option, Some, None, if◌then◌else◌}
+use Rattle.std.specs.Prelude.{ℕ, ◌+◌, ◌-◌, ◌==◌, ◌++◌, nat_le, nat_lt, Bool, true, not, ◌&&◌, List, [], ◌∷◌, length, map, slice_get, Option, Some, None, if◌then◌else◌}
 use Rattle.std.specs.List.{list_all}
 use Rattle.std.specs.Str.{bytes_eq}
+use Rattle.desk_base.specs.declared.id.Id.{Id}
 use Rattle.desk_base.specs.declared.period.Period.{Period}
+use Rattle.eid_paths.specs.declared.numbering.Numbering.{Numbering}
 use Rattle.act_tree.specs.Branches.{Branch, Branches, branch, no_branches, more_branches, branches_of}
 use Rattle.act_tree.specs.Faults.{first_fault}
 use Rattle.act_tree.specs.Wids.{one_twice}
+use Rattle.act_tree.specs.declared.surveying.TheConstants.{NONE_THROUGHOUT}
+use Rattle.bearing_mods.specs.declared.efficacy.EfficacyEffect.{EfficacyEffect}
+use Rattle.bearing_mods.specs.declared.efficacy.EfficacyEffect.TheVariants as efficacy
 use Rattle.act_tree.specs.Provisions.{Own}
 use Rattle.act_tree.specs.declared.build_fault.BuildFault.{BuildFault}
-use Rattle.act_tree.specs.declared.surveying.TheConstants.{NONE_THROUGHOUT}
+use Rattle.textual_mods.specs.declared.edit.TextualMod.{TextualMod}
+use Rattle.textual_mods.specs.declared.edit.TextualMod.TheVariants.{Repeal, SubstituteNodes, SubstituteText, InsertNodes, InsertText, Renumber, Split, Join}
 use Rattle.textual_mods.specs.declared.edit.Spot.{Spot}
 use Rattle.textual_mods.specs.declared.edit.SplitAt.{SplitAt}
 use Rattle.textual_mods.specs.declared.edit.SplitAt.TheVariants as cuts
 use Rattle.textual_mods.specs.declared.edit.TextPos.{TextPos}
 use Rattle.textual_mods.specs.declared.edit.TextPos.TheVariants as stands
-use Rattle.textual_mods.specs.declared.edit.TextualMod.{TextualMod}
-use Rattle.textual_mods.specs.declared.edit.TextualMod.TheVariants.{Repeal, SubstituteNodes, SubstituteText, InsertNodes, InsertText, Renumber, Split, Join}
-use Rattle.akn_json.specs.declared.act.Act.{Act}
+use Rattle.law_register.specs.declared.act.Act.{Act}
 use Rattle.akn_json.specs.declared.dossier.Dossier.{Dossier}
-use Rattle.akn_json.specs.declared.modification.Modification.{Modification}
-use Rattle.akn_json.specs.declared.modification.Modification.TheVariants.{Textual}
-use Rattle.akn_json.specs.declared.refusal.Rule.{Rule}
-use Rattle.akn_json.specs.declared.refusal.Rule.TheVariants.{BadTree, BadModification, BadPeriod, WorkFull}
+use Rattle.law_register.specs.declared.modification.Destination.{Destination}
+use Rattle.law_register.specs.declared.modification.Destination.TheVariants as to
+use Rattle.law_register.specs.declared.modification.Modification.{Modification}
+use Rattle.law_register.specs.declared.modification.Modification.TheVariants.{Textual, Force, Efficacy}
+use Rattle.law_register.specs.declared.rules.Rule.{Rule}
+use Rattle.law_register.specs.declared.rules.Rule.TheVariants.{BadTree, BadModification, BadPeriod, UnknownModification, WrongKind, WorkFull}
 
 -- the most refs of a node
 abbrev pub most_refs : ℕ
@@ -97,9 +103,16 @@ edit_fits (Renumber pairs) = pairs_fit pairs
 edit_fits (Split wid at num heading) = is_wid wid && split_at_fits at && text_fits heading
 edit_fits (Join wid second separator) = is_wid wid && is_wid second && not (bytes_eq wid second) && text_fits separator
 
+-- the name of what a modification of force or efficacy is directed at keeps its limits
+abbrev pub destination_fits : Destination → Bool
+destination_fits (to.Modification id) = true
+destination_fits (to.Node wid) = is_wid wid
+
 -- what a modification names and brings keeps its limits
 abbrev pub modification_fits : Modification → Bool
 modification_fits (Textual source force edit) = edit_fits edit
+modification_fits (Force source destination on effect) = destination_fits destination
+modification_fits (Efficacy source destination on effect) = destination_fits destination
 
 -- a day comes before the end of a period, which may have none
 abbrev pub ends_after : ℕ → Option ℕ → Bool
@@ -110,9 +123,16 @@ ends_after start (Some end) = nat_lt start end
 abbrev pub period_fits : Period → Bool
 period_fits period = ends_after period.start period.end
 
+-- the days of an inapplication end after their start
+abbrev pub effect_fits : EfficacyEffect → Bool
+effect_fits (efficacy.Inapplied days) = period_fits days
+effect_fits _ = true
+
 -- the period that a modification states ends after its start
 abbrev pub times_fit : Modification → Bool
 times_fit (Textual source force edit) = period_fits force
+times_fit (Force source destination on effect) = true
+times_fit (Efficacy source destination on effect) = effect_fits effect
 
 -- the first of two broken rules, where the second is judged only if the first is kept
 abbrev pub rule_or : Option Rule → Option Rule → Option Rule
@@ -128,41 +148,70 @@ abbrev pub tree_rule : Option BuildFault → Option Rule
 tree_rule None = None
 tree_rule (Some fault) = Some (BadTree fault)
 
+-- the first fault of nodes as the text of an act with this numbering
+abbrev pub first_fault_of : Numbering → List (Branch Own) → Option BuildFault
+first_fault_of numbering nodes = first_fault numbering (branches_of nodes)
+
 -- the first rule that an act breaks beside that of its tree: its refs, and then its period
 abbrev pub act_limits_rule : Act → Option Rule
 act_limits_rule act = rule_or (broken_unless (have_few_refs (branches_of act.body)) (BadModification 0)) (broken_unless (period_fits act.force) (BadPeriod 0))
 
 -- the first rule that the enactment of an act breaks: that of its tree comes before the others
 abbrev pub enact_rule : Act → Option Rule
-enact_rule act = rule_or (tree_rule (first_fault act.numbering (branches_of act.body))) (act_limits_rule act)
+enact_rule act = rule_or (tree_rule (first_fault_of act.numbering act.body)) (act_limits_rule act)
 
 -- the first fault of the nodes that an edit brings, below a root at which no element is numbered throughout
 abbrev pub payload_fault : TextualMod → Option BuildFault
-payload_fault (SubstituteNodes wid new) = first_fault NONE_THROUGHOUT (branches_of new)
-payload_fault (InsertNodes wid pos new) = first_fault NONE_THROUGHOUT (branches_of new)
+payload_fault (SubstituteNodes wid new) = first_fault_of NONE_THROUGHOUT new
+payload_fault (InsertNodes wid pos new) = first_fault_of NONE_THROUGHOUT new
 payload_fault _ = None
 
 -- the rule that the nodes which a modification brings break
 abbrev pub payload_rule : Modification → Option Rule
 payload_rule (Textual source force edit) = tree_rule (payload_fault edit)
+payload_rule (Force source destination on effect) = None
+payload_rule (Efficacy source destination on effect) = None
 
--- the first rule that the record of one modification breaks, beside that of the nodes which it brings, in a work that has this
--- many ids
-abbrev pub record_limits_rule : ℕ → Modification → Option Rule
-record_limits_rule ids m =
+-- the modification of an id, where law entry 2 recorded the first of these, and each entry behind it one more
+abbrev pub recorded_as : Id → List Modification → Option Modification
+recorded_as id recorded = if (id.item == 1) && nat_le 2 id.law then slice_get recorded (id.law - 2) else None
+
+-- the rule that a destination of this id breaks, where the id is that of this modification, or of none: a textual one has to be
+-- recorded as it
+abbrev pub id_rule : Id → Option Modification → Option Rule
+id_rule id None = Some (UnknownModification id.law id.item)
+id_rule id (Some (Textual source force edit)) = None
+id_rule id (Some (Force source destination on effect)) = Some (WrongKind id)
+id_rule id (Some (Efficacy source destination on effect)) = Some (WrongKind id)
+
+-- the rule that a destination breaks, where these were recorded before
+abbrev pub destination_rule : List Modification → Destination → Option Rule
+destination_rule recorded (to.Modification id) = id_rule id (recorded_as id recorded)
+destination_rule recorded (to.Node wid) = None
+
+-- the rule that what a modification is directed at breaks, where these were recorded before
+abbrev pub directed_rule : List Modification → Modification → Option Rule
+directed_rule recorded (Textual source force edit) = None
+directed_rule recorded (Force source destination on effect) = destination_rule recorded destination
+directed_rule recorded (Efficacy source destination on effect) = destination_rule recorded destination
+
+-- the first rule that the record of one modification breaks, beside that of the nodes which it brings, in a work of which these
+-- were recorded before
+abbrev pub record_limits_rule : List Modification → Modification → Option Rule
+record_limits_rule recorded m =
     rule_or (broken_unless (modification_fits m) (BadModification 1))
-    (rule_or (broken_unless (times_fit m) (BadPeriod 1)) (broken_unless (nat_lt ids most_ids) (WorkFull most_ids)))
+    (rule_or (broken_unless (times_fit m) (BadPeriod 1))
+    (rule_or (directed_rule recorded m) (broken_unless (nat_lt (length recorded) most_ids) (WorkFull most_ids))))
 
--- the first rule that the record of one modification breaks, in a work that has this many ids: that of the nodes which it brings
--- comes before the others
-abbrev pub record_rule : ℕ → Modification → Option Rule
-record_rule ids m = rule_or (payload_rule m) (record_limits_rule ids m)
+-- the first rule that the record of one modification breaks, in a work of which these were recorded before
+abbrev pub record_rule : List Modification → Modification → Option Rule
+record_rule recorded m = rule_or (payload_rule m) (record_limits_rule recorded m)
 
--- the first rule that these modifications break, recorded one after another in a work that has this many ids
-abbrev pub records_rule : ℕ → List Modification → Option Rule
-records_rule ids [] = None
-records_rule ids (m ∷ ms) = rule_or (record_rule ids m) (records_rule (ids + 1) ms)
+-- the first rule that modifications break, recorded one after another behind these
+abbrev pub records_rule : List Modification → List Modification → Option Rule
+records_rule recorded [] = None
+records_rule recorded (m ∷ ms) = rule_or (record_rule recorded m) (records_rule (recorded ++ m ∷ []) ms)
 
 -- the first rule that the first refused command of a dossier breaks
 abbrev pub dossier_rule : Dossier → Option Rule
-dossier_rule dossier = rule_or (enact_rule dossier.act) (records_rule 0 dossier.mods)
+dossier_rule dossier = rule_or (enact_rule dossier.act) (records_rule [] dossier.mods)

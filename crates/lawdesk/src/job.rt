@@ -1,15 +1,36 @@
 //! Job: what the words of the command line ask for.
 
 ghost use Rattle.std.specs.Prelude.{◌≡◌, map, string_bytes};
-ghost use Rattle.lawdesk.specs.Jobs.{job_of};
+ghost use Rattle.lawdesk.specs.Jobs.{job_of, reading_named, text_job};
 
 use desk_base::Day;
+use law_register::Reading;
 
 /// What the program is asked to do.
 #[derive(Clone, Copy, Debug, PartialEq, Eq)]
 pub enum Job {
-    /// Read a dossier, and print the text of its act on that day.
-    Text(Day),
+    /// Read a dossier, and print the text of its act on that day, in that reading.
+    Text(Day, Reading),
+}
+
+// The reading that a word names. `None`: it names none.
+fn reading_named(word: &str) -> Option<Reading>
+    ensures { result ≡ reading_named word.now }
+{
+    if word == "force" {
+        Some(Reading::Force)
+    } else if word == "efficacy" {
+        Some(Reading::Efficacy)
+    } else {
+        None
+    }
+}
+
+// The job of the text on a day, where the words name a day and a reading.
+fn text_job(date: &str, reading: Option<Reading>) -> Option<Job>
+    ensures { result ≡ text_job date.now reading }
+{
+    Some(Job::Text(Day::from_text(date)?, reading?))
 }
 
 impl Job {
@@ -17,9 +38,12 @@ impl Job {
     pub fn from_words(words: &[String]) -> Option<Job>
         ensures { result ≡ job_of (map string_bytes words.now) }
     {
-        if words.len() != 2 || words[0].as_str() != "text" {
+        if words.len() < 2 || words.len() > 3 || words[0].as_str() != "text" {
             return None;
         }
-        Some(Job::Text(Day::from_text(words[1].as_str())?))
+        if words.len() == 2 {
+            return text_job(words[1].as_str(), Some(Reading::Force));
+        }
+        text_job(words[1].as_str(), reading_named(words[2].as_str()))
     }
 }

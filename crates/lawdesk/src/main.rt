@@ -1,20 +1,16 @@
 //! The program of the desk.
 #![tactic(auto)]
 
-mod answering;
 mod input;
 mod job;
-mod order;
-mod replay;
+mod knowing;
 mod report;
 mod reporting;
 mod rules;
 mod run;
-mod showing;
 mod stop;
 #[cfg(test)]
 mod tests;
-mod version;
 
 ghost use Rattle.std.specs.Prelude.{◌≡◌};
 
@@ -28,7 +24,7 @@ use std::process::ExitCode;
 use std::sync::ledger::{Blank, Ledger};
 use std::thread::Threads;
 
-const USAGE: &str = "usage: lawdesk text DATE (DATE as 2011-01-01; the dossier on standard input)";
+const USAGE: &str = "usage: lawdesk text DATE [force|efficacy] (DATE as 2011-01-01; the dossier on standard input)";
 
 // The words of the command line, without the program's name.
 fn words(rt: &HostRuntime) -> io::Result<Vec<String>> {

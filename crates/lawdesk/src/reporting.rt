@@ -1,27 +1,24 @@
 //! Reporting: what the program tells of its input, as a status and bytes.
 
-ghost use Rattle.std.specs.Prelude.{◌≡◌, ◌++◌, ◌∷◌, [], Ok, None, IfOk, length, ◌≤◌};
-ghost use Rattle.act_tree.specs.Branches.{branches_of};
-ghost use Rattle.act_tree.specs.Faults.{first_fault};
-ghost use Rattle.akn_json.specs.DossierForm.{dossier_of};
-ghost use Rattle.lawdesk.specs.Reports.{told, told_on, told_of_text, told_rule, told_fault};
-ghost use Rattle.lawdesk.specs.Replay.{as_enacted};
-ghost use Rattle.lawdesk.specs.Rules.{records_rule};
-ghost use Rattle.lawdesk.specs.Versions.{version_view};
+ghost use Rattle.std.specs.Prelude.{◌≡◌, ◌++◌, ◌∷◌, [], IfOk, Result};
+ghost use Rattle.law_register.specs.Answers.{Answers, answer_on};
+ghost use Rattle.law_register.specs.Soundness.{IsSound};
+ghost use Rattle.law_register.specs.declared.answer.Answer.{Answer};
+ghost use Rattle.law_register.specs.declared.rules.QueryRule.{QueryRule};
+ghost use Rattle.lawdesk.specs.Knowing.{question_on};
+ghost use Rattle.lawdesk.specs.Reports.{told, told_answer, told_on, told_rule, told_fault};
 ghost use Rattle.lawdesk.specs.Views.{report_view};
 
-use crate::answering::answer_on;
 use crate::job::Job;
-use crate::replay::enact;
+use crate::knowing::{known_of, question_on};
 use crate::report::Report;
-use crate::rules::limits_rule;
-use crate::version::Version;
-use act_tree::BuildFail;
+use crate::rules::dossier_rule;
 use akn_json::{
-    Dossier, FormFault, QueryRule, ReadFail, Rule, put_answer, put_form_fault, put_query_rule,
-    put_rule, read_dossier,
+    Dossier, FormFault, ReadFail, put_answer, put_form_fault, put_query_rule, put_rule,
+    read_dossier,
 };
 use desk_base::{Day, Memory, Steps};
+use law_register::{Answer, AskFault, Known, QueryRule, Reading, Replayer, Rule};
 use std::alloc::Global;
 use std::sync::ledger::Ledger;
 
@@ -33,32 +30,38 @@ fn line(mut bytes: Vec<u8>) -> Result<Vec<u8>, Memory>
     Ok(bytes)
 }
 
-// The report that a dossier gives on a day, from its act as enacted: its answer, or the rule that refuses the day.
-#[tactic(auto, unfolding(crate::specs::Reports::told_of_text))]
-fn report_text<L: Ledger>(
+// The report of an answer, or of the rule that a question breaks.
+fn report_answer(alloc: Global, told: Result<Answer, AskFault>) -> Result<Report, Memory>
+    ensures { (answer : Result Answer QueryRule) → Answers told answer → IfOk result (λ report. report_view report ≡ told_answer answer) }
+{
+    match told {
+        Ok(answer) => Ok(Report {
+            status: 0,
+            bytes: line(put_answer(alloc, &answer)?)?,
+        }),
+        Err(AskFault::Query(rule)) => Ok(Report {
+            status: 9,
+            bytes: line(put_query_rule(alloc, rule)?)?,
+        }),
+        Err(AskFault::Memory) => Err(Memory),
+    }
+}
+
+// The report of the text that is known, on a day and in a reading.
+fn report_known<L: Ledger, P: Replayer>(
     alloc: Global,
-    dossier: &Dossier,
-    enacted: Version,
+    replayer: &P,
+    known: &Known,
     day: Day,
+    reading: Reading,
     steps: &mut Steps<L>,
 ) -> Result<Report, Memory>
-    requires fits { first_fault dossier.now.act.numbering (branches_of dossier.now.act.body) ≡ None }
-    requires kept { records_rule 0 dossier.now.mods ≡ None }
-    requires enacted { version_view enacted ≡ as_enacted dossier.now.act }
-    ensures { IfOk result (λ report. report_view report ≡ told_of_text day dossier.now) }
+    requires { IsSound known.now }
+    ensures { IfOk result (λ report. report_view report ≡ told_answer (answer_on known.now (question_on known.now day reading))) }
 {
-    if day < dossier.act.day {
-        let refusal = put_query_rule(alloc, QueryRule::NotYetEnacted(dossier.act.day))?;
-        return Ok(Report {
-            status: 9,
-            bytes: line(refusal)?,
-        });
-    }
-    let answer = answer_on(alloc, dossier, enacted, day, steps)?;
-    Ok(Report {
-        status: 0,
-        bytes: line(put_answer(alloc, &answer)?)?,
-    })
+    let question = question_on(known, day, reading)?;
+    let version = replayer.replay(alloc, known, reading, day, steps)?;
+    report_answer(alloc, replayer.answer_of(alloc, known, version, &question))
 }
 
 // The report of a command that is refused.
@@ -71,22 +74,24 @@ fn report_rule(alloc: Global, rule: Rule) -> Result<Report, Memory>
     })
 }
 
-// The report that a dossier gives on a day: the rules of its commands come before those of the question.
-fn report_on<L: Ledger>(
+// The report that a dossier gives on a day, in a reading.
+#[tactic(auto, unfolding(crate::specs::Reports::told_of_text))]
+fn report_on<L: Ledger, P: Replayer>(
     alloc: Global,
-    dossier: &Dossier,
+    replayer: &P,
+    dossier: Dossier,
     day: Day,
+    reading: Reading,
     steps: &mut Steps<L>,
 ) -> Result<Report, Memory>
-    ensures { IfOk result (λ report. report_view report ≡ told_on day dossier.now) }
+    ensures { IfOk result (λ report. report_view report ≡ told_on day reading dossier) }
 {
-    match enact(alloc, &dossier.act) {
-        Ok(enacted) => match limits_rule(alloc, dossier)? {
-            Some(rule) => report_rule(alloc, rule),
-            None => report_text(alloc, dossier, enacted, day, steps),
-        },
-        Err(BuildFail::Fault(fault)) => report_rule(alloc, Rule::BadTree(fault)),
-        Err(BuildFail::Memory) => Err(Memory),
+    match dossier_rule(alloc, &dossier)? {
+        Some(rule) => report_rule(alloc, rule),
+        None => {
+            let known = known_of(alloc, dossier)?;
+            report_known(alloc, replayer, &known, day, reading, steps)
+        }
     }
 }
 
@@ -102,19 +107,20 @@ fn report_fault(alloc: Global, fault: FormFault) -> Result<Report, Memory>
 
 /// What a job tells of the bytes that it has read, which are let go as soon as they are understood.
 #[tactic(auto, unfolding(crate::specs::Reports::told))]
-pub fn report<L: Ledger>(
+pub fn report<L: Ledger, P: Replayer>(
     alloc: Global,
+    replayer: &P,
     job: Job,
     input: Vec<u8>,
     steps: &mut Steps<L>,
 ) -> Result<Report, Memory>
     ensures { IfOk result (λ report. report_view report ≡ told job input.items) }
 {
-    let Job::Text(day) = job;
+    let Job::Text(day, reading) = job;
     let read = read_dossier(alloc, input.as_slice());
     drop(input);
     match read {
-        Ok(dossier) => report_on(alloc, &dossier, day, steps),
+        Ok(dossier) => report_on(alloc, replayer, dossier, day, reading, steps),
         Err(ReadFail::Form(fault)) => report_fault(alloc, fault),
         Err(ReadFail::Memory) => Err(Memory),
     }

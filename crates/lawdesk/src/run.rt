@@ -12,6 +12,7 @@ use crate::reporting::report;
 use crate::stop::Stop;
 use akn_json::MAX_DOSSIER_BYTES;
 use desk_base::{Sink, Source, Steps};
+use replay_core::FromEnacted;
 use std::alloc::Global;
 use std::sync::ledger::Ledger;
 
@@ -30,7 +31,7 @@ fn perform<S: Source, W: Sink, L: Ledger>(
     ensures unwritten { IfErr result (λ stop. stop ≢ Stop.Sink → sink.new ≡ sink.old) }
 {
     let input = read_input(alloc, source, MAX_DOSSIER_BYTES)?;
-    let report = report(alloc, job, input, steps)?;
+    let report = report(alloc, &FromEnacted, job, input, steps)?;
     match sink.write_all(report.bytes.as_slice()) {
         Ok(()) => Ok(report.status),
         Err(_) => Err(Stop::Sink),

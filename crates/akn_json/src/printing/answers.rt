@@ -9,9 +9,9 @@ use super::expressions::expression;
 use super::lists::{put_ids, put_unapplied};
 use super::members::{put_flag, put_number, put_text};
 use super::provisions::put_nodes;
-use crate::Answer;
 use desk_base::Memory;
 use json::Writer;
+use law_register::Answer;
 use std::alloc::Global;
 
 // An answer.

@@ -3,8 +3,8 @@
 ghost use Rattle.std.specs.Prelude.{◌≡◌, ◌++◌, OnOk, IfOk, string_bytes, encode_utf8_all};
 ghost use Rattle.akn_json.specs.AnswerData.{version_text, portion_text, expression_text};
 
-use crate::Question;
 use desk_base::{Day, Memory, Text};
+use law_register::Question;
 use std::alloc::Global;
 
 // Adds the letters of a language.
@@ -15,6 +15,15 @@ fn push_language(text: &mut String, language: [u8; 3]) -> Result<(), Memory>
         text.push(char::from(letter))?;
     }
     Ok(())
+}
+
+// The letters of a language.
+pub fn letters(alloc: Global, language: [u8; 3]) -> Result<String, Memory>
+    ensures { IfOk result (λ text. string_bytes text ≡ encode_utf8_all language) }
+{
+    let mut text = String::new(alloc);
+    push_language(&mut text, language)?;
+    Ok(text)
 }
 
 // Adds the day of a version, or nothing for the act as enacted.

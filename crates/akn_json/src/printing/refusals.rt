@@ -1,14 +1,16 @@
 //! Refusals are printed.
 
-ghost use Rattle.std.specs.Prelude.{◌≡◌, ◌++◌, OnOk, IfOk};
+ghost use Rattle.std.specs.Prelude.{◌≡◌, ◌++◌, OnOk, IfOk, string_bytes};
 ghost use Rattle.json.specs.Tree.{json_tokens};
 ghost use Rattle.serde_json.specs.Written.{outline, compact_text};
-ghost use Rattle.akn_json.specs.RefusalData.{form_fault_data, kept_data, query_data, rule_data};
+ghost use Rattle.akn_json.specs.RefusalData.{form_fault_data, kept_data, query_data, item_text, rule_kept_data, rule_data};
 
+use super::expressions::letters;
 use super::members::{put_number, put_text};
-use crate::{FormFault, QueryRule, Rule};
+use crate::FormFault;
 use desk_base::Memory;
 use json::Writer;
+use law_register::{QueryRule, Rule};
 use std::alloc::Global;
 
 // A fault of a form.
@@ -32,7 +34,11 @@ fn put_kept(out: &mut Writer, alloc: Global, rule: &QueryRule) -> Result<(), Mem
     ensures before { OnOk result (out.new.before ≡ out.old.before) }
 {
     match rule {
+        QueryRule::UnknownWork(work) => out.string(work.as_str())?,
+        QueryRule::ViewpointAhead(front) => out.u64(u64::from(*front))?,
         QueryRule::NotYetEnacted(day) => out.string(day.spelled(alloc)?.as_str())?,
+        QueryRule::OtherLanguage(language) => out.string(letters(alloc, *language)?.as_str())?,
+        QueryRule::UnknownPortion(eid) => out.string(eid.as_str())?,
     }
     Ok(())
 }
@@ -72,26 +78,52 @@ pub fn put_query_rule(alloc: Global, rule: QueryRule) -> Result<Vec<u8>, Memory>
     Ok(out.into_inner())
 }
 
+// The id that the refusal of an unknown modification shows.
+fn spelled_item(alloc: Global, law: u32, item: u32) -> Result<String, Memory>
+    ensures { IfOk result (λ text. string_bytes text ≡ item_text law item) }
+{
+    Ok(format!(in alloc; "{law}.{item}")?)
+}
+
+// The value that a refusal of a command shows.
+fn put_rule_kept(out: &mut Writer, alloc: Global, rule: Rule) -> Result<(), Memory>
+    ensures tokens { OnOk result (out.new.tokens
+        ≡ out.old.tokens ++ json_tokens (outline (rule_kept_data rule))) }
+    ensures before { OnOk result (out.new.before ≡ out.old.before) }
+{
+    match rule {
+        Rule::BadTree(fault) => out.u64(u64::from(fault.number()))?,
+        Rule::BadModification(item) | Rule::BadPeriod(item) => out.u64(u64::from(item))?,
+        Rule::UnknownModification { law, item } => {
+            out.string(spelled_item(alloc, law, item)?.as_str())?
+        }
+        Rule::WrongKind(id) => out.string(id.spelled(alloc)?.as_str())?,
+        Rule::WorkFull(most) => out.u64(u64::from(most))?,
+    }
+    Ok(())
+}
+
 // A refusal of a command.
-fn put_command(out: &mut Writer, rule: Rule) -> Result<(), Memory>
+fn put_command(out: &mut Writer, alloc: Global, rule: Rule) -> Result<(), Memory>
     ensures tokens { OnOk result (out.new.tokens
         ≡ out.old.tokens ++ json_tokens (outline (rule_data rule))) }
     ensures before { OnOk result (out.new.before ≡ out.old.before) }
 {
     out.begin_object()?;
-    put_number(out, "kept", u64::from(rule.kept()))?;
+    out.key("kept")?;
+    put_rule_kept(out, alloc, rule)?;
     put_text(out, "name", rule.name())?;
     put_number(out, "rule", u64::from(rule.number()))?;
     out.end_object()?;
     Ok(())
 }
 
-/// The bytes of a refusal of a command: the number that it shows, and its rule by name and number.
+/// The bytes of a refusal of a command: the value that it shows, and its rule by name and number.
 /// They are JSON with no space, and no line feed stands behind them.
 pub fn put_rule(alloc: Global, rule: Rule) -> Result<Vec<u8>, Memory>
     ensures { IfOk result (λ bytes. bytes.items ≡ compact_text (rule_data rule)) }
 {
     let mut out = Writer::new(Vec::new(alloc));
-    put_command(&mut out, rule)?;
+    put_command(&mut out, alloc, rule)?;
     Ok(out.into_inner())
 }

@@ -6,13 +6,13 @@ ghost use Rattle.std.specs.Str.{bytes_eq};
 ghost use Rattle.serde_json.specs.Data.{array, string, put as with_member};
 ghost use Rattle.serde_json.specs.View.{view, members_view};
 ghost use Rattle.act_tree.specs.Branches.{branches_of};
-ghost use Rattle.akn_json.specs.ShownNodes.{shown_view};
+ghost use Rattle.law_register.specs.ShownNodes.{shown_view};
 ghost use Rattle.akn_json.specs.AnswerData as spec;
 
 use super::expressions::expression;
-use crate::{Answer, AnswerNode, AnswerNodes};
 use act_tree::Cause;
 use desk_base::{Id, Memory, Text};
+use law_register::{Answer, AnswerNode, AnswerNodes};
 use serde_json::{Map, Value, json, put};
 use std::alloc::Global;
 

@@ -16,8 +16,9 @@ use super::fields::{field, items, members, period, text};
 use super::key::Key;
 use super::node_form::{element, nodes};
 use super::works::{act_day, work};
-use crate::{Act, ReadFail};
+use crate::ReadFail;
 use eid_paths::{Element, Numbering};
+use law_register::Act;
 use serde_json::Value;
 use std::alloc::Global;
 

@@ -1,8 +1,9 @@
 //! The kinds of textual modification, and the words for them.
 
-ghost use Rattle.std.specs.Prelude.{◌≡◌, find};
-ghost use Rattle.std.specs.Str.{bytes_eq};
+ghost use Rattle.std.specs.Prelude.{◌≡◌};
 ghost use Rattle.akn_json.specs.EditKinds.{kind_named, kind_word};
+
+use super::word::{Worded, named};
 
 /// A kind of textual modification.
 #[derive(Clone, Copy)]
@@ -25,10 +26,18 @@ impl EditKind {
         EditKind::Join,
     ];
 
-    /// The word for the kind.
-    fn word(self) -> &'static str
-        ensures { result.now ≡ kind_word self }
+    /// The kind that a word names. `None`: it names none.
+    pub(super) fn from_word(word: &str) -> Option<EditKind>
+        ensures { result ≡ kind_named word.now }
     {
+        named(&EditKind::ALL, word)
+    }
+}
+
+impl Worded for EditKind {
+    ghost spelled = { kind_word };
+
+    fn word(self) -> &'static str {
         match self {
             EditKind::Repeal => "repeal",
             EditKind::Substitution => "substitution",
@@ -38,23 +47,4 @@ impl EditKind {
             EditKind::Join => "join",
         }
     }
-
-    /// The kind that a word names. `None`: it names none.
-    pub(super) fn from_word(word: &str) -> Option<EditKind>
-        ensures { result ≡ kind_named word.now }
-    {
-        named(&EditKind::ALL, word)
-    }
-}
-
-// The first of these kinds that has the word.
-fn named(kinds: &[EditKind], word: &str) -> Option<EditKind>
-    ensures { result ≡ find (λ k. bytes_eq (kind_word k) word.now) kinds.now }
-{
-    for kind in kinds {
-        if kind.word() == word {
-            return Some(*kind);
-        }
-    }
-    None
 }

@@ -2,11 +2,6 @@
 
 use crate::{FormFault, FormRule, ReadFail};
 
-pub(super) const NOT_BUILT: ReadFail = ReadFail::Form(FormFault {
-    rule: FormRule::NotBuilt,
-    place: 0,
-});
-
 pub(super) const NOT_JSON: ReadFail = ReadFail::Form(FormFault {
     rule: FormRule::NotJson,
     place: 0,

@@ -39,6 +39,10 @@ pub(super) enum Key {
     Child,
     Second,
     Separator,
+    On,
+    Date,
+    Days,
+    Modification,
 }
 
 impl Key {
@@ -80,6 +84,10 @@ impl Key {
             Key::Child => "child",
             Key::Second => "second",
             Key::Separator => "separator",
+            Key::On => "on",
+            Key::Date => "date",
+            Key::Days => "days",
+            Key::Modification => "modification",
         }
     }
 }

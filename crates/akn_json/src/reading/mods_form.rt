@@ -5,28 +5,16 @@ ghost use Rattle.serde_json.specs.View.{view, items_view};
 ghost use Rattle.akn_json.specs.Reads.{Gives, inside};
 ghost use Rattle.akn_json.specs.ModsForm as spec;
 
+use super::bearing_form::{efficacy, force};
 use super::edit_form::{EditForm, kind};
-use super::faults::{NOT_BUILT, WRONG_SHAPE};
-use super::fields::{field, items, members, number, period};
+use super::faults::WRONG_SHAPE;
+use super::fields::{field, items, members, period};
 use super::key::Key;
-use super::works::work;
-use crate::{FormFault, ModSource, Modification, Mods, ReadFail};
+use super::works::source;
+use crate::{FormFault, ReadFail};
+use law_register::{Modification, Mods};
 use serde_json::Value;
 use std::alloc::Global;
-
-// The source of a modification: the IRI of the work that modifies, and a place within it.
-#[tactic(auto, unfolding(crate::specs::ModsForm::source_in))]
-fn source(alloc: Global, value: &Value) -> Result<ModSource, ReadFail>
-    ensures { Gives (λ s. s) result (spec.source_in (view value.now)) }
-{
-    members(value, &[Key::Href, Key::Place], &[])?;
-    let href = work(alloc, field(value, Key::Href)?)?;
-    let place = number(field(value, Key::Place)?, 65_535)?;
-    Ok(ModSource {
-        href,
-        place: place as u16,
-    })
-}
 
 // A textual modification. Its table is chosen before its keys are judged, and its values are read in the order of the table.
 #[tactic(auto, unfolding(crate::specs::ModsForm::textual_in))]
@@ -59,6 +47,17 @@ fn single(value: &Value) -> Result<(), ReadFail>
     Ok(())
 }
 
+// A change of force, where one is stated, and else a change of efficacy.
+#[tactic(auto, unfolding(crate::specs::ModsForm::bearing_in))]
+fn bearing(alloc: Global, value: &Value) -> Result<Modification, ReadFail>
+    ensures { Gives (λ m. m) result (spec.bearing_in (view value.now)) }
+{
+    match value.get(Key::ForceMod.name()) {
+        Some(found) => force(alloc, found),
+        None => efficacy(alloc, field(value, Key::EfficacyMod)?),
+    }
+}
+
 // A modification, named by its one key.
 #[tactic(auto, unfolding(crate::specs::ModsForm::modification_in))]
 fn modification(alloc: Global, value: &Value) -> Result<Modification, ReadFail>
@@ -72,7 +71,7 @@ fn modification(alloc: Global, value: &Value) -> Result<Modification, ReadFail>
     single(value)?;
     match value.get(Key::TextualMod.name()) {
         Some(found) => textual(alloc, found),
-        None => Err(NOT_BUILT),
+        None => bearing(alloc, value),
     }
 }
 

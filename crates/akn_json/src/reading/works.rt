@@ -1,4 +1,4 @@
-//! The IRIs of works and expressions in forms, and the day that goes with a work.
+//! The IRIs of works and expressions in forms, the day that goes with a work, and the work that modifies.
 
 ghost use Rattle.std.specs.Prelude.{◌≡◌};
 ghost use Rattle.desk_base.specs.Days as days;
@@ -10,10 +10,12 @@ ghost use Rattle.akn_json.specs.Reads.{Gives};
 ghost use Rattle.akn_json.specs.Works as spec;
 
 use super::faults::{BAD_DAY, BAD_NAME, DATE_DIFFERS};
-use super::fields::text;
+use super::fields::{field, members, number, text};
+use super::key::Key;
 use crate::ReadFail;
 use desk_base::{Day, Text};
 use frbr_names::{IriDate, WorkName, parse_expression, parse_work};
+use law_register::ModSource;
 use serde_json::Value;
 use std::alloc::Global;
 
@@ -90,4 +92,18 @@ pub(super) fn act_day(work: &WorkName, value: &Value) -> Result<Day, ReadFail>
         return Err(DATE_DIFFERS);
     }
     Ok(day)
+}
+
+// The source of a modification: the IRI of the work that modifies, and a place within it.
+#[tactic(auto, unfolding(crate::specs::Works::source_in))]
+pub(super) fn source(alloc: Global, value: &Value) -> Result<ModSource, ReadFail>
+    ensures { Gives (λ s. s) result (spec.source_in (view value.now)) }
+{
+    members(value, &[Key::Href, Key::Place], &[])?;
+    let href = work(alloc, field(value, Key::Href)?)?;
+    let place = number(field(value, Key::Place)?, 65_535)?;
+    Ok(ModSource {
+        href,
+        place: place as u16,
+    })
 }

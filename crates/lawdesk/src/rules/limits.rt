@@ -1,17 +1,18 @@
 //! Limits of what a modification names and brings.
 
-ghost use Rattle.std.specs.Prelude.{◌≡◌, map};
-ghost use Rattle.std.specs.List.{list_all};
+ghost use Rattle.std.specs.Prelude.{◌≡◌};
 ghost use Rattle.act_tree.specs.Branches.{branches_of};
 ghost use Rattle.act_tree.specs.Specs.{spec_view};
 ghost use Rattle.act_tree.specs.Wids.{is_among, one_twice};
-ghost use Rattle.textual_mods.specs.declared.edit.TextualMod.TheVariants.{Join};
 ghost use Rattle.lawdesk.specs.Rules as spec;
+ghost use Rattle.std.specs.Prelude.{map, ◌&&◌, ◌||◌, not};
+ghost use Rattle.std.specs.List.{list_all};
 
 use act_tree::{NodeSpec, Nodes};
-use akn_json::Modification;
+use bearing_mods::EfficacyEffect;
 use desk_base::{Period, Text};
 use eid_paths::Num;
+use law_register::{Destination, Modification};
 use textual_mods::{Pairs, SplitAt, Spot, TextPos, TextualMod};
 
 // The most refs of a node.
@@ -141,7 +142,7 @@ fn split_at_fits(at: &SplitAt) -> bool
 
 // Whether both provisions of a join have wIds that differ, and its separator is not too long.
 fn join_fits(wid: &Text, second: &Text, separator: &Text) -> bool
-    ensures { result ≡ spec.edit_fits (Join wid.now second.now separator.now) }
+    ensures { result ≡ spec.edit_fits (TextualMod.Join wid.now second.now separator.now) }
 {
     is_wid(wid.as_str())
         && is_wid(second.as_str())
@@ -165,10 +166,7 @@ fn edit_fits(edit: &TextualMod) -> bool
         }
         TextualMod::Renumber { pairs } => pairs_fit(pairs),
         TextualMod::Split {
-            wid,
-            at,
-            heading,
-            ..
+            wid, at, heading, ..
         } => is_wid(wid.as_str()) && split_at_fits(at) && text_fits(heading),
         TextualMod::Join {
             wid,
@@ -178,12 +176,25 @@ fn edit_fits(edit: &TextualMod) -> bool
     }
 }
 
+// Whether the name of what a modification is directed at keeps its limits.
+fn destination_fits(destination: &Destination) -> bool
+    ensures { result ≡ spec.destination_fits destination.now }
+{
+    match destination {
+        Destination::Modification(_) => true,
+        Destination::Node(wid) => is_wid(wid.as_str()),
+    }
+}
+
 /// Whether what a modification names and brings keeps its limits.
 pub fn modification_fits(modification: &Modification) -> bool
     ensures { result ≡ spec.modification_fits modification.now }
 {
     match modification {
         Modification::Textual { edit, .. } => edit_fits(edit),
+        Modification::Force { destination, .. } | Modification::Efficacy { destination, .. } => {
+            destination_fits(destination)
+        }
     }
 }
 
@@ -197,11 +208,23 @@ pub fn period_fits(period: Period) -> bool
     }
 }
 
+// Whether the days of an inapplication end after their start.
+fn effect_fits(effect: EfficacyEffect) -> bool
+    ensures { result ≡ spec.effect_fits effect }
+{
+    match effect {
+        EfficacyEffect::Inapplied(days) => period_fits(days),
+        _ => true,
+    }
+}
+
 /// Whether the period that a modification states ends after its start.
 pub fn times_fit(modification: &Modification) -> bool
     ensures { result ≡ spec.times_fit modification.now }
 {
     match modification {
         Modification::Textual { force, .. } => period_fits(*force),
+        Modification::Force { .. } => true,
+        Modification::Efficacy { effect, .. } => effect_fits(*effect),
     }
 }

@@ -1,0 +1,13 @@
+pub mod Shown
+pub mod ShownNodes
+pub mod Questions
+pub mod Queries
+pub mod Counted
+pub mod Bearing
+pub mod Order
+pub mod Replay
+pub mod Flags
+pub mod Answers
+pub mod Breakpoints
+pub mod Versions
+pub mod Soundness

@@ -1,0 +1,10 @@
+mod Grouping
+mod Turning
+mod Listing
+mod Bytes
+mod Places
+mod Comparing
+mod ShowingLaws
+mod HeldFlags
+mod Ids
+mod Stepping

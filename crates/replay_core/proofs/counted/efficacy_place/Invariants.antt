@@ -1,0 +1,8 @@
+-- None of those passed has the new one before it.
+use Rattle.std.proofs.Common.{◌≡◌, ◌++◌, take, drop}
+use Rattle.bearing_mods.specs.Turns.{efficacy_turn}
+use Rattle.law_register.specs.Counted.{take_turn}
+use Rattle.replay_core.proofs.counted.efficacy_place.Given as goal
+
+abbrev pub invariant-loop-index : goal.invariant-loop-index
+invariant-loop-index l = take_turn efficacy_turn l.new l.list ≡ take l.index l.list ++ take_turn efficacy_turn l.new (drop l.index l.list)

@@ -1,0 +1,39 @@
+use Rattle.std.proofs.Common.{rules, ◌≡◌, ◌∙◌, sym, ap, ℕ, ◌+◌, ◌<◌, map, option_map, take, length, List}
+use Rattle.std.proofs.lemmas.List.{take_all}
+use Rattle.act_tree.specs.Branches.{branches_of, heights}
+use Rattle.act_tree.specs.Seen.{tree_view, branch_at, below_at}
+use Rattle.act_tree.proofs.Walking.{children_lower}
+use Rattle.law_register.specs.ShownNodes.{shown_view}
+use Rattle.law_register.specs.Answers.{shown}
+use Rattle.replay_core.proofs.ShowingLaws.{branches_of-shown, shown_one, shown_more}
+use Rattle.replay_core.proofs.showing.+show_all.Goals as goal
+
+pub show_all-requires : goal.show_all-requires
+show_all-requires t c =
+    let within : c.loop-id.id-index < length c.args.ids.now = search rules in
+    let lower = children_lower c.args.tree.now c.args.ids.now c.children-children.result.now c.loop-id.id-index c.id-item.result within c.id-item.is c.children-children.ensures.branches in
+    (search (rules, lower), c.children-children.ensures.nodes)
+
+pub loop-id-preserved : goal.loop-id-preserved
+loop-id-preserved t c =
+    let tree = c.args.tree.now in
+    let k = c.args.on.now.known.now in
+    let r = c.args.on.now.reading in
+    let d = c.args.on.now.day in
+    let n = (tree_view tree).numbering in
+    let above = option_map (λ s. s.now) c.args.above in
+    let within : c.loop-id.id-index < length c.args.ids.now = search rules in
+    let one = shown_one k r d tree n c.args.flag c.in_ok-bears.bears above c.id-item.result c.in_ok-eid.eid c.as_str.result.now (shown_view c.in_ok-show.field-0) (branches_of c.in_ok-below.below)
+    (branches_of (map (branch_at tree) c.children-children.result.now)) c.in_ok-show.ensures c.in_ok-eid.ensures c.in_ok-bears.ensures c.as_str.ensures c.in_ok-below.ensures c.children-children.ensures.branches in
+    shown_more k r d tree n c.args.flag above c.args.ids.now c.loop-id.id-index c.id-item.result c.loop-id.shown c.push.new.self (shown_view c.in_ok-show.field-0)
+    within c.id-item.is c.loop-id.invariant one c.in_ok-push.ensures.ok
+
+pub returns : goal.returns
+returns t c =
+    let above = option_map (λ s. s.now) c.args.above in
+    let tree = c.args.tree.now in
+    let k = c.args.on.now.known.now in
+    let r = c.args.on.now.reading in
+    let d = c.args.on.now.day in
+    ap branches_of (c.loop-id.invariant ∙ ap (λ ids. map (shown k r d (tree_view tree).numbering c.args.flag above) (map (branch_at tree) ids)) (take_all _ _ (search rules)))
+    ∙ branches_of-shown k r d (tree_view tree).numbering c.args.flag above _

@@ -1,0 +1,4 @@
+pub mod Groups
+pub mod Ascending
+pub mod Dues
+pub mod Replaying

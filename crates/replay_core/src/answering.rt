@@ -1,0 +1,233 @@
+//! Answers: the text of an act on a day, or the first rule that a question breaks.
+
+ghost use Rattle.std.specs.Prelude.{◌≡◌, ◌∷◌, [], true, None, Some, IfOk, map, option_map};
+ghost use Rattle.std.specs.List.{All};
+ghost use Rattle.act_tree.specs.Branches.{branches_of, listed};
+ghost use Rattle.act_tree.specs.Seen.{tree_view, has_node, provision_at, branch_at};
+ghost use Rattle.law_register.specs.Answers as spec;
+ghost use Rattle.law_register.specs.Answers.{Answers, all_shown, portion_among};
+ghost use Rattle.law_register.specs.ShownNodes.{shown_view};
+ghost use Rattle.law_register.specs.Flags as flags;
+ghost use Rattle.law_register.specs.Replay.{replay_on};
+ghost use Rattle.law_register.specs.Versions.{version_view};
+
+use crate::on_day::OnDay;
+use crate::showing::{find_flag, find_portion, show_all};
+use act_tree::{NodeId, Tree};
+use desk_base::{Day, Memory, Text};
+use law_register::{
+    Act, Answer, AnswerNode, AnswerNodes, AskFault, Known, QueryRule, Question, Reading, Version,
+};
+use std::alloc::Global;
+
+// Whether the day of a version is before that of the act.
+fn is_too_early(version: Option<Day>, act: &Act) -> bool
+    ensures { result ≡ spec.is_too_early version act.now }
+{
+    match version {
+        Some(day) => day < act.day,
+        None => false,
+    }
+}
+
+// The first rule that a question breaks before its text is looked at.
+fn first_rule(known: &Known, question: &Question) -> Result<Option<QueryRule>, Memory>
+    ensures { IfOk result (λ rule. rule ≡ spec.first_rule known.now question.now) }
+{
+    if question.viewpoint < known.enacted {
+        let work = question.work.copy()?;
+        return Ok(Some(QueryRule::UnknownWork(work)));
+    }
+    if known.front < question.viewpoint {
+        return Ok(Some(QueryRule::ViewpointAhead(known.front)));
+    }
+    if is_too_early(question.version, &known.act) {
+        return Ok(Some(QueryRule::NotYetEnacted(known.act.day)));
+    }
+    if question.language != known.act.language {
+        return Ok(Some(QueryRule::OtherLanguage(known.act.language)));
+    }
+    Ok(None)
+}
+
+// The day on which a question is answered.
+fn asked_day(version: Option<Day>, act: &Act) -> Day
+    ensures { result ≡ spec.asked_day version act.now }
+{
+    match version {
+        Some(day) => day,
+        None => act.day,
+    }
+}
+
+// The nodes right below the root.
+fn top(tree: &Tree) -> &[NodeId]
+    ensures nodes { All (λ id. has_node tree.now id ≡ true) result.now }
+    ensures branches { branches_of (map (branch_at tree.now) result.now) ≡ (tree_view tree.now).body }
+{
+    tree.children(tree.root())
+}
+
+// The whole text, below a root of the flag.
+fn whole(alloc: Global, on: &OnDay<'_>, tree: &Tree, flag: bool) -> Result<AnswerNodes, Memory>
+    ensures { IfOk result (λ nodes. nodes ≡ listed (all_shown on.now.known.now on.now.reading on.now.day (tree_view tree.now).numbering flag None (tree_view tree.now).body)) }
+{
+    show_all(alloc, on, tree, flag, None, top(tree))
+}
+
+// One provision alone.
+fn alone(alloc: Global, node: AnswerNode) -> Result<AnswerNodes, Memory>
+    ensures { IfOk result (λ nodes. nodes ≡ shown_view node ∷ []) }
+{
+    let mut nodes = AnswerNodes::new(alloc);
+    nodes.push(node)?;
+    Ok(nodes)
+}
+
+// The provision of an eId in the text, below a root of the flag.
+fn portion_of(
+    alloc: Global,
+    on: &OnDay<'_>,
+    tree: &Tree,
+    flag: bool,
+    eid: &str,
+) -> Result<Option<AnswerNode>, Memory>
+    ensures { IfOk result (λ found. option_map shown_view found
+        ≡ portion_among eid.now (all_shown on.now.known.now on.now.reading on.now.day (tree_view tree.now).numbering flag None (tree_view tree.now).body)) }
+{
+    find_portion(alloc, on, tree, flag, None, eid, top(tree))
+}
+
+// The provision of an eId in the text alone, or the rule that none has it.
+fn part_of(
+    alloc: Global,
+    on: &OnDay<'_>,
+    tree: &Tree,
+    flag: bool,
+    eid: &Text,
+) -> Result<AnswerNodes, AskFault>
+    ensures { Answers result (spec.found_portion eid.now (portion_among eid.now
+        (all_shown on.now.known.now on.now.reading on.now.day (tree_view tree.now).numbering flag None (tree_view tree.now).body))) }
+{
+    match portion_of(alloc, on, tree, flag, eid.as_str())? {
+        Some(node) => Ok(alone(alloc, node)?),
+        None => Err(AskFault::Query(QueryRule::UnknownPortion(eid.copy()?))),
+    }
+}
+
+// What was asked for of the text, below a root of the flag, or the rule that it is not there.
+fn asked_part(
+    alloc: Global,
+    on: &OnDay<'_>,
+    tree: &Tree,
+    flag: bool,
+    portion: &Option<Text>,
+) -> Result<AnswerNodes, AskFault>
+    ensures { Answers result (spec.asked_part portion.now
+        (all_shown on.now.known.now on.now.reading on.now.day (tree_view tree.now).numbering flag None (tree_view tree.now).body)) }
+{
+    match portion {
+        Some(eid) => part_of(alloc, on, tree, flag, eid),
+        None => Ok(whole(alloc, on, tree, flag)?),
+    }
+}
+
+// The answer to a question, from a version of the work on the day.
+fn answer_on_day(
+    alloc: Global,
+    on: &OnDay<'_>,
+    version: Version,
+    question: &Question,
+) -> Result<Answer, AskFault>
+    requires reading { on.now.reading ≡ question.now.reading }
+    requires day { on.now.day ≡ spec.asked_day question.now.version on.now.known.now.act }
+    ensures { Answers result (spec.answer_part on.now.known.now (version_view version) question.now (spec.asked_part question.now.portion
+        (spec.shown_text on.now.known.now question.now.reading (spec.asked_day question.now.version on.now.known.now.act) (version_view version)))) }
+{
+    let bears = on.root_flag(alloc)?;
+    let nodes = asked_part(alloc, on, &version.tree, bears, &question.portion)?;
+    let question = question.copy()?;
+    Ok(Answer {
+        question,
+        bears,
+        nodes,
+        applied: version.applied,
+        unapplied: version.unapplied,
+    })
+}
+
+// The answer to a question that breaks no rule before its text is looked at.
+fn answer_from(
+    alloc: Global,
+    known: &Known,
+    version: Version,
+    question: &Question,
+) -> Result<Answer, AskFault>
+    ensures { Answers result (spec.answer_part known.now (version_view version) question.now (spec.asked_part question.now.portion
+        (spec.shown_text known.now question.now.reading (spec.asked_day question.now.version known.now.act) (version_view version)))) }
+{
+    let day = asked_day(question.version, &known.act);
+    let on = OnDay::new(alloc, known, question.reading, day)?;
+    answer_on_day(alloc, &on, version, question)
+}
+
+/// The answer to a question, from the version that it asks for, or the first rule that it breaks.
+#[tactic(auto, unfolding(law_register::specs::Answers::answer_on))]
+pub fn answer(
+    alloc: Global,
+    known: &Known,
+    version: Version,
+    question: &Question,
+) -> Result<Answer, AskFault>
+    requires { version_view version ≡ replay_on known.now question.now.reading (spec.asked_day question.now.version known.now.act) }
+    ensures { Answers result (spec.answer_on known.now question.now) }
+{
+    match first_rule(known, question)? {
+        Some(rule) => Err(AskFault::Query(rule)),
+        None => answer_from(alloc, known, version, question),
+    }
+}
+
+// The flag of a wId, if the text has it.
+fn flag_of_wid(
+    alloc: Global,
+    on: &OnDay<'_>,
+    tree: &Tree,
+    wid: &str,
+) -> Result<Option<bool>, Memory>
+    ensures { IfOk result (λ found. found ≡ flags.flag on.now.known.now on.now.reading on.now.day (tree_view tree.now).body wid.now) }
+{
+    let flag = on.root_flag(alloc)?;
+    if wid == "body" {
+        return Ok(Some(flag));
+    }
+    find_flag(on, tree, flag, wid, top(tree))
+}
+
+// The flag of a node.
+fn flag_of_node(alloc: Global, on: &OnDay<'_>, tree: &Tree, node: NodeId) -> Result<bool, Memory>
+    requires { has_node tree.now node ≡ true }
+    ensures { IfOk result (λ found. flags.flag on.now.known.now on.now.reading on.now.day (tree_view tree.now).body (provision_at tree.now node).wid ≡ Some found) }
+{
+    let wid = tree.provision(node).wid;
+    match flag_of_wid(alloc, on, tree, wid.as_str())? {
+        Some(found) => Ok(found),
+        None => unreachable!(),
+    }
+}
+
+/// Whether a node of a tree bears on a day.
+pub fn flag_at(
+    alloc: Global,
+    known: &Known,
+    reading: Reading,
+    day: Day,
+    tree: &Tree,
+    node: NodeId,
+) -> Result<bool, Memory>
+    requires { has_node tree.now node ≡ true }
+    ensures { IfOk result (λ found. flags.flag known.now reading day (tree_view tree.now).body (provision_at tree.now node).wid ≡ Some found) }
+{
+    let on = OnDay::new(alloc, known, reading, day)?;
+    flag_of_node(alloc, &on, tree, node)
+}

@@ -1,0 +1,15 @@
+//! Replay from scratch: the text of an act on a day is always made from the act as enacted.
+#![tactic(auto)]
+
+mod answering;
+mod breakpoints;
+mod counted;
+mod from_enacted;
+mod on_day;
+mod order;
+mod replaying;
+mod showing;
+#[cfg(test)]
+mod tests;
+
+pub use from_enacted::FromEnacted;
