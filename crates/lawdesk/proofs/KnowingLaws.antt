@@ -1,23 +1,19 @@
 -- What a dossier makes known can be replayed, if its commands break no rule.
-use Rattle.std.proofs.Common.{◌≡◌, ℕ, ◌+◌, ◌<◌, ◌≤◌, Bool, true, false, ◌||◌, List, [], ◌∷◌, ◌++◌, length, map, zero, suc, Option, Some, None, refl, arith, get_or, subst, sym}
+use Rattle.std.proofs.Common.{◌≡◌, ℕ, ◌+◌, ◌<◌, ◌≤◌, false, List, [], ◌∷◌, ◌++◌, length, map, zero, suc, None, refl, arith, get_or, subst, sym}
 use Rattle.std.specs.List.{All, list_any}
 use Rattle.std.proofs.lemmas.Bool.Decides.{nat_tests}
-use Rattle.act_tree.specs.Branches.{branches_of}
-use Rattle.act_tree.specs.Faults.{first_fault}
-use Rattle.desk_base.specs.declared.id.Id.{Id}
 use Rattle.akn_json.specs.declared.dossier.Dossier.{Dossier}
 use Rattle.law_register.specs.declared.known.KnownMod.{KnownMod}
 use Rattle.law_register.specs.declared.modification.Modification.{Modification}
 use Rattle.law_register.specs.Counted.{is_same_id}
 use Rattle.law_register.specs.Soundness.{IsSound, IsSoundBody, id_twice}
-use Rattle.lawdesk.specs.Knowing.{id_of, known_from, known_of}
-use Rattle.lawdesk.specs.Rules.{rule_or, tree_rule, first_fault_of, act_limits_rule, enact_rule, payload_rule, record_limits_rule, record_rule, records_rule, dossier_rule}
+use Rattle.lawdesk.specs.Knowing.{id_of, known_from}
+use Rattle.lawdesk.specs.Rules.{tree_rule, first_fault_of, act_limits_rule, enact_rule, payload_rule, record_limits_rule, record_rule, records_rule, dossier_rule}
 use Rattle.lawdesk.proofs.RuleLaws.{first_kept, second_kept, few_ids, no_fault, is_sound_body}
 
 -- the modifications of a dossier whose commands break no rule are few
 pub few_recorded : (dossier : Dossier) → dossier_rule dossier ≡ None → length dossier.mods ≤ 512
 few_recorded dossier h = few_ids dossier.mods (second_kept (enact_rule dossier.act) (records_rule [] dossier.mods) h)
-
 
 -- no law entry behind another has its number
 is_later : (law later : ℕ) → law < later → is_same_id (id_of law) (id_of later) ≡ false

@@ -1,5 +1,5 @@
 -- Modifications that break no rule are no more than a work may have, and may be applied.
-use Rattle.std.proofs.Common.{◌≡◌, ℕ, ◌+◌, ◌<◌, ◌≤◌, Bool, true, false, List, [], ◌∷◌, ◌++◌, length, zero, suc, Option, Some, None, refl, arith, nat_lt}
+use Rattle.std.proofs.Common.{◌≡◌, ℕ, ◌+◌, ◌<◌, ◌≤◌, Bool, true, false, List, [], ◌∷◌, ◌++◌, length, Option, Some, None, refl, arith, nat_lt}
 use Rattle.std.proofs.lemmas.Bool.Decides.{nat_tests}
 use Rattle.std.proofs.lemmas.List.{length-append}
 use Rattle.act_tree.specs.declared.build_fault.BuildFault.{BuildFault}
@@ -53,7 +53,6 @@ few_ids mods h = let few = few_mods [] mods h (omega arith) in omega (arith, few
 pub no_fault : (fault : Option BuildFault) → tree_rule fault ≡ None → fault ≡ None
 no_fault None h = refl
 no_fault (Some fault) h = cc
-
 
 -- an edit that brings such nodes is sound
 is_sound : (edit : TextualMod) → tree_rule (payload_fault edit) ≡ None → edits.IsSound edit

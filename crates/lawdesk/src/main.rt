@@ -24,7 +24,8 @@ use std::process::ExitCode;
 use std::sync::ledger::{Blank, Ledger};
 use std::thread::Threads;
 
-const USAGE: &str = "usage: lawdesk text DATE [force|efficacy] (DATE as 2011-01-01; the dossier on standard input)";
+const USAGE: &str =
+    "usage: lawdesk text DATE [force|efficacy] (DATE as 2011-01-01; the dossier on standard input)";
 
 // The words of the command line, without the program's name.
 fn words(rt: &HostRuntime) -> io::Result<Vec<String>> {

@@ -166,7 +166,10 @@ fn edit_fits(edit: &TextualMod) -> bool
         }
         TextualMod::Renumber { pairs } => pairs_fit(pairs),
         TextualMod::Split {
-            wid, at, heading, ..
+            wid,
+            at,
+            heading,
+            ..
         } => is_wid(wid.as_str()) && split_at_fits(at) && text_fits(heading),
         TextualMod::Join {
             wid,
