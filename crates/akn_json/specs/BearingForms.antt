@@ -1,6 +1,6 @@
 -- The forms of force and of efficacy modifications. The word for the kind chooses the keys and is judged before them; the values
 -- follow in the order kind, source, destination, the day from which the modification is counted, and its date or its days.
-use Rattle.std.specs.Prelude.{ℕ, ◌||◌, List, [], ◌∷◌, Option, Some, None, Ok}
+use Rattle.std.specs.Prelude.{ℕ, ◌||◌, [], ◌∷◌, Option, Some, None, Ok}
 use Rattle.serde_json.specs.Data.{Data}
 use Rattle.serde_json.specs.Find.{get}
 use Rattle.bearing_mods.specs.declared.force.ForceEffect.{ForceEffect}

@@ -11,7 +11,7 @@ use Rattle.akn_json.specs.Fields.{members_in, field_in}
 use Rattle.akn_json.specs.ActForm.{act_in}
 use Rattle.akn_json.specs.ModsForm.{mods_in}
 
--- the most bytes of a dossier
+-- the most bytes of a dossier, and of a command
 abbrev pub most_bytes : ℕ
 most_bytes = 8388608
 
@@ -29,9 +29,14 @@ dossier_in d = do
 abbrev pub json_of : List ℕ → Option Data
 json_of bytes = if is_utf8 bytes then read bytes else None
 
--- the dossier that bytes are, or their first fault: their length is judged before all else
+-- the JSON value of bytes that are to be of a form, or their first fault: their length is judged before all else
+abbrev pub value_of : List ℕ → Read Data
+value_of bytes = do
+  unless_broken (broken TooLong) (nat_le (length bytes) most_bytes)
+  or_fault (broken NotJson) (json_of bytes)
+
+-- the dossier that bytes are, or their first fault
 unfoldable pub dossier_of : List ℕ → Read Dossier
 dossier_of bytes = do
-  unless_broken (broken TooLong) (nat_le (length bytes) most_bytes)
-  d ← or_fault (broken NotJson) (json_of bytes)
+  d ← value_of bytes
   dossier_in d

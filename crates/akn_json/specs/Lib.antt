@@ -19,3 +19,5 @@ pub mod BearingKinds
 pub mod BearingForms
 pub mod ModsForm
 pub mod DossierForm
+pub mod CommandKinds
+pub mod CommandForms

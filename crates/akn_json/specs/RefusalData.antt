@@ -11,7 +11,11 @@ use Rattle.law_register.specs.declared.rules.Rule.{Rule}
 use Rattle.akn_json.specs.declared.fault.FormFault.{FormFault}
 use Rattle.law_register.specs.declared.rules.QueryRule.{QueryRule}
 use Rattle.law_register.specs.declared.rules.QueryRule.TheVariants.{UnknownWork, ViewpointAhead, NotYetEnacted, OtherLanguage, UnknownPortion}
-use Rattle.law_register.specs.declared.rules.Rule.TheVariants.{BadTree, BadModification, BadPeriod, UnknownModification, WrongKind, WorkFull}
+use Rattle.law_register.specs.declared.rules.Rule.TheVariants as rules
+
+-- a number
+abbrev pub number_data : ℕ → Data
+number_data n = number (unsigned n)
 
 -- bytes that are not of a form: the rule that they break, by number and name, and the place
 abbrev pub form_fault_data : FormFault → Data
@@ -40,16 +44,26 @@ query_data r =
 abbrev pub item_text : ℕ → ℕ → List ℕ
 item_text law item = decimal law ++ 46 ∷ decimal item
 
--- the value that the refusal of a command shows: of a text that is not well-formed the number of its first fault, of a
--- modification or a period the number of the item, of an unknown id and of one of another kind the id, of a full work the most
--- ids of one
+-- the value that the refusal of a command shows: the IRI of a work, an id, of a text that is not well-formed the number of its
+-- first fault, and else the number that the rule names
 abbrev pub rule_kept_data : Rule → Data
-rule_kept_data (BadTree fault) = number (unsigned (fault_number fault))
-rule_kept_data (BadModification item) = number (unsigned item)
-rule_kept_data (BadPeriod item) = number (unsigned item)
-rule_kept_data (UnknownModification law item) = string (item_text law item)
-rule_kept_data (WrongKind id) = string (id_text id)
-rule_kept_data (WorkFull most) = number (unsigned most)
+rule_kept_data (rules.NumberReused n) = number_data n
+rule_kept_data (rules.DraftersFull most) = number_data most
+rule_kept_data (rules.UnknownWork work) = string work
+rule_kept_data (rules.WorkExists n) = number_data n
+rule_kept_data (rules.BadTree fault) = number_data (fault_number fault)
+rule_kept_data (rules.BadModification item) = number_data item
+rule_kept_data (rules.BadPeriod item) = number_data item
+rule_kept_data (rules.UnknownModification law item) = string (item_text law item)
+rule_kept_data (rules.AlreadyWithdrawn n) = number_data n
+rule_kept_data (rules.NotWithdrawn id) = string (id_text id)
+rule_kept_data (rules.WrongKind id) = string (id_text id)
+rule_kept_data (rules.Stale n) = number_data n
+rule_kept_data (rules.EmptyDraft work) = string work
+rule_kept_data (rules.DraftFull most) = number_data most
+rule_kept_data (rules.WorkFull most) = number_data most
+rule_kept_data (rules.LawFull most) = number_data most
+rule_kept_data (rules.RegisterFull most) = number_data most
 
 -- a command that is refused: the value that the refusal shows, and the rule by name and number
 abbrev pub rule_data : Rule → Data

@@ -13,7 +13,7 @@ pub enum FormRule {
     NotJson = 1,
     /// A value is of another JSON kind than stated, or an object has other keys than stated.
     WrongShape = 2,
-    /// An IRI, a language or an id breaks its rule.
+    /// An IRI, a language, the name of a drafter or an id breaks its rule.
     BadName = 3,
     /// A text that should be a day is none.
     BadDay = 4,
@@ -21,7 +21,7 @@ pub enum FormRule {
     BadElement = 5,
     /// A number is no whole number in its range.
     BadNumber = 6,
-    /// A type is not one of those listed.
+    /// A command, a type or a position is not one of those listed.
     UnknownWord = 7,
     /// The day of an act does not agree with its IRI.
     DateDiffers = 8,
@@ -60,7 +60,7 @@ impl FormRule {
 pub struct FormFault {
     /// The rule.
     pub rule: FormRule,
-    /// The place: k inside the k-th modification, from 1, and 0 elsewhere.
+    /// The place: k inside the k-th modification, from 1, in that of a command alone 1, and 0 elsewhere.
     pub place: usize,
 }
 

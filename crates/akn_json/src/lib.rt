@@ -1,12 +1,14 @@
-//! The JSON forms of the desk: a dossier is read, and an answer or a refusal is printed.
+//! The JSON forms of the desk: a dossier or a command is read, and an answer or a refusal is printed.
 #![tactic(auto)]
 
+mod asked;
 mod dossier;
 mod fault;
 mod printing;
 mod reading;
 
+pub use asked::Asked;
 pub use dossier::Dossier;
 pub use fault::{FormFault, FormRule, ReadFail};
 pub use printing::{answer_value, put_answer, put_form_fault, put_query_rule, put_rule};
-pub use reading::{MAX_DOSSIER_BYTES, read_dossier};
+pub use reading::{MAX_DOSSIER_BYTES, read_command, read_dossier};

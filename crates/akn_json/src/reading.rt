@@ -1,10 +1,11 @@
-//! A dossier is read from its bytes: a clause says which value it is, or which fault comes first.
+//! A dossier or a command is read from its bytes: a clause says which value it is, or which fault comes first.
 
 ghost use Rattle.std.specs.Prelude.{◌≤◌, IfOk};
 ghost use Rattle.serde_json.specs.Data.{depth};
 ghost use Rattle.serde_json.specs.Read.{max_depth};
 ghost use Rattle.serde_json.specs.View.{view};
 ghost use Rattle.akn_json.specs.Reads.{Gives, broken, or_fault};
+ghost use Rattle.akn_json.specs.CommandForms.{asked_of};
 ghost use Rattle.akn_json.specs.DossierForm as spec;
 ghost use Rattle.akn_json.specs.DossierForm.{dossier_of};
 ghost use Rattle.akn_json.specs.declared.fault.FormRule.TheVariants.{NotJson};
@@ -12,6 +13,8 @@ ghost use Rattle.akn_json.specs.declared.fault.FormRule.TheVariants.{NotJson};
 mod act_form;
 mod bearing_form;
 mod bearing_kind;
+mod command_form;
+mod command_kind;
 mod edit_form;
 mod edit_kind;
 mod faults;
@@ -30,14 +33,14 @@ mod tests;
 mod word;
 mod works;
 
-use crate::{Dossier, ReadFail};
+use crate::{Asked, Dossier, ReadFail};
 use faults::{NOT_JSON, TOO_LONG};
 use fields::{field, members};
 use key::Key;
 use serde_json::{Category, Value};
 use std::alloc::Global;
 
-/// The most bytes of a dossier. Longer ones are not read, whatever they say.
+/// The most bytes of a dossier, and of a command. Longer ones are not read, whatever they say.
 pub const MAX_DOSSIER_BYTES: usize = 8_388_608;
 
 // The JSON value that bytes are. It nests at most 127 deep, and so the calls over it do.
@@ -52,6 +55,17 @@ fn json_value(alloc: Global, bytes: &[u8]) -> Result<Value, ReadFail>
             _ => Err(NOT_JSON),
         },
     }
+}
+
+// The JSON value of bytes that are to be of a form. Their length is judged before all else.
+fn value_of(alloc: Global, bytes: &[u8]) -> Result<Value, ReadFail>
+    ensures value { Gives view result (spec.value_of bytes.now) }
+    ensures nests { IfOk result (λ v. depth (view v) ≤ max_depth) }
+{
+    if bytes.len() > MAX_DOSSIER_BYTES {
+        return Err(TOO_LONG);
+    }
+    json_value(alloc, bytes)
 }
 
 // A dossier, from its JSON value.
@@ -74,9 +88,18 @@ fn dossier(alloc: Global, value: &Value) -> Result<Dossier, ReadFail>
 pub fn read_dossier(alloc: Global, bytes: &[u8]) -> Result<Dossier, ReadFail>
     ensures { Gives (λ d. d) result (dossier_of bytes.now) }
 {
-    if bytes.len() > MAX_DOSSIER_BYTES {
-        return Err(TOO_LONG);
-    }
-    let value = json_value(alloc, bytes)?;
+    let value = value_of(alloc, bytes)?;
     dossier(alloc, &value)
+}
+
+/// The command that bytes ask for, with its drafter and its number.
+///
+/// The fault is the first one in the reading order, as of a dossier; the word for the kind of command is judged
+/// before the keys, which it chooses.
+#[tactic(auto, unfolding(crate::specs::CommandForms::asked_of))]
+pub fn read_command(alloc: Global, bytes: &[u8]) -> Result<Asked, ReadFail>
+    ensures { Gives (λ a. a) result (asked_of bytes.now) }
+{
+    let value = value_of(alloc, bytes)?;
+    command_form::asked(alloc, &value)
 }

@@ -11,3 +11,16 @@ pub mod Answers
 pub mod Breakpoints
 pub mod Versions
 pub mod Soundness
+pub mod Drafters
+pub mod Bounds
+pub mod Same
+pub mod Sizes
+pub mod Drafts
+pub mod LawList
+pub mod KnownIds
+pub mod Verdicts
+pub mod Indexes
+pub mod Noting
+pub mod Listing
+pub mod Registers
+pub mod Asking

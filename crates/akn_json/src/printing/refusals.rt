@@ -86,27 +86,37 @@ fn spelled_item(alloc: Global, law: u32, item: u32) -> Result<String, Memory>
 }
 
 // The value that a refusal of a command shows.
-fn put_rule_kept(out: &mut Writer, alloc: Global, rule: Rule) -> Result<(), Memory>
+fn put_rule_kept(out: &mut Writer, alloc: Global, rule: &Rule) -> Result<(), Memory>
     ensures tokens { OnOk result (out.new.tokens
-        ≡ out.old.tokens ++ json_tokens (outline (rule_kept_data rule))) }
+        ≡ out.old.tokens ++ json_tokens (outline (rule_kept_data rule.now))) }
     ensures before { OnOk result (out.new.before ≡ out.old.before) }
 {
     match rule {
+        Rule::NumberReused(number)
+        | Rule::WorkExists(number)
+        | Rule::AlreadyWithdrawn(number)
+        | Rule::Stale(number)
+        | Rule::LawFull(number)
+        | Rule::RegisterFull(number) => out.u64(u64::from(*number))?,
+        Rule::DraftersFull(number)
+        | Rule::BadModification(number)
+        | Rule::BadPeriod(number)
+        | Rule::DraftFull(number)
+        | Rule::WorkFull(number) => out.u64(u64::from(*number))?,
+        Rule::UnknownWork(work) | Rule::EmptyDraft(work) => out.string(work.as_str())?,
         Rule::BadTree(fault) => out.u64(u64::from(fault.number()))?,
-        Rule::BadModification(item) | Rule::BadPeriod(item) => out.u64(u64::from(item))?,
         Rule::UnknownModification { law, item } => {
-            out.string(spelled_item(alloc, law, item)?.as_str())?
+            out.string(spelled_item(alloc, *law, *item)?.as_str())?
         }
-        Rule::WrongKind(id) => out.string(id.spelled(alloc)?.as_str())?,
-        Rule::WorkFull(most) => out.u64(u64::from(most))?,
+        Rule::NotWithdrawn(id) | Rule::WrongKind(id) => out.string(id.spelled(alloc)?.as_str())?,
     }
     Ok(())
 }
 
 // A refusal of a command.
-fn put_command(out: &mut Writer, alloc: Global, rule: Rule) -> Result<(), Memory>
+fn put_command(out: &mut Writer, alloc: Global, rule: &Rule) -> Result<(), Memory>
     ensures tokens { OnOk result (out.new.tokens
-        ≡ out.old.tokens ++ json_tokens (outline (rule_data rule))) }
+        ≡ out.old.tokens ++ json_tokens (outline (rule_data rule.now))) }
     ensures before { OnOk result (out.new.before ≡ out.old.before) }
 {
     out.begin_object()?;
@@ -124,6 +134,6 @@ pub fn put_rule(alloc: Global, rule: Rule) -> Result<Vec<u8>, Memory>
     ensures { IfOk result (λ bytes. bytes.items ≡ compact_text (rule_data rule)) }
 {
     let mut out = Writer::new(Vec::new(alloc));
-    put_command(&mut out, alloc, rule)?;
+    put_command(&mut out, alloc, &rule)?;
     Ok(out.into_inner())
 }

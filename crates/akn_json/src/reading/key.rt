@@ -43,6 +43,13 @@ pub(super) enum Key {
     Date,
     Days,
     Modification,
+    Drafter,
+    Request,
+    Command,
+    Work,
+    Id,
+    Item,
+    Seen,
 }
 
 impl Key {
@@ -88,6 +95,13 @@ impl Key {
             Key::Date => "date",
             Key::Days => "days",
             Key::Modification => "modification",
+            Key::Drafter => "drafter",
+            Key::Request => "request",
+            Key::Command => "command",
+            Key::Work => "work",
+            Key::Id => "id",
+            Key::Item => "item",
+            Key::Seen => "seen",
         }
     }
 }

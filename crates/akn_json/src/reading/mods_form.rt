@@ -75,8 +75,12 @@ fn modification(alloc: Global, value: &Value) -> Result<Modification, ReadFail>
     }
 }
 
-// The modification at a place, where its fault then is.
-fn modification_at(alloc: Global, place: usize, value: &Value) -> Result<Modification, ReadFail>
+/// The modification at a place, where its fault then is.
+pub(super) fn modification_at(
+    alloc: Global,
+    place: usize,
+    value: &Value,
+) -> Result<Modification, ReadFail>
     ensures { Gives (λ m. m) result (inside place (spec.modification_in (view value.now))) }
 {
     match modification(alloc, value) {

@@ -1,10 +1,11 @@
-//! A change of force and one of efficacy are read from a dossier that was written by hand.
+//! Changes of force and of efficacy, and a command, are read from texts that were written by hand.
 
-use crate::{Dossier, FormFault, FormRule, ReadFail, read_dossier};
+use crate::{Asked, Dossier, FormFault, FormRule, ReadFail, read_command, read_dossier};
 use bearing_mods::{EfficacyEffect, ForceEffect};
 use desk_base::{Day, Id, Text};
-use law_register::{Destination, Modification};
+use law_register::{Command, Destination, Modification};
 use std::alloc::Global;
+use std::process::Abort;
 use std::test::Fail;
 
 // An act with a change of force of a modification, and one of the efficacy of the act.
@@ -94,4 +95,62 @@ fn an_id_with_a_leading_zero_is_no_id(rt: HostRuntime) -> Result<(), Fail> {
     let refused = dossier_on(rt.alloc(), "05.1").err();
     assert_eq!(rt; refused, Some(ReadFail::Form(fault)));
     Ok(())
+}
+
+// A correction by the drafter `ada`, up to the number that it has, and what stands behind that.
+const ASKED: &str = r#"{"drafter":"ada","request":"#;
+
+const CORRECTION: &str = concat!(
+    r#","command":"correct","id":"2.1","modification":{"forceMod":{"type":"reEnactment","#,
+    r#""source":{"href":"/akn/zz/act/2011/2","place":3},"destination":{"wId":"body"},"#,
+    r#""on":"2011-01-01","date":"#,
+);
+
+// What is read of that correction, with this number and this date.
+fn asked_with(alloc: Global, request: &str, date: &str) -> Result<Asked, ReadFail> {
+    let text = format!(in alloc; r#"{ASKED}{request}{CORRECTION}"{date}"}}}}}}"#)?;
+    read_command(alloc, text.as_bytes())
+}
+
+// The id that is corrected, if a command is a correction.
+fn corrected(command: Command) -> Option<Id> {
+    match command {
+        Command::Correct { id, .. } => Some(id),
+        _ => None,
+    }
+}
+
+#[test]
+fn a_command_is_read(rt: HostRuntime) -> Result<(), Fail> {
+    let asked = asked_with(rt.alloc(), "18446744073709551615", "2012-01-01")?;
+    assert_eq!(rt; asked.drafter.as_str(), "ada");
+    assert_eq!(rt; asked.request, u64::MAX);
+    assert_eq!(rt; corrected(asked.command), Some(Id { law: 2, item: 1 }));
+    Ok(())
+}
+
+// The reading of that correction ends in this fault.
+fn expect_fault<R: AllocGlobal + Abort>(
+    rt: &R,
+    request: &str,
+    date: &str,
+    fault: FormFault,
+) -> Result<(), Fail> {
+    let refused = asked_with(rt.alloc(), request, date).err();
+    assert_eq!(rt; refused, Some(ReadFail::Form(fault)));
+    Ok(())
+}
+
+#[test]
+fn a_fault_of_a_command_has_its_place(rt: HostRuntime) -> Result<(), Fail> {
+    let within = FormFault {
+        rule: FormRule::BadDay,
+        place: 1,
+    };
+    expect_fault(&rt, "1", "2011-02-29", within)?;
+    let outside = FormFault {
+        rule: FormRule::BadNumber,
+        place: 0,
+    };
+    expect_fault(&rt, "18446744073709551616", "2012-01-01", outside)
 }

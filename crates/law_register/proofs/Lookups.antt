@@ -1,0 +1,126 @@
+-- What look-ups in the indexes tell, by what the marks stand for.
+use Rattle.std.proofs.Common.{◌≡◌, ◌∙◌, sym, ap, ℕ, ◌+◌, ◌==◌, Bool, true, false, cond, ◌&&◌, ◌||◌, not, List, [], ◌∷◌, ◌++◌, length, filter, Option, Some, None, option_map, slice_get, suc, zero, refl, arith}
+use Rattle.std.specs.List.{list_any}
+use Rattle.std.specs.Str.{bytes_eq}
+use Rattle.law_register.specs.declared.act.Act.{Act}
+use Rattle.law_register.specs.declared.draft.DraftItem.{DraftItem}
+use Rattle.law_register.specs.declared.entry.Entry.{Entry}
+use Rattle.law_register.specs.declared.indexes.EnactedMark.{EnactedMark}
+use Rattle.law_register.specs.declared.indexes.IdMark.{IdMark}
+use Rattle.law_register.specs.declared.indexes.ItemMark.{ItemMark}
+use Rattle.law_register.specs.declared.indexes.RequestMark.{RequestMark}
+use Rattle.law_register.specs.declared.indexes.WorkMark.{WorkMark}
+use Rattle.law_register.specs.declared.modification.Modification.{Modification}
+use Rattle.law_register.specs.declared.verdict.Reply.{Reply}
+use Rattle.law_register.specs.Drafts.{items_of}
+use Rattle.law_register.specs.Indexes.{told_at, work_named, act_of, body_of, marks_work, is_named, RequestStands, ItemsStand, EnactedStands, IdStands, enacted_in}
+use Rattle.law_register.specs.KnownIds.{IdFacts}
+use Rattle.law_register.specs.Verdicts.{again, has_item, kind_of}
+use Rattle.law_register.specs.declared.command.Command.{Command}
+
+-- a value that a mark leads to, if there is a mark
+abbrev pub led : {M X : Type 0} → (M → Option X) → Option M → Option X
+led to None = None
+led to (Some m) = to m
+
+-- a draft's marks are as many as its items, with their numbers and works
+pub items_length : (es : List Entry) (ms : List ItemMark) (items : List DraftItem) → ItemsStand es ms items → length ms ≡ length items
+items_length es [] [] h = refl
+items_length es (m ∷ ms) (i ∷ items) h = ap suc (items_length es ms items h.3)
+items_length es [] (i ∷ items) h = absurd h
+items_length es (m ∷ ms) [] h = absurd h
+
+pub items_any : (item : ℕ) (es : List Entry) (ms : List ItemMark) (items : List DraftItem) → ItemsStand es ms items → list_any (λ m. m.item == item) ms ≡ has_item item items
+items_any item es [] [] h = refl
+items_any item es (m ∷ ms) (i ∷ items) h =
+    ap (λ n. (n == item) || list_any (λ k. k.item == item) ms) h.0 ∙ ap (λ b. (i.item == item) || b) (items_any item es ms items h.3)
+items_any item es [] (i ∷ items) h = absurd h
+items_any item es (m ∷ ms) [] h = absurd h
+
+pub mark_works : (w : List ℕ) (es : List Entry) (m : ItemMark) (i : DraftItem) → told_at es m.entry work_named ≡ Some i.work → marks_work es w m ≡ bytes_eq i.work w
+mark_works w es m i h = ap (is_named w) h
+
+-- the marks that pass a test stand for the items that pass the same
+pub items_filter : (p : ItemMark → Bool) (q : DraftItem → Bool) (es : List Entry) (ms : List ItemMark) (items : List DraftItem)
+    → ((m : ItemMark) (i : DraftItem) → m.item ≡ i.item → told_at es m.entry work_named ≡ Some i.work → p m ≡ q i)
+    → ItemsStand es ms items → ItemsStand es (filter p ms) (filter q items)
+items_filter p q es [] [] agree h = h
+items_filter p q es (m ∷ ms) (i ∷ items) agree h = by (p m) (q i) (agree m i h.0 h.1) (items_filter p q es ms items agree h.3)
+  where
+    by : (b c : Bool) → b ≡ c → ItemsStand es (filter p ms) (filter q items) → ItemsStand es (cond b (m ∷ filter p ms) (filter p ms)) (cond c (i ∷ filter q items) (filter q items))
+    by true true e rest = (h.0, h.1, h.2, rest)
+    by false false e rest = rest
+    by true false e rest = absurd (let no : true ≡ false = e in cc)
+    by false true e rest = absurd (let no : false ≡ true = e in cc)
+items_filter p q es [] (i ∷ items) agree h = absurd h
+items_filter p q es (m ∷ ms) [] agree h = absurd h
+
+pub items_filed : (w : List ℕ) (es : List Entry) (ms : List ItemMark) (items : List DraftItem) → ItemsStand es ms items
+    → ItemsStand es (filter (marks_work es w) ms) (items_of w items)
+items_filed w es ms items h = items_filter (marks_work es w) (λ i. bytes_eq i.work w) es ms items (λ m i number work. mark_works w es m i work) h
+
+pub items_counted : (w : List ℕ) (es : List Entry) (ms : List ItemMark) (items : List DraftItem) → ItemsStand es ms items
+    → length (filter (marks_work es w) ms) ≡ length (items_of w items)
+items_counted w es ms items h = items_length es (filter (marks_work es w) ms) (items_of w items) (items_filed w es ms items h)
+
+-- the number of the law entry that enacts
+pub enacted_number : (es : List Entry) (m : Option EnactedMark) (found : Option (ℕ × Act)) → EnactedStands es m found
+    → option_map (λ (k : EnactedMark). k.number) m ≡ option_map (λ (f : ℕ × Act). f.0) found
+enacted_number es None None h = refl
+enacted_number es (Some m) (Some found) h = ap Some h.0
+enacted_number es None (Some found) h = absurd h
+enacted_number es (Some m) None h = absurd h
+
+-- what is known of an id
+pub id_work : (es : List Entry) (m : Option IdMark) (f : Option IdFacts) → IdStands es m f
+    → led (λ k. told_at es k.recorded work_named) m ≡ option_map (λ (x : IdFacts). x.work) f
+id_work es None None h = refl
+id_work es (Some m) (Some f) h = h.0
+id_work es None (Some f) h = absurd h
+id_work es (Some m) None h = absurd h
+
+pub id_body : (es : List Entry) (m : Option IdMark) (f : Option IdFacts) → IdStands es m f
+    → led (λ k. told_at es k.entry (body_of k.place)) m ≡ option_map (λ (x : IdFacts). x.body) f
+id_body es None None h = refl
+id_body es (Some m) (Some f) h = h.1
+id_body es None (Some f) h = absurd h
+id_body es (Some m) None h = absurd h
+
+pub id_withdrawn : (es : List Entry) (m : Option IdMark) (f : Option IdFacts) → IdStands es m f
+    → option_map (λ (k : IdMark). k.withdrawn) m ≡ option_map (λ (x : IdFacts). x.withdrawn) f
+id_withdrawn es None None h = refl
+id_withdrawn es (Some m) (Some f) h = ap Some h.2
+id_withdrawn es None (Some f) h = absurd h
+id_withdrawn es (Some m) None h = absurd h
+
+-- a request's entry and its reply
+pub request_entry : (es : List Entry) (m : Option RequestMark) (found : Option (Entry × Reply)) → RequestStands es m found
+    → led (λ k. slice_get es k.entry) m ≡ option_map (λ (p : Entry × Reply). p.0) found
+request_entry es None None h = refl
+request_entry es (Some m) (Some found) h = h.0
+request_entry es None (Some found) h = absurd h
+request_entry es (Some m) None h = absurd h
+
+pub request_reply : (es : List Entry) (m : Option RequestMark) (found : Option (Entry × Reply)) → RequestStands es m found
+    → option_map (λ (k : RequestMark). k.reply) m ≡ option_map (λ (p : Entry × Reply). p.1) found
+request_reply es None None h = refl
+request_reply es (Some m) (Some found) h = ap Some h.1
+request_reply es None (Some found) h = absurd h
+request_reply es (Some m) None h = absurd h
+
+-- what is said again, by the entry and the reply
+pub found_again : (c : Command) (found : Option (Entry × Reply)) (e : Entry) (r : Reply)
+    → Some e ≡ option_map (λ (p : Entry × Reply). p.0) found → Some r ≡ option_map (λ (p : Entry × Reply). p.1) found
+    → Some (again c (e, r)) ≡ option_map (λ p. again c p) found
+found_again c None e r is also = absurd (let no : Some e ≡ None = is in cc)
+found_again c (Some p) e r is also =
+    let entry : e ≡ p.0 = cc in
+    let reply : r ≡ p.1 = cc in
+    ap (λ x. Some (again c (x, r))) entry ∙ ap (λ x. Some (again c (p.0, x))) reply
+
+-- the act of a work, by its mark
+pub enacted_told : (es : List Entry) (m : EnactedMark) (found : Option (ℕ × Act)) → EnactedStands es (Some m) found
+    → option_map (λ (a : Act). (m.number, a)) (told_at es m.entry act_of) ≡ found
+enacted_told es m None h = absurd h
+enacted_told es m (Some found) h =
+    ap (option_map (λ (a : Act). (m.number, a))) h.1 ∙ ap (λ n. Some (n, found.1)) h.0

@@ -1,0 +1,12 @@
+use Rattle.std.proofs.Common.{◌≡◌, ◌≤◌, ap, subst, List, length}
+use Rattle.law_register.specs.declared.entry.Entry.{Entry}
+use Rattle.law_register.specs.KnownIds.{ids_of}
+use Rattle.law_register.specs.LawList.{laws, front, law_numbers, first_numbers}
+use Rattle.law_register.specs.Registers.{Contents}
+use Rattle.law_register.proofs.Once.{Once, legal_once}
+use Rattle.law_register.proofs.laws.requests_are_once.Goals as goal
+
+pub returns : goal.returns
+returns c =
+    let P : List Entry → Type 0 = λ es. Once es in
+    subst P (ap (λ (s : Contents). s.entries) c.register.view_is) (legal_once c.register.inside.entries.items c.register.invariant.legal)

@@ -1,0 +1,37 @@
+//! What holds of commands and of registers. Each law is a function that does nothing, whose clause is the law.
+
+ghost use Rattle.std.specs.Prelude.{◌≡◌, ◌≤◌, ◌↔◌, ℕ, true, length, slice_get, Some};
+ghost use Rattle.law_register.specs.declared.entry.Entry.{Entry};
+ghost use Rattle.law_register.specs.KnownIds.{ids_of};
+ghost use Rattle.law_register.specs.LawList.{laws, front, law_numbers, first_numbers};
+ghost use Rattle.law_register.specs.Same.{same_command};
+
+use crate::{Command, Register};
+use frbr_names::WorkName;
+
+/// Commands are the same exactly where all their values are equal.
+pub fn same_commands_are_equal(a: &Command, b: &Command)
+    ensures { (same_command a.now b.now ≡ true) ↔ (a.now ≡ b.now) }
+{}
+
+/// Of each request of a drafter a register has one entry at most.
+pub fn requests_are_once(register: &Register)
+    ensures { (i j : ℕ) (a b : Entry) → slice_get register.now.entries i ≡ Some a → slice_get register.now.entries j ≡ Some b
+        → a.drafter ≡ b.drafter → a.request ≡ b.request → i ≡ j }
+{
+    let _ = &register.entries;
+}
+
+/// The law entries of a register are numbered 1, 2, .. in order.
+pub fn laws_are_numbered(register: &Register)
+    ensures { law_numbers register.now.entries ≡ first_numbers (front register.now.entries) }
+{
+    let _ = &register.entries;
+}
+
+/// A work has 512 ids at most.
+pub fn ids_are_few(register: &Register, _work: &WorkName)
+    ensures { length (ids_of _work.now (laws register.now.entries)) ≤ 512 }
+{
+    let _ = &register.entries;
+}
