@@ -1,0 +1,89 @@
+//! Past: answers at every viewpoint, by what the law entries up to it make known.
+
+ghost use Rattle.std.specs.Prelude.{◌≡◌, IfOk, IfSome};
+ghost use Rattle.law_register.specs.Answers.{Answers, answer_on, asked_day};
+ghost use Rattle.law_register.specs.Asking.{answer_at, known_for};
+ghost use Rattle.law_register.specs.Soundness.{IsSound};
+
+use desk_base::{Day, Memory, Steps};
+use law_register::{
+    Act, Answer, AskFault, Known, QueryRule, Question, Register, Replayer, known_at,
+};
+use std::alloc::Global;
+use std::sync::ledger::Ledger;
+
+/// What is kept of past viewpoints to answer again. It keeps nothing yet: each answer is replayed.
+#[derive(Debug, Drop)]
+pub struct Past;
+
+// What is known of the work that a question asks for: at its viewpoint, or without the day of a version when the act was enacted.
+fn known_for(
+    alloc: Global,
+    register: &Register,
+    question: &Question,
+) -> Result<Option<Known>, Memory>
+    ensures known { IfOk result (λ known. known ≡ known_for register.now.entries question.now.work question.now.viewpoint question.now.version) }
+    ensures sound { IfOk result (λ known. IfSome known IsSound) }
+{
+    if question.version.is_some() {
+        return known_at(alloc, register, &question.work, question.viewpoint);
+    }
+    match register.enacted(&question.work) {
+        Some(number) => known_at(alloc, register, &question.work, number),
+        None => Ok(None),
+    }
+}
+
+// The day on which a question is answered: that of its version, or without one the act's own.
+fn asked_day(version: Option<Day>, act: &Act) -> Day
+    ensures { result ≡ asked_day version act.now }
+{
+    match version {
+        Some(day) => day,
+        None => act.day,
+    }
+}
+
+// The answer to a question, by what is known of its work.
+fn answer_known<P: Replayer, L: Ledger>(
+    alloc: Global,
+    replayer: &P,
+    known: &Known,
+    question: &Question,
+    steps: &mut Steps<L>,
+) -> Result<Answer, AskFault>
+    requires { IsSound known.now }
+    ensures { Answers result (answer_on known.now question.now) }
+{
+    let day = asked_day(question.version, &known.act);
+    let version = replayer.replay(alloc, known, question.reading, day, steps)?;
+    replayer.answer_of(alloc, known, version, question)
+}
+
+impl Past {
+    /// Nothing is kept at first.
+    pub fn new(_alloc: Global) -> Result<Past, Memory> {
+        Ok(Past)
+    }
+
+    /// The answer to a question at its viewpoint, or the first rule that it breaks.
+    #[tactic(auto, unfolding(law_register::specs::Asking::answer_at))]
+    pub fn answer_past<P: Replayer, L: Ledger>(
+        &mut self,
+        alloc: Global,
+        replayer: &P,
+        register: &Register,
+        question: &Question,
+        steps: &mut Steps<L>,
+    ) -> Result<Answer, AskFault>
+        ensures { Answers result (answer_at register.now.entries question.now) }
+    {
+        match known_for(alloc, register, question)? {
+            Some(known) => answer_known(alloc, replayer, &known, question, steps),
+            None => {
+                let work = question.work.copy()?;
+                Err(AskFault::Query(QueryRule::UnknownWork(work)))
+            }
+        }
+    }
+}
