@@ -1,5 +1,5 @@
 -- What a job tells of its input comes with the status of a job that is done.
-use Rattle.std.proofs.Common.{◌≡◌, ℕ, List, Option, Some, None, Result, Ok, Err, refl, subst, inl, inr, arith, ◌⊎◌}
+use Rattle.std.proofs.Common.{◌≡◌, ℕ, List, Option, Some, None, Result, Ok, Err, refl, subst, inl, inr}
 use Rattle.akn_json.specs.DossierForm.{dossier_of}
 use Rattle.akn_json.specs.declared.dossier.Dossier.{Dossier}
 use Rattle.akn_json.specs.declared.fault.FormFault.{FormFault}
@@ -39,16 +39,3 @@ told-done (Text day reading) input = told_of-done day reading (dossier_of input)
 -- a status that was told is that of a job that is done
 pub done : (job : Job) (left now written after : Option (List ℕ)) (status : ℕ) → IsTold job left now written after status → IsDone status
 done job left now written after status h = subst IsDone h.status_told (told-done job h.input)
-
--- such a status is none of those of a job that was not done
-pub not_2 : (status : ℕ) → IsDone status → status ≡ 2 → ⊥
-not_2 status h e = grind arith
-
-pub not_3 : (status : ℕ) → IsDone status → status ≡ 3 → ⊥
-not_3 status h e = grind arith
-
-pub not_4 : (status : ℕ) → IsDone status → status ≡ 4 → ⊥
-not_4 status h e = grind arith
-
-pub not_3_or_7 : (status : ℕ) → IsDone status → (status ≡ 3) ⊎ (status ≡ 7) → ⊥
-not_3_or_7 status h e = grind arith

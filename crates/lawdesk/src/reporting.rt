@@ -18,7 +18,7 @@ use akn_json::{
     read_dossier,
 };
 use desk_base::{Day, Memory, Steps};
-use law_register::{Answer, AskFault, Known, QueryRule, Reading, Replayer, Rule};
+use law_register::{Answer, AskFault, Known, Reading, Replayer, Rule};
 use std::alloc::Global;
 use std::sync::ledger::Ledger;
 

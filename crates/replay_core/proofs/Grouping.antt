@@ -1,10 +1,7 @@
 -- What a group that is put back does to the groups of all things.
-use Rattle.std.proofs.Common.{◌≡◌, ◌∙◌, sym, ap, ℕ, ◌==◌, ◌&&◌, Bool, true, false, cond, List, [], ◌∷◌, Option, Some, None, refl, arith}
+use Rattle.std.proofs.Common.{◌≡◌, ◌∙◌, sym, ap, ℕ, ◌==◌, ◌&&◌, Bool, true, false, cond, List, [], ◌∷◌, Option, Some, refl, arith}
 use Rattle.std.proofs.lemmas.Bool.Decides.{nat_tests}
-use Rattle.std.specs.Str.{bytes_eq}
 use Rattle.std.proofs.lemmas.Slice.Eq.{bytes_eq-Decides}
-use Rattle.bearing_mods.specs.declared.force.CountedForce.{CountedForce}
-use Rattle.bearing_mods.specs.declared.efficacy.CountedEfficacy.{CountedEfficacy}
 use Rattle.desk_base.specs.declared.id.Id.{Id}
 use Rattle.law_register.specs.declared.modification.Destination.{Destination}
 use Rattle.law_register.specs.declared.modification.Destination.TheVariants as to

@@ -1,9 +1,8 @@
 -- Those that are listed stand for those of the definition.
-use Rattle.std.proofs.Common.{◌≡◌, ◌∙◌, ap, refl, sym, ℕ, ◌+◌, ◌<◌, length, drop, get_or, ◌==◌, ◌&&◌, ◌||◌, nat_lt, Bool, true, false, cond, List, [], ◌∷◌, map, Option, Some, None, slice_get, option_and_then, arith}
+use Rattle.std.proofs.Common.{◌≡◌, ◌∙◌, ap, refl, sym, ℕ, ◌+◌, ◌<◌, length, drop, get_or, Bool, true, false, cond, List, [], ◌∷◌, map, Option, Some, None, slice_get, option_and_then}
 use Rattle.std.proofs.lemmas.List.{drop_more}
 use Rattle.std.proofs.lemmas.Option.{slice_get-get_or}
 use Rattle.desk_base.specs.declared.id.Id.{Id}
-use Rattle.desk_base.specs.declared.period.Period.{Period}
 use Rattle.law_register.specs.declared.known.KnownMod.{KnownMod}
 use Rattle.law_register.specs.declared.modification.Destination.TheVariants as to
 use Rattle.law_register.specs.declared.modification.ModSource.{ModSource}

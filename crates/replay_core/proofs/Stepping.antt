@@ -1,18 +1,13 @@
 -- Stepping through those that are listed is replaying those of the definition.
-use Rattle.std.proofs.Common.{◌≡◌, ◌∙◌, sym, ap, refl, ℕ, zero, suc, ◌+◌, ◌-◌, ◌^◌, ◌<◌, ◌≤◌, min, Bool, true, false, List, [], ◌∷◌, ◌++◌, map, take, drop, length, length-append, get_or, slice_get, Option, Some, None, Ok, Err, Result, arith}
-use Rattle.std.specs.List.{All}
+use Rattle.std.proofs.Common.{◌≡◌, ◌∙◌, sym, ap, refl, ℕ, zero, suc, ◌+◌, ◌-◌, ◌^◌, ◌<◌, min, List, [], ◌∷◌, ◌++◌, map, drop, length, length-append, get_or, Ok, Err, Result, arith}
 use Rattle.desk_base.specs.declared.id.Id.{Id}
 use Rattle.act_tree.specs.declared.cause.Cause.{Cause}
 use Rattle.act_tree.specs.Branches.{Branches}
 use Rattle.act_tree.specs.Provisions.{Provision}
-use Rattle.textual_mods.specs.declared.edit.TextualMod.{TextualMod}
 use Rattle.textual_mods.specs.Edits as edits
 use Rattle.law_register.specs.declared.known.KnownMod.{KnownMod}
-use Rattle.law_register.specs.declared.modification.Modification.{Modification}
-use Rattle.law_register.specs.declared.modification.Modification.TheVariants.{Textual, Force, Efficacy}
 use Rattle.law_register.specs.Order.{Due}
 use Rattle.law_register.specs.Replay.{VersionValue, taken, replayed}
-use Rattle.law_register.specs.Soundness.{IsSoundBody}
 use Rattle.replay_core.specs.declared.order.Due as own
 use Rattle.replay_core.specs.Dues.{edit_at, StandsFor, StandFor}
 use Rattle.replay_core.specs.Replaying.{edited_by}

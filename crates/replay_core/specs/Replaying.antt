@@ -1,5 +1,5 @@
 -- Replay, as the program steps through it.
-use Rattle.std.specs.Prelude.{ℕ, ◌≡◌, ◌<◌, ◌^◌, false, List, Option, Some, None}
+use Rattle.std.specs.Prelude.{◌≡◌, ◌<◌, ◌^◌, false, List, Option, Some, None}
 use Rattle.std.specs.List.{list_any}
 use Rattle.desk_base.specs.declared.id.Id.{Id}
 use Rattle.act_tree.specs.Branches.{Branches}

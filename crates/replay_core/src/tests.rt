@@ -208,13 +208,18 @@ fn postponement_counts_from_its_day(rt: HostRuntime) -> Result<(), Fail> {
 }
 
 #[test]
-fn retroactivity_and_inapplication_change_efficacy_alone(rt: HostRuntime) -> Result<(), Fail> {
+fn retroactivity_changes_efficacy_alone(rt: HostRuntime) -> Result<(), Fail> {
     let alloc = rt.alloc();
     let date = day("2010-09-01")?;
     let later = efficacy(alloc, date, EfficacyEffect::Retroactive(date))?;
     let work = known(alloc, two(alloc, repeal(alloc, REPEAL, 1)?, later)?)?;
     expect_order(&rt, &work, Reading::Force, "2010-10-01", &[])?;
-    expect_order(&rt, &work, Reading::Efficacy, "2010-10-01", &[REPEAL])?;
+    expect_order(&rt, &work, Reading::Efficacy, "2010-10-01", &[REPEAL])
+}
+
+#[test]
+fn inapplication_takes_efficacy_away_on_its_days(rt: HostRuntime) -> Result<(), Fail> {
+    let alloc = rt.alloc();
     let days = Period {
         start: day("2011-02-01")?,
         end: Some(day("2011-03-01")?),
@@ -226,40 +231,37 @@ fn retroactivity_and_inapplication_change_efficacy_alone(rt: HostRuntime) -> Res
     expect_order(&rt, &work, Reading::Efficacy, "2011-03-01", &[REPEAL])
 }
 
-// Each comes after the one that is pushed behind it, by another key: by the id, the place in the source, the bytes of the
-// source's IRI (in which 110 stands before 19), its day, the start.
+const EARLY: &str = "2011-01-01";
+
+const TENTH: &str = "/akn/gb/act/2010-11-01/110";
+
+// Those of one day on: by the day of the source, by the bytes of its IRI (in which 110 stands before 19), by the place in it, by
+// the id.
+fn early_repeals(alloc: Global, mods: &mut KnownMods) -> Result<(), Fail> {
+    mods.push(repeal_from(alloc, Id { law: 3, item: 1 }, EARLY, SECOND, 1)?)?;
+    mods.push(repeal_from(alloc, Id { law: 4, item: 1 }, EARLY, FIRST, 2)?)?;
+    mods.push(repeal_from(alloc, Id { law: 5, item: 1 }, EARLY, FIRST, 1)?)?;
+    mods.push(repeal_from(alloc, Id { law: 5, item: 2 }, EARLY, FIRST, 1)?)?;
+    mods.push(repeal_from(alloc, Id { law: 6, item: 1 }, EARLY, TENTH, 9)?)?;
+    Ok(())
+}
+
 #[test]
 fn order_is_by_start_source_day_iri_place_and_id(rt: HostRuntime) -> Result<(), Fail> {
     let alloc = rt.alloc();
-    let early = "2011-01-01";
     let mut mods = KnownMods::new(alloc);
-    mods.push(repeal_from(alloc, Id { law: 2, item: 1 }, "2011-03-01", FIRST, 1)?)?;
-    mods.push(repeal_from(alloc, Id { law: 3, item: 1 }, early, SECOND, 1)?)?;
-    mods.push(repeal_from(alloc, Id { law: 4, item: 1 }, early, FIRST, 2)?)?;
-    mods.push(repeal_from(alloc, Id { law: 5, item: 1 }, early, FIRST, 1)?)?;
-    mods.push(repeal_from(alloc, Id { law: 5, item: 2 }, early, FIRST, 1)?)?;
-    mods.push(repeal_from(
-        alloc,
-        Id { law: 6, item: 1 },
-        early,
-        "/akn/gb/act/2010-11-01/110",
-        9,
-    )?)?;
+    mods.push(repeal_from(alloc, REPEAL, "2011-03-01", FIRST, 1)?)?;
+    early_repeals(alloc, &mut mods)?;
     let wanted = [
         Id { law: 6, item: 1 },
         Id { law: 5, item: 1 },
         Id { law: 5, item: 2 },
         Id { law: 4, item: 1 },
         Id { law: 3, item: 1 },
-        Id { law: 2, item: 1 },
+        REPEAL,
     ];
-    expect_order(
-        &rt,
-        &known(alloc, mods)?,
-        Reading::Force,
-        "2011-03-01",
-        &wanted,
-    )
+    let work = known(alloc, mods)?;
+    expect_order(&rt, &work, Reading::Force, "2011-03-01", wanted.as_slice())
 }
 
 // The flag of the node of a wId on 2011-01-01.

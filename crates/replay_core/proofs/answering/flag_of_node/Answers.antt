@@ -1,6 +1,4 @@
-use Rattle.std.proofs.Common.{◌≡◌, rules, true, is_some}
-use Rattle.act_tree.specs.Seen.{tree_view, provision_at}
-use Rattle.law_register.specs.Flags.{flag}
+use Rattle.std.proofs.Common.{rules}
 use Rattle.replay_core.proofs.HeldFlags.{node_flag}
 use Rattle.replay_core.proofs.answering.flag_of_node.Goals as goal
 

@@ -1,4 +1,4 @@
-use Rattle.std.proofs.Common.{rules, ◌≡◌, ◌∙◌, sym, ap, ℕ, ◌+◌, ◌-◌, ◌<◌, length, drop, get_or, List, arith}
+use Rattle.std.proofs.Common.{rules, ◌≡◌, sym, ℕ, ◌+◌, ◌-◌, ◌<◌, length, drop, get_or, List}
 use Rattle.law_register.specs.declared.known.KnownMod.{KnownMod}
 use Rattle.law_register.specs.Order.{due_of}
 use Rattle.replay_core.specs.Dues.{StandFor}

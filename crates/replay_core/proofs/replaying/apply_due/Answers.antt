@@ -1,4 +1,4 @@
-use Rattle.std.proofs.Common.{◌≡◌, ◌∙◌, ap, sym, subst, refl, length, slice_get, Some, None, option_and_then}
+use Rattle.std.proofs.Common.{◌≡◌, ap, sym, subst, refl, length, slice_get, Some, None, option_and_then}
 use Rattle.std.proofs.lemmas.List.Elements.{All-get_or}
 use Rattle.std.proofs.lemmas.Option.{slice_get_read, slice_get_past}
 use Rattle.law_register.specs.declared.known.KnownMod.{KnownMod}

@@ -1,6 +1,5 @@
-use Rattle.std.proofs.Common.{rules, ◌≡◌, ◌∙◌, ◌+◌, ◌<◌, ◌≤◌, sym, ap, subst, arith, drop, take, length, get_or, List, [], refl}
+use Rattle.std.proofs.Common.{rules, ◌≡◌, ◌∙◌, ◌<◌, sym, ap, subst, arith, drop, length, List, []}
 use Rattle.std.specs.List.{All}
-use Rattle.act_tree.specs.Seen.{tree_view}
 use Rattle.law_register.specs.declared.known.KnownMod.{KnownMod}
 use Rattle.law_register.specs.Order.{due_on}
 use Rattle.law_register.specs.Order as order

@@ -1,4 +1,4 @@
-use Rattle.std.proofs.Common.{rules, ◌≡◌, ◌∙◌, ◌+◌, ◌≤◌, sym, ap, subst, refl, arith, length, map, List}
+use Rattle.std.proofs.Common.{◌∙◌, sym, ap, subst, refl, arith, map}
 use Rattle.std.proofs.lemmas.Result.{IfOk-weaker}
 use Rattle.act_tree.specs.Branches.{branches_of}
 use Rattle.act_tree.specs.Brought.{has_brought}
@@ -7,7 +7,6 @@ use Rattle.textual_mods.proofs.Starting.{enacted_fits, enacted_brings_none}
 use Rattle.law_register.specs.Order.{due_on}
 use Rattle.law_register.specs.Replay.{VersionValue, as_enacted, replayed}
 use Rattle.law_register.specs.Soundness.{id_twice}
-use Rattle.law_register.specs.Versions.{version_view}
 use Rattle.replay_core.proofs.Ids.{due_differ}
 use Rattle.replay_core.proofs.Listing.{same_ids}
 use Rattle.replay_core.proofs.Stepping.{IsCounted, replayed_counted, same_length}

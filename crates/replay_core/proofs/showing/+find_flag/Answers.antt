@@ -1,9 +1,9 @@
-use Rattle.std.proofs.Common.{rules, ◌≡◌, ◌∙◌, sym, ap, ℕ, ◌+◌, ◌<◌, true, false, map, drop, length, Some, is_some}
+use Rattle.std.proofs.Common.{rules, ◌≡◌, ◌∙◌, sym, ap, ◌+◌, ◌<◌, true, false, map, drop, length, is_some}
 use Rattle.std.specs.Str.{bytes_eq}
 use Rattle.act_tree.specs.Branches.{branches_of}
 use Rattle.act_tree.specs.Seen.{provision_at, branch_at}
 use Rattle.act_tree.proofs.Walking.{children_lower}
-use Rattle.law_register.specs.Flags.{flag_in, flag_among, or_else}
+use Rattle.law_register.specs.Flags.{flag_among, or_else}
 use Rattle.replay_core.proofs.ShowingLaws.{flag_from, flag_here, flag_beneath, first_flag, second_flag}
 use Rattle.replay_core.proofs.showing.+find_flag.Goals as goal
 

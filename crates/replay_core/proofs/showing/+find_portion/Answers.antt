@@ -1,7 +1,7 @@
-use Rattle.std.proofs.Common.{rules, ◌≡◌, ◌∙◌, sym, ap, ℕ, ◌+◌, ◌<◌, true, false, map, option_map, drop, length, Some, is_some}
+use Rattle.std.proofs.Common.{rules, ◌≡◌, ◌∙◌, sym, ap, ◌+◌, ◌<◌, true, false, map, option_map, drop, length, is_some}
 use Rattle.std.specs.Str.{bytes_eq}
 use Rattle.act_tree.specs.Branches.{branches_of}
-use Rattle.act_tree.specs.Seen.{tree_view, provision_at, branch_at}
+use Rattle.act_tree.specs.Seen.{tree_view, branch_at}
 use Rattle.act_tree.proofs.Walking.{children_lower}
 use Rattle.law_register.specs.Answers.{all_shown, portion_among, or_else}
 use Rattle.law_register.specs.ShownNodes.{shown_view}

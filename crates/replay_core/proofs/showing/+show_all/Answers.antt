@@ -1,7 +1,7 @@
-use Rattle.std.proofs.Common.{rules, ◌≡◌, ◌∙◌, sym, ap, ℕ, ◌+◌, ◌<◌, map, option_map, take, length, List}
+use Rattle.std.proofs.Common.{rules, ◌∙◌, ap, ◌<◌, map, option_map, length}
 use Rattle.std.proofs.lemmas.List.{take_all}
-use Rattle.act_tree.specs.Branches.{branches_of, heights}
-use Rattle.act_tree.specs.Seen.{tree_view, branch_at, below_at}
+use Rattle.act_tree.specs.Branches.{branches_of}
+use Rattle.act_tree.specs.Seen.{tree_view, branch_at}
 use Rattle.act_tree.proofs.Walking.{children_lower}
 use Rattle.law_register.specs.ShownNodes.{shown_view}
 use Rattle.law_register.specs.Answers.{shown}
