@@ -1,6 +1,6 @@
 //! FileDisk: a file of the system as a disk. A clause sees nothing of it but its count of faults.
 
-ghost use Rattle.std.specs.Prelude.{◌≡◌, ◌^◌, ◌<◌, ◌≤◌, length, IfOk};
+ghost use Rattle.std.specs.Prelude.{◌≡◌, ◌^◌, ◌<◌, ◌≤◌, true, is_none, length, IfOk};
 ghost use Rattle.desk_base.specs.Streams.{HasCause};
 ghost use Rattle.law_journal.specs.Answers.{HasValueOf};
 
@@ -82,7 +82,10 @@ fn counted<T: Drop>(answer: io::Result<T>, faults: &mut u64) -> Result<T, Failed
 impl<'a, R: Files> FileDisk<'a, R> {
     /// The file of that name in the working folder. Nothing is asked of it yet.
     pub fn new(files: &'a R, path: &'a str) -> FileDisk<'a, R>
-        ensures { result.faults ≡ 0 }
+        ensures files { result.files.now ≡ files.now }
+        ensures path { result.path.now ≡ path.now }
+        ensures unopened { is_none result.file ≡ true }
+        ensures faults { result.faults ≡ 0 }
     {
         FileDisk {
             files,
