@@ -1,9 +1,11 @@
 //! Past: answers at every viewpoint, by what the law entries up to it make known.
 
-ghost use Rattle.std.specs.Prelude.{◌≡◌, IfOk, IfSome};
+ghost use Rattle.std.specs.Prelude.{◌≡◌, ◌+◌, ◌≤◌, length, IfOk, IfSome};
 ghost use Rattle.law_register.specs.Answers.{Answers, answer_on, asked_day};
 ghost use Rattle.law_register.specs.Asking.{answer_at, known_for};
+ghost use Rattle.law_register.specs.Order.{order};
 ghost use Rattle.law_register.specs.Soundness.{IsSound};
+ghost use Rattle.viewpoints.specs.Costs.{bearing_at};
 
 use desk_base::{Day, Memory, Steps};
 use law_register::{
@@ -53,7 +55,8 @@ fn answer_known<P: Replayer, L: Ledger>(
     steps: &mut Steps<L>,
 ) -> Result<Answer, AskFault>
     requires { IsSound known.now }
-    ensures { Answers result (answer_on known.now question.now) }
+    ensures answer { Answers result (answer_on known.now question.now) }
+    ensures steps { steps.new ≤ steps.old + length (order known.now question.now.reading (asked_day question.now.version known.now.act)) }
 {
     let day = asked_day(question.version, &known.act);
     let version = replayer.replay(alloc, known, question.reading, day, steps)?;
@@ -66,8 +69,9 @@ impl Past {
         Ok(Past)
     }
 
-    /// The answer to a question at its viewpoint, or the first rule that it breaks.
-    #[tactic(auto, unfolding(law_register::specs::Asking::answer_at))]
+    /// The answer to a question at its viewpoint, or the first rule that it breaks. It takes one step at most for each modification
+    /// that bears.
+    #[tactic(auto, unfolding(law_register::specs::Asking::answer_at, crate::specs::Costs::bearing_at))]
     pub fn answer_past<P: Replayer, L: Ledger>(
         &mut self,
         alloc: Global,
@@ -76,7 +80,8 @@ impl Past {
         question: &Question,
         steps: &mut Steps<L>,
     ) -> Result<Answer, AskFault>
-        ensures { Answers result (answer_at register.now.entries question.now) }
+        ensures answer { Answers result (answer_at register.now.entries question.now) }
+        ensures steps { steps.new ≤ steps.old + bearing_at register.now.entries question.now }
     {
         match known_for(alloc, register, question)? {
             Some(known) => answer_known(alloc, replayer, &known, question, steps),
