@@ -1,16 +1,15 @@
 -- The indexes of no entries.
-use Rattle.std.proofs.Common.{◌≡◌, ◌∙◌, sym, ap, subst, ℕ, ◌==◌, Bool, ◌&&◌, List, [], length, Option, Some, None, is_some, refl}
+use Rattle.std.proofs.Common.{◌≡◌, sym, ap, subst, Bool, List, [], length, Option, None, is_some, refl}
 use Rattle.std.specs.Str.{bytes_eq}
 use Rattle.std.specs.Map.{lookup}
-use Rattle.desk_base.specs.declared.id.Id.{Id}
-use Rattle.law_register.specs.declared.entry.Entry.{Entry}
 use Rattle.law_register.specs.declared.indexes.DrafterMark.{DrafterMark}
 use Rattle.law_register.specs.declared.indexes.IdMark.{IdMark}
 use Rattle.law_register.specs.declared.indexes.Indexes.{Indexes}
 use Rattle.law_register.specs.declared.indexes.RequestMark.{RequestMark}
+use Rattle.law_register.specs.declared.indexes.StepMark.{StepMark}
 use Rattle.law_register.specs.declared.indexes.WorkMark.{WorkMark}
 use Rattle.law_register.specs.Counted.{is_same_id}
-use Rattle.law_register.specs.Indexes.{is_request, request_mark, drafter_mark, work_mark, id_mark, RequestStands, DraftStands, WorkStands, IdStands, StandFor}
+use Rattle.law_register.specs.Indexes.{is_request, RequestStands, DraftStands, WorkStands, IdStands, StepsStand, StandFor}
 
 nothing : {K X : Type 0} (test : K → Bool) (es : List (K × X)) → es ≡ [] → None ≡ lookup test es
 nothing test es e = ap (lookup test) (sym e)
@@ -21,9 +20,9 @@ no_draft = record { added = refl; items = tt }
 no_work : WorkStands [] None None 0 0
 no_work = record { act = tt; last = refl; ids = refl }
 
-pub stand_for_none : (ix : Indexes) → ix.requests.entries ≡ [] → ix.drafters.entries ≡ [] → ix.works.entries ≡ [] → ix.ids.entries ≡ [] → ix.front ≡ 0 → ix.size ≡ 0
+pub stand_for_none : (ix : Indexes) → ix.requests.entries ≡ [] → ix.drafters.entries ≡ [] → ix.works.entries ≡ [] → ix.ids.entries ≡ [] → ix.steps.items ≡ [] → ix.front ≡ 0 → ix.size ≡ 0
     → StandFor ix []
-stand_for_none ix requests drafters works ids front size = record {
+stand_for_none ix requests drafters works ids steps front size = record {
   requests = λ d r.
       let P : Option RequestMark → Type 0 = λ m. RequestStands [] m None in
       subst P (nothing (is_request d r) ix.requests.entries requests) tt;
@@ -38,6 +37,9 @@ stand_for_none ix requests drafters works ids front size = record {
   ids = λ i.
       let P : Option IdMark → Type 0 = λ m. IdStands [] m None in
       subst P (nothing (is_same_id i) ix.ids.entries ids) tt;
+  steps =
+      let P : List StepMark → Type 0 = λ s. StepsStand [] ix.bodies.items [] s [] in
+      subst P (sym steps) tt;
   front = front;
   size = size;
 }

@@ -18,8 +18,8 @@ use Rattle.law_register.specs.Indexes.{told_at, work_named, act_of, body_of, is_
 use Rattle.law_register.specs.KnownIds.{IdFacts, item_at, first_facts, facts_after, facts_from, facts_of, enacted, enacted_by, enacted_or, ids_of, ids_recorded, ids_from_item}
 use Rattle.law_register.specs.Verdicts.{is_of, concerns, last_on}
 use Rattle.law_register.proofs.Puts.{number_either, number_same, number_is}
-use Rattle.law_register.proofs.Snoc.{first_act, facts_more, enacted_more, ids_more, last_more}
-use Rattle.law_register.proofs.Steps.{enacted_stays, id_stays, told_last}
+use Rattle.law_register.proofs.Snoc.{first_act, enacted_more, ids_more, last_more}
+use Rattle.law_register.proofs.Steps.{enacted_stays, told_last}
 
 -- an id of a later law entry is not recorded yet
 pub differ : (a b : ℕ) → b < a → (a == b) ≡ false
@@ -97,51 +97,47 @@ item_at_suc n mods = ap (λ b. cond b None (slice_get mods (suc n - 1))) (differ
     less n = omega arith
 
 -- what a Record or a File makes of an id
-pub record_step : (es : List Entry) (e : Entry) (w : List ℕ) (mods : List Modification) (bodies : List BodyMark) (number at : ℕ) (id : Id) (m : Option IdMark) (f : Option IdFacts)
-    → IdStands es m f → (id.law ≡ number → f ≡ None) → BodiesStand (es ++ e ∷ []) bodies mods → told_at (es ++ e ∷ []) at work_named ≡ Some w
-    → IdStands (es ++ e ∷ []) (recorded_from number at 1 bodies id m) (cond (id.law == number) (first_facts w (item_at id.item mods)) f)
-record_step es e w mods bodies number at id m f h new bodies_stand named = by (id.law == number) refl
+pub record_stands : (es : List Entry) (w : List ℕ) (mods : List Modification) (bodies : List BodyMark) (number at : ℕ) (id : Id) (m : Option IdMark) (f : Option IdFacts)
+    → IdStands es m f → (id.law ≡ number → f ≡ None) → BodiesStand es bodies mods → told_at es at work_named ≡ Some w
+    → IdStands es (recorded_from number at 1 bodies id m) (cond (id.law == number) (first_facts w (item_at id.item mods)) f)
+record_stands es w mods bodies number at id m f h new bodies_stand named = by (id.law == number) refl
   where
-    here : (id.law == number) ≡ true → (n : ℕ) → id.item ≡ n → IdStands (es ++ e ∷ []) (recorded_from number at 1 bodies id None) (first_facts w (item_at n mods))
+    here : (id.law == number) ≡ true → (n : ℕ) → id.item ≡ n → IdStands es (recorded_from number at 1 bodies id None) (first_facts w (item_at n mods))
     here mine zero is =
-        let P : Option IdMark → Type 0 = λ k. IdStands (es ++ e ∷ []) k None in
+        let P : Option IdMark → Type 0 = λ k. IdStands es k None in
         subst P (sym (passed number at id 1 bodies None (omega arith))) tt
     here mine (suc n) is =
-        let P : Option IdMark → Type 0 = λ k. IdStands (es ++ e ∷ []) k (first_facts w (item_at (suc n) mods)) in
-        let Q : Option Modification → Type 0 = λ k. IdStands (es ++ e ∷ []) (option_map (recorded_mark at) (slice_get bodies n)) (first_facts w k) in
+        let P : Option IdMark → Type 0 = λ k. IdStands es k (first_facts w (item_at (suc n) mods)) in
+        let Q : Option Modification → Type 0 = λ k. IdStands es (option_map (recorded_mark at) (slice_get bodies n)) (first_facts w k) in
         subst P (sym (picked number at id 1 bodies n (number_either number id.law ∙ mine) (omega arith)))
-        (subst Q (sym (item_at_suc n mods)) (picked_stands (es ++ e ∷ []) at w bodies mods n bodies_stand named))
+        (subst Q (sym (item_at_suc n mods)) (picked_stands es at w bodies mods n bodies_stand named))
 
-    by : (b : Bool) → (id.law == number) ≡ b → IdStands (es ++ e ∷ []) (recorded_from number at 1 bodies id m) (cond b (first_facts w (item_at id.item mods)) f)
+    by : (b : Bool) → (id.law == number) ≡ b → IdStands es (recorded_from number at 1 bodies id m) (cond b (first_facts w (item_at id.item mods)) f)
     by true mine =
-        let P : Option IdMark → Type 0 = λ k. IdStands (es ++ e ∷ []) (recorded_from number at 1 bodies id k) (first_facts w (item_at id.item mods)) in
+        let P : Option IdMark → Type 0 = λ k. IdStands es (recorded_from number at 1 bodies id k) (first_facts w (item_at id.item mods)) in
         subst P (sym (no_mark es m f h (new (number_same id.law number mine)))) (here mine id.item refl)
     by false other =
-        let P : Option IdMark → Type 0 = λ k. IdStands (es ++ e ∷ []) k f in
-        subst P (sym (not_recorded number at id 1 bodies m (number_either number id.law ∙ other))) (id_stays es e m f h)
+        let P : Option IdMark → Type 0 = λ k. IdStands es k f in
+        subst P (sym (not_recorded number at id 1 bodies m (number_either number id.law ∙ other))) h
 
 -- what a Correct makes of an id
-pub correct_step : (es : List Entry) (e : Entry) (body : Modification) (at : ℕ) (own : Bool) (m : Option IdMark) (f : Option IdFacts)
-    → IdStands es m f → told_at (es ++ e ∷ []) at (body_of 0) ≡ Some body
-    → IdStands (es ++ e ∷ []) (cond own (option_map (corrected at) m) m) (cond own (option_map (λ (x : IdFacts). record x { body = body }) f) f)
-correct_step es e body at false m f h brings = id_stays es e m f h
-correct_step es e body at true None None h brings = tt
-correct_step es e body at true (Some m) (Some f) h brings =
-    let same = id_stays es e (Some m) (Some f) h in
-    (same.0, brings, same.2)
-correct_step es e body at true None (Some f) h brings = h
-correct_step es e body at true (Some m) None h brings = h
+pub correct_stands : (es : List Entry) (body : Modification) (at : ℕ) (own : Bool) (m : Option IdMark) (f : Option IdFacts)
+    → IdStands es m f → told_at es at (body_of 0) ≡ Some body
+    → IdStands es (cond own (option_map (corrected at) m) m) (cond own (option_map (λ (x : IdFacts). record x { body = body }) f) f)
+correct_stands es body at false m f h brings = h
+correct_stands es body at true None None h brings = tt
+correct_stands es body at true (Some m) (Some f) h brings = (h.0, brings, h.2)
+correct_stands es body at true None (Some f) h brings = h
+correct_stands es body at true (Some m) None h brings = h
 
 -- what a Withdraw or a Restore makes of an id
-pub withdraw_step : (es : List Entry) (e : Entry) (withdrawn : Option ℕ) (own : Bool) (m : Option IdMark) (f : Option IdFacts) → IdStands es m f
-    → IdStands (es ++ e ∷ []) (cond own (option_map (with_withdrawn withdrawn) m) m) (cond own (option_map (λ (x : IdFacts). record x { withdrawn = withdrawn }) f) f)
-withdraw_step es e withdrawn false m f h = id_stays es e m f h
-withdraw_step es e withdrawn true None None h = tt
-withdraw_step es e withdrawn true (Some m) (Some f) h =
-    let same = id_stays es e (Some m) (Some f) h in
-    (same.0, same.1, refl)
-withdraw_step es e withdrawn true None (Some f) h = h
-withdraw_step es e withdrawn true (Some m) None h = h
+pub withdraw_stands : (es : List Entry) (withdrawn : Option ℕ) (own : Bool) (m : Option IdMark) (f : Option IdFacts) → IdStands es m f
+    → IdStands es (cond own (option_map (with_withdrawn withdrawn) m) m) (cond own (option_map (λ (x : IdFacts). record x { withdrawn = withdrawn }) f) f)
+withdraw_stands es withdrawn false m f h = h
+withdraw_stands es withdrawn true None None h = tt
+withdraw_stands es withdrawn true (Some m) (Some f) h = (h.0, h.1, refl)
+withdraw_stands es withdrawn true None (Some f) h = h
+withdraw_stands es withdrawn true (Some m) None h = h
 
 -- the work of an id
 pub of_work : (es : List Entry) (w : List ℕ) (m : Option IdMark) (f : Option IdFacts) → IdStands es m f → is_of w f ≡ is_named w (work_of_mark es m)

@@ -1,5 +1,5 @@
 -- What is so of a legal register, and of a command that is accepted behind it.
-use Rattle.std.proofs.Common.{◌≡◌, ◌∙◌, sym, ap, subst, ℕ, ◌+◌, ◌≤◌, ◌<◌, ◌==◌, nat_le, nat_lt, Bool, true, false, cond, ◌&&◌, ◌||◌, not, List, [], ◌∷◌, ◌++◌, length, Option, Some, None, is_some, refl, append_assoc, arith}
+use Rattle.std.proofs.Common.{◌≡◌, sym, ap, subst, ℕ, ◌+◌, ◌≤◌, nat_le, nat_lt, Bool, true, false, cond, ◌&&◌, ◌||◌, List, [], ◌∷◌, ◌++◌, length, Option, Some, None, refl, append_assoc, arith}
 use Rattle.std.proofs.lemmas.List.{append-nil, length-append}
 use Rattle.std.proofs.lemmas.Bool.Decides.{nat_tests}
 use Rattle.law_register.specs.declared.command.Command.{Command}
@@ -9,7 +9,6 @@ use Rattle.law_register.specs.declared.entry.Entry.{Entry}
 use Rattle.law_register.specs.declared.rules.Rule.{Rule}
 use Rattle.law_register.specs.declared.rules.Rule.TheVariants.{LawFull, NumberReused}
 use Rattle.law_register.specs.declared.verdict.Reply.{Reply}
-use Rattle.law_register.specs.declared.verdict.Verdict.{Verdict}
 use Rattle.law_register.specs.declared.verdict.Verdict.TheVariants.{Accepted, Repeat, Refused}
 use Rattle.law_register.specs.Drafts.{additions, added, is_by, draft_of}
 use Rattle.law_register.specs.LawList.{law_command, law_of, laws, front}
@@ -18,7 +17,7 @@ use Rattle.law_register.specs.Sizes.{name_size, command_size, size_of, entry_siz
 use Rattle.law_register.specs.Verdicts as v
 use Rattle.law_register.specs.Verdicts.{rule_or, broken_where, again, refused_or, reply_to, law_number, request_of, first_rule, verdict_by, verdict, is_accepted, is_legal_from, is_legal}
 use Rattle.law_register.proofs.Puts.{left_true, right_true}
-use Rattle.law_register.proofs.Snoc.{laws_more, size_more, added_more}
+use Rattle.law_register.proofs.Snoc.{laws_more, size_more}
 
 pub first_kept : (a b : Option Rule) → rule_or a b ≡ None → a ≡ None
 first_kept None b h = refl

@@ -1,3 +1,4 @@
+pub mod Lists
 pub mod Snoc
 pub mod Puts
 pub mod ShortNames
@@ -7,12 +8,16 @@ pub mod SameLaws
 pub mod SameNodes
 pub mod Legal
 pub mod Steps
+pub mod Marking
 pub mod IdSteps
 pub mod Limits
 pub mod Pushing
 pub mod Reserving
 pub mod Once
 pub mod Past
+pub mod Chains
+pub mod Owned
 pub mod Listed
+pub mod Gathering
 pub mod Ascending
 pub mod Sound

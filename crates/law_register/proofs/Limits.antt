@@ -1,5 +1,5 @@
 -- The limits that a legal register keeps, and the numbers of an entry that is accepted.
-use Rattle.std.proofs.Common.{◌≡◌, ◌∙◌, sym, ap, subst, ℕ, ◌+◌, ◌≤◌, ◌<◌, ◌^◌, ◌==◌, nat_le, nat_lt, Bool, true, false, cond, ◌&&◌, ◌||◌, not, List, [], ◌∷◌, ◌++◌, length, filter, map, Option, Some, None, refl, arith}
+use Rattle.std.proofs.Common.{◌≡◌, ◌∙◌, sym, ap, subst, ℕ, ◌+◌, ◌≤◌, ◌<◌, ◌==◌, nat_le, nat_lt, Bool, true, false, cond, ◌&&◌, ◌||◌, not, List, [], ◌∷◌, ◌++◌, length, filter, map, None, refl, arith}
 use Rattle.std.proofs.lemmas.List.{append-nil, length-append, length-map}
 use Rattle.std.proofs.lemmas.Bool.Decides.{nat_tests}
 use Rattle.std.specs.Str.{bytes_eq}
@@ -9,16 +9,15 @@ use Rattle.law_register.specs.declared.draft.DraftItem.{DraftItem}
 use Rattle.law_register.specs.declared.entry.Entry.{Entry}
 use Rattle.law_register.specs.declared.indexes.Indexes.{Indexes}
 use Rattle.law_register.specs.declared.modification.Modification.{Modification}
-use Rattle.law_register.specs.declared.rules.Rule.{Rule}
 use Rattle.law_register.specs.declared.rules.Rule.TheVariants.{BadModification, DraftFull, WorkFull}
 use Rattle.law_register.specs.Bounds.{most_items}
 use Rattle.law_register.specs.Drafts.{is_by, additions, added, redrafted, draft_of, items_of}
-use Rattle.law_register.specs.Indexes.{items_in, drafter_mark, work_mark, ids_in}
+use Rattle.law_register.specs.Indexes.{items_in, drafter_mark}
 use Rattle.law_register.specs.KnownIds.{ids_of, ids_recorded}
-use Rattle.law_register.specs.LawList.{law_command, law_of, laws}
+use Rattle.law_register.specs.LawList.{law_command, laws}
 use Rattle.law_register.specs.Noting.{mods_of, CanNote}
 use Rattle.law_register.specs.Registers.{IsKept}
-use Rattle.law_register.specs.Sizes.{size_of, entry_size, entries_size}
+use Rattle.law_register.specs.Sizes.{size_of, entries_size}
 use Rattle.law_register.specs.Verdicts as v
 use Rattle.law_register.specs.Verdicts.{broken_where, is_legal}
 use Rattle.law_register.proofs.IdSteps.{recorded_count}

@@ -1,5 +1,5 @@
 -- What look-ups in the indexes tell, by what the marks stand for.
-use Rattle.std.proofs.Common.{◌≡◌, ◌∙◌, sym, ap, ℕ, ◌+◌, ◌==◌, Bool, true, false, cond, ◌&&◌, ◌||◌, not, List, [], ◌∷◌, ◌++◌, length, filter, Option, Some, None, option_map, slice_get, suc, zero, refl, arith}
+use Rattle.std.proofs.Common.{◌≡◌, ◌∙◌, ap, ℕ, ◌==◌, Bool, true, false, cond, ◌||◌, List, [], ◌∷◌, length, filter, Option, Some, None, option_map, slice_get, suc, refl}
 use Rattle.std.specs.List.{list_any}
 use Rattle.std.specs.Str.{bytes_eq}
 use Rattle.law_register.specs.declared.act.Act.{Act}
@@ -9,13 +9,11 @@ use Rattle.law_register.specs.declared.indexes.EnactedMark.{EnactedMark}
 use Rattle.law_register.specs.declared.indexes.IdMark.{IdMark}
 use Rattle.law_register.specs.declared.indexes.ItemMark.{ItemMark}
 use Rattle.law_register.specs.declared.indexes.RequestMark.{RequestMark}
-use Rattle.law_register.specs.declared.indexes.WorkMark.{WorkMark}
-use Rattle.law_register.specs.declared.modification.Modification.{Modification}
 use Rattle.law_register.specs.declared.verdict.Reply.{Reply}
 use Rattle.law_register.specs.Drafts.{items_of}
-use Rattle.law_register.specs.Indexes.{told_at, work_named, act_of, body_of, marks_work, is_named, RequestStands, ItemsStand, EnactedStands, IdStands, enacted_in}
+use Rattle.law_register.specs.Indexes.{told_at, work_named, act_of, body_of, marks_work, is_named, RequestStands, ItemsStand, EnactedStands, IdStands}
 use Rattle.law_register.specs.KnownIds.{IdFacts}
-use Rattle.law_register.specs.Verdicts.{again, has_item, kind_of}
+use Rattle.law_register.specs.Verdicts.{again, has_item}
 use Rattle.law_register.specs.declared.command.Command.{Command}
 
 -- a value that a mark leads to, if there is a mark
@@ -124,3 +122,7 @@ pub enacted_told : (es : List Entry) (m : EnactedMark) (found : Option (ℕ × A
 enacted_told es m None h = absurd h
 enacted_told es m (Some found) h =
     ap (option_map (λ (a : Act). (m.number, a))) h.1 ∙ ap (λ n. Some (n, found.1)) h.0
+
+pub enacted_none : (es : List Entry) (found : Option (ℕ × Act)) → EnactedStands es None found → None ≡ found
+enacted_none es None h = refl
+enacted_none es (Some found) h = absurd h

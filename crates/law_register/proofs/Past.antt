@@ -1,80 +1,27 @@
 -- The first entries of a legal register, and the law that they make.
-use Rattle.std.proofs.Common.{◌≡◌, ◌∙◌, sym, ap, subst, ℕ, zero, suc, ◌+◌, ◌≤◌, ◌<◌, Bool, true, false, ◌&&◌, List, [], ◌∷◌, ◌++◌, length, take, drop, slice_get, Option, Some, None, refl, append_assoc, arith}
-use Rattle.std.proofs.lemmas.List.{append-nil, length-append, take-append-drop, take-append-le}
-use Rattle.std.proofs.Math.Seq.{take-append_seam}
+use Rattle.std.proofs.Common.{◌≡◌, ◌∙◌, sym, ap, subst, ℕ, ◌+◌, ◌≤◌, ◌<◌, nat_le, ◌⊎◌, inl, inr, Bool, true, false, cond, List, [], ◌∷◌, ◌++◌, length, take, Option, Some, None, refl, arith}
+use Rattle.std.proofs.lemmas.Bool.Decides.{nat_tests}
+use Rattle.std.proofs.lemmas.List.{length-append, take-append-le}
+use Rattle.law_register.specs.declared.act.Act.{Act}
 use Rattle.law_register.specs.declared.command.Command.{Command}
 use Rattle.law_register.specs.declared.command.Command.TheVariants.{Enact, Record, Correct, Withdraw, Restore, DraftAdd, DraftDrop, File}
 use Rattle.law_register.specs.declared.entry.Entry.{Entry}
-use Rattle.law_register.specs.declared.indexes.Indexes.{Indexes}
-use Rattle.law_register.specs.declared.verdict.Reply.{Reply}
-use Rattle.law_register.specs.LawList.{law_of, laws_from, laws, front}
+use Rattle.law_register.specs.declared.indexes.EnactedMark.{EnactedMark}
+use Rattle.law_register.specs.Indexes.{EnactedStands}
+use Rattle.law_register.specs.KnownIds.{enacted_by, enacted_or, enacted}
+use Rattle.law_register.specs.LawList.{law_of, laws, front}
+use Rattle.law_register.specs.Listing.{enacted_within}
 use Rattle.law_register.specs.Noting.{law_count}
 use Rattle.law_register.specs.Verdicts.{verdict, is_accepted, is_legal_from, is_legal}
+use Rattle.law_register.proofs.Lists.{by_last, at_most_or, take_all, take_last, take_front}
 use Rattle.law_register.proofs.Pushing.{front_is}
-use Rattle.law_register.proofs.Puts.{left_true, right_true}
-
--- each entry of a legal register is accepted behind those before it
-accepted_from : (before es : List Entry) (i : ℕ) (e : Entry) → is_legal_from before es ≡ true → slice_get es i ≡ Some e
-    → is_accepted e.law (verdict (before ++ take i es) e.drafter e.request e.command) ≡ true
-accepted_from before [] i e h at = absurd (let no : None ≡ Some e = at in cc)
-accepted_from before (x ∷ es) zero e h at =
-    let same : x ≡ e = cc in
-    let P : Entry → Type 0 = λ y. is_accepted y.law (verdict (before ++ []) y.drafter y.request y.command) ≡ true in
-    let Q : List Entry → Type 0 = λ b. is_accepted x.law (verdict b x.drafter x.request x.command) ≡ true in
-    subst P same (subst Q (sym (append-nil before)) (left_true (is_accepted x.law (verdict before x.drafter x.request x.command)) (is_legal_from (before ++ x ∷ []) es) h))
-accepted_from before (x ∷ es) (suc i) e h at =
-    let Q : List Entry → Type 0 = λ b. is_accepted e.law (verdict b e.drafter e.request e.command) ≡ true in
-    subst Q (append_assoc before (x ∷ []) (take i es))
-    (accepted_from (before ++ x ∷ []) es i e (right_true (is_accepted x.law (verdict before x.drafter x.request x.command)) (is_legal_from (before ++ x ∷ []) es) h) at)
-
-pub accepted_at : (es : List Entry) (i : ℕ) (e : Entry) → is_legal es ≡ true → slice_get es i ≡ Some e
-    → is_accepted e.law (verdict (take i es) e.drafter e.request e.command) ≡ true
-accepted_at es i e h at = accepted_from [] es i e h at
-
-pub one_more_taken : (es : List Entry) (i : ℕ) (e : Entry) → slice_get es i ≡ Some e → take (suc i) es ≡ take i es ++ e ∷ []
-one_more_taken [] i e at = absurd (let no : None ≡ Some e = at in cc)
-one_more_taken (x ∷ es) zero e at = ap (λ y. y ∷ []) (let same : x ≡ e = cc in same)
-one_more_taken (x ∷ es) (suc i) e at = ap (λ ys. x ∷ ys) (one_more_taken es i e at)
-
--- the law that entries make begins with that of the first of them
-laws_split : (before xs ys : List Entry) → laws_from before (xs ++ ys) ≡ laws_from before xs ++ laws_from (before ++ xs) ys
-laws_split before [] ys = ap (λ b. laws_from b ys) (sym (append-nil before))
-laws_split before (x ∷ xs) ys =
-    ap (λ l. law_of before x ++ l) (laws_split (before ++ x ∷ []) xs ys)
-    ∙ sym (append_assoc (law_of before x) (laws_from (before ++ x ∷ []) xs) (laws_from (before ++ x ∷ [] ++ xs) ys))
-    ∙ ap (λ b. law_of before x ++ laws_from (before ++ x ∷ []) xs ++ laws_from b ys) (append_assoc before (x ∷ []) xs)
-
-pub known_laws : (es : List Entry) (i v : ℕ) → front (take i es) ≡ v → laws (take i es) ≡ take v (laws es)
-known_laws es i v h =
-    sym (take-append_seam (laws (take i es)) (laws_from (take i es) (drop i es)))
-    ∙ ap (λ n. take n (laws (take i es) ++ laws_from (take i es) (drop i es))) h
-    ∙ ap (take v) (sym (laws_split [] (take i es) (drop i es)) ∙ ap laws (take-append-drop i es))
-
-take_all : {X : Type 0} (xs : List X) (n : ℕ) → length xs ≤ n → take n xs ≡ xs
-take_all [] zero h = refl
-take_all [] (suc n) h = refl
-take_all (x ∷ xs) zero h = absurd (omega arith)
-take_all (x ∷ xs) (suc n) h = ap (λ ys. x ∷ ys) (take_all xs n (omega arith))
+use Rattle.law_register.proofs.Puts.{left_true, right_true, and_true}
+use Rattle.law_register.proofs.Snoc.{first_act, laws_more, enacted_more}
 
 pub all_known : (es : List Entry) (v : ℕ) → front es ≤ v → laws es ≡ take v (laws es)
 all_known es v h = sym (take_all (laws es) v h)
 
-pub all_taken : (es : List Entry) (n : ℕ) → length es ≤ n → take n es ≡ es
-all_taken es n h = take_all es n h
-
-pub front_more : (es : List Entry) (i : ℕ) (e : Entry) → slice_get es i ≡ Some e → front (take (suc i) es) ≡ front (take i es) + law_count e.command
-front_more es i e at = ap front (one_more_taken es i e at) ∙ front_is (take i es) e
-
-pub one_taken : (es : List Entry) (i : ℕ) (e : Entry) → slice_get es i ≡ Some e → take (i + 1) es ≡ take i es ++ e ∷ []
-one_taken es i e at = ap (λ n. take n es) (later i) ∙ one_more_taken es i e at
-  where
-    later : (n : ℕ) → n + 1 ≡ suc n
-    later n = omega arith
-
-pub front_taken : (es : List Entry) (i : ℕ) (e : Entry) → slice_get es i ≡ Some e → front (take (i + 1) es) ≡ front (take i es) + law_count e.command
-front_taken es i e at = ap front (one_taken es i e at) ∙ front_is (take i es) e
-
-pub one_law : (c : Command) → law_count c ≤ 1
+one_law : (c : Command) → law_count c ≤ 1
 one_law (DraftAdd work body) = omega arith
 one_law (DraftDrop item) = omega arith
 one_law (Enact act) = omega arith
@@ -83,3 +30,110 @@ one_law (Correct id body) = omega arith
 one_law (Withdraw id) = omega arith
 one_law (Restore id) = omega arith
 one_law (File work seen) = omega arith
+
+-- the first entries of a legal register are legal
+legal_front_from : (before xs ys : List Entry) → is_legal_from before (xs ++ ys) ≡ true → is_legal_from before xs ≡ true
+legal_front_from before [] ys h = refl
+legal_front_from before (x ∷ xs) ys h =
+    let accepted = is_accepted x.law (verdict before x.drafter x.request x.command) in
+    and_true accepted (is_legal_from (before ++ x ∷ []) xs) (left_true accepted (is_legal_from (before ++ x ∷ []) (xs ++ ys)) h)
+    (legal_front_from (before ++ x ∷ []) xs ys (right_true accepted (is_legal_from (before ++ x ∷ []) (xs ++ ys)) h))
+
+-- the law up to a viewpoint is that of a legal register, too
+pub record IsPast (es : List Entry) (v : ℕ) : Type 0 where
+  pub before : List Entry
+  pub legal : is_legal before ≡ true
+  pub known : laws before ≡ take v (laws es)
+
+past_still : (es : List Entry) (e : Entry) (v : ℕ) → v ≤ front es → IsPast es v → IsPast (es ++ e ∷ []) v
+past_still es e v few past = record {
+  before = past.before;
+  legal = past.legal;
+  known = past.known ∙ sym (take-append-le v (laws es) (law_of es e) few) ∙ ap (take v) (sym (laws_more es e));
+}
+
+past_more : (es : List Entry) (e : Entry) (v : ℕ) → (is_legal es ≡ true → IsPast es v) → is_legal (es ++ e ∷ []) ≡ true → IsPast (es ++ e ∷ []) v
+past_more es e v h legal = by (at_most_or v (front es))
+  where
+    by : (v ≤ front es) ⊎ (front es < v) → IsPast (es ++ e ∷ []) v
+    by (inl few) = past_still es e v few (h (legal_front_from [] es (e ∷ []) legal))
+    by (inr many) = record {
+      before = es ++ e ∷ [];
+      legal = legal;
+      known = all_known (es ++ e ∷ []) v (omega (arith, many, front_is es e, one_law e.command));
+    }
+
+pub past_of : (es : List Entry) (v : ℕ) → is_legal es ≡ true → IsPast es v
+past_of es v = by_last (λ xs. is_legal xs ≡ true → IsPast xs v) (λ xs x. past_more xs x v) (λ legal. record { before = []; legal = refl; known = sym (take_all [] v (omega arith)) }) es
+
+-- the act of a work, if a law entry up to a viewpoint enacts it
+abbrev act_within : ℕ → Option (ℕ × Act) → Option (ℕ × Act)
+act_within v None = None
+act_within v (Some found) = cond (nat_le found.0 v) (Some found) None
+
+abbrev NumberedIn : ℕ → Option (ℕ × Act) → Type 0
+NumberedIn n None = Unit {0}
+NumberedIn n (Some found) = found.0 ≤ n
+
+above : (v n : ℕ) → v < n → nat_le n v ≡ false
+above v n h = grind (arith, nat_tests)
+
+below : (v n : ℕ) → n ≤ v → nat_le n v ≡ true
+below v n h = grind (arith, nat_tests)
+
+numbered_more : (n : ℕ) (act : Option Act) (found : Option (ℕ × Act)) → NumberedIn n found → NumberedIn (n + 1) (first_act found (enacted_or (n + 1) act None))
+numbered_more n None None h = tt
+numbered_more n (Some act) None h = omega arith
+numbered_more n act (Some found) h = omega (arith, h)
+
+numbered_in : (w : List ℕ) (ls : List Command) → NumberedIn (length ls) (enacted w ls)
+numbered_in w ls = by_last (λ xs. NumberedIn (length xs) (enacted w xs)) more tt ls
+  where
+    more : (xs : List Command) (l : Command) → NumberedIn (length xs) (enacted w xs) → NumberedIn (length (xs ++ l ∷ [])) (enacted w (xs ++ l ∷ []))
+    more xs l h =
+        subst (λ n. NumberedIn n (enacted w (xs ++ l ∷ []))) (sym (length-append xs (l ∷ [])))
+        (subst (NumberedIn (length xs + 1)) (sym (enacted_more w xs l)) (numbered_more (length xs) (enacted_by w l) (enacted w xs) h))
+
+all_within : (v : ℕ) (found : Option (ℕ × Act)) → NumberedIn v found → act_within v found ≡ found
+all_within v None h = refl
+all_within v (Some found) h = ap (λ b. cond b (Some found) None) (below v found.0 h)
+
+numbered_later : (n v : ℕ) (found : Option (ℕ × Act)) → n ≤ v → NumberedIn n found → NumberedIn v found
+numbered_later n v None few h = tt
+numbered_later n v (Some found) few h = omega (arith, few, h)
+
+none_later : (v n : ℕ) (act : Option Act) (found : Option (ℕ × Act)) → v < n → act_within v (first_act found (enacted_or n act None)) ≡ act_within v found
+none_later v n act (Some found) h = refl
+none_later v n None None h = refl
+none_later v n (Some act) None h = ap (λ b. cond b (Some (n, act)) None) (above v n h)
+
+enacted_taken : (w : List ℕ) (v : ℕ) (ls : List Command) → enacted w (take v ls) ≡ act_within v (enacted w ls)
+enacted_taken w v ls = by_last (λ xs. enacted w (take v xs) ≡ act_within v (enacted w xs)) more (ap (enacted w) (take_all [] v (omega arith))) ls
+  where
+    more : (xs : List Command) (l : Command) → enacted w (take v xs) ≡ act_within v (enacted w xs) → enacted w (take v (xs ++ l ∷ [])) ≡ act_within v (enacted w (xs ++ l ∷ []))
+    more xs l h = by (at_most_or v (length xs))
+      where
+        by : (v ≤ length xs) ⊎ (length xs < v) → enacted w (take v (xs ++ l ∷ [])) ≡ act_within v (enacted w (xs ++ l ∷ []))
+        by (inl few) =
+            ap (enacted w) (take_front xs l v few) ∙ h ∙ sym (none_later v (length xs + 1) (enacted_by w l) (enacted w xs) (omega (arith, few)))
+            ∙ sym (ap (act_within v) (enacted_more w xs l))
+        by (inr many) =
+            ap (enacted w) (take_last xs l v many)
+            ∙ sym (all_within v (enacted w (xs ++ l ∷ []))
+            (numbered_later (length (xs ++ l ∷ [])) v (enacted w (xs ++ l ∷ [])) (omega (arith, many, length-append xs (l ∷ []))) (numbered_in w (xs ++ l ∷ []))))
+
+within_stands : (es : List Entry) (v : ℕ) (m : Option EnactedMark) (found : Option (ℕ × Act)) → EnactedStands es m found → EnactedStands es (enacted_within v m) (act_within v found)
+within_stands es v None None h = tt
+within_stands es v (Some m) (Some found) h = by (nat_le m.number v) (nat_le found.0 v) (ap (λ n. nat_le n v) h.0)
+  where
+    by : (b c : Bool) → b ≡ c → EnactedStands es (cond b (Some m) None) (cond c (Some found) None)
+    by true true is = h
+    by false false is = tt
+    by true false is = absurd (let no : true ≡ false = is in cc)
+    by false true is = absurd (let no : false ≡ true = is in cc)
+within_stands es v None (Some found) h = absurd h
+within_stands es v (Some m) None h = absurd h
+
+pub act_known : (es : List Entry) (w : List ℕ) (v : ℕ) (L : List Command) (m : Option EnactedMark) → EnactedStands es m (enacted w L)
+    → EnactedStands es (enacted_within v m) (enacted w (take v L))
+act_known es w v L m h = subst (EnactedStands es (enacted_within v m)) (sym (enacted_taken w v L)) (within_stands es v m (enacted w L) h)

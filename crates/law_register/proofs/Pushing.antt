@@ -1,5 +1,5 @@
 -- The indexes stand for the entries, once an accepted entry is noted and stands behind the others.
-use Rattle.std.proofs.Common.{◌≡◌, ◌∙◌, sym, ap, subst, ℕ, suc, zero, ◌+◌, Bool, true, false, cond, List, [], ◌∷◌, ◌++◌, length, filter, map, Option, Some, None, is_some, slice_get, refl, arith}
+use Rattle.std.proofs.Common.{◌≡◌, ◌∙◌, sym, ap, subst, ℕ, suc, ◌+◌, Bool, true, cond, List, [], ◌∷◌, ◌++◌, length, filter, map, Option, Some, None, is_some, slice_get, refl, arith}
 use Rattle.std.proofs.lemmas.List.{append-nil, length-append, length-map}
 use Rattle.std.specs.Str.{bytes_eq}
 use Rattle.desk_base.specs.declared.id.Id.{Id}
@@ -11,23 +11,25 @@ use Rattle.law_register.specs.declared.indexes.BodyMark.{BodyMark}
 use Rattle.law_register.specs.declared.indexes.IdMark.{IdMark}
 use Rattle.law_register.specs.declared.indexes.Indexes.{Indexes}
 use Rattle.law_register.specs.declared.indexes.ItemMark.{ItemMark}
+use Rattle.law_register.specs.declared.indexes.StepMark.{StepMark}
 use Rattle.law_register.specs.declared.indexes.WorkMark.{WorkMark}
 use Rattle.law_register.specs.declared.modification.Modification.{Modification}
 use Rattle.law_register.specs.declared.verdict.Reply.{Reply}
 use Rattle.law_register.specs.Counted.{is_same_id}
 use Rattle.law_register.specs.Drafts.{draft_of, items_of}
-use Rattle.law_register.specs.Indexes.{told_at, work_named, body_of, marks_work, is_named, request_mark, drafter_mark, work_mark, id_mark, items_in, enacted_in, id_after, touched, work_after, enacted_after, ItemsStand, IdStands, WorkStands, BodiesStand, StandFor}
-use Rattle.law_register.specs.KnownIds.{IdFacts, facts_of, enacted, ids_of}
+use Rattle.law_register.specs.Indexes.{told_at, work_named, body_of, marks_work, is_named, request_mark, drafter_mark, work_mark, id_mark, items_in, enacted_in, last_in, id_after, touched, work_after, enacted_after, recorded_for, ItemsStand, IdStands, WorkStands, BodiesStand, StepsStand}
+use Rattle.law_register.specs.KnownIds.{facts_of, enacted, ids_of}
 use Rattle.law_register.specs.LawList.{law_command, law_of, laws, front}
-use Rattle.law_register.specs.Noting.{law_count, places, item_body, bodies_of, new_bodies, IsNoted}
+use Rattle.law_register.specs.Noting.{law_count, places, item_body, bodies_of, new_bodies, last_before, with_step, new_step, IsNoted}
 use Rattle.law_register.specs.Registers.{IsKept}
 use Rattle.law_register.specs.Sizes.{entry_size}
 use Rattle.law_register.specs.Verdicts.{reply_to, last_on, is_accepted, verdict, is_legal}
-use Rattle.law_register.proofs.IdSteps.{fresh, record_step, correct_step, withdraw_step, of_work, enact_step, keep_step, not_enacting, recorded_count, work_case, either}
+use Rattle.law_register.proofs.IdSteps.{fresh, record_stands, correct_stands, withdraw_stands, of_work, enact_step, keep_step, not_enacting, recorded_count, work_case, either}
 use Rattle.law_register.proofs.Legal.{accepted_new}
 use Rattle.law_register.proofs.Lookups.{items_filed, items_counted}
 use Rattle.law_register.proofs.Puts.{and_true}
 use Rattle.law_register.proofs.Snoc.{laws_more, size_more, legal_more, facts_more}
+use Rattle.law_register.proofs.Marking.{steps_stay, new_step_stands}
 use Rattle.law_register.proofs.Steps.{id_stays, enacted_stays, told_stays, told_last, request_step, draft_step, drafters_step, count_step}
 
 -- the marks of a record's modifications lead to them
@@ -44,6 +46,13 @@ places_stand es at place all (m ∷ ms) tells rest = (
 
     one_later : (n j : ℕ) → n + 1 + j ≡ n + suc j
     one_later n j = omega arith
+
+record_places : (es : List Entry) (e : Entry) (work : List ℕ) (mods : List Modification) → e.command ≡ Record work mods → BodiesStand (es ++ e ∷ []) (places (length es) 0 mods) mods
+record_places es e work mods is =
+    places_stand (es ++ e ∷ []) (length es) 0 mods mods (λ k. told_last (body_of k) es e ∙ ap (body_of k) is) (λ j. ap (slice_get mods) (nothing_plus j))
+  where
+    nothing_plus : (n : ℕ) → 0 + n ≡ n
+    nothing_plus n = omega arith
 
 places_count : (at place : ℕ) (ms : List Modification) → length (places at place ms) ≡ length ms
 places_count at place [] = refl
@@ -69,26 +78,23 @@ id_case es e ls draft items id m (Enact act) is drafted h =
     subst (IdStands (es ++ e ∷ []) m) (sym (facts_more id ls (Enact act))) (id_stays es e m (facts_of id ls) h)
 id_case es e ls draft items id m (Record work mods) is drafted h =
     subst (IdStands (es ++ e ∷ []) (id_after (length ls + 1) (length es) (Record work mods) (places (length es) 0 mods) id m)) (sym (facts_more id ls (Record work mods)))
-    (record_step es e work mods (places (length es) 0 mods) (length ls + 1) (length es) id m (facts_of id ls) h (fresh id ls)
-    (places_stand (es ++ e ∷ []) (length es) 0 mods mods (λ k. told_last (body_of k) es e ∙ ap (body_of k) is) (λ j. ap (slice_get mods) (nothing_plus j)))
+    (record_stands (es ++ e ∷ []) work mods (places (length es) 0 mods) (length ls + 1) (length es) id m (facts_of id ls) (id_stays es e m (facts_of id ls) h) (fresh id ls)
+    (record_places es e work mods is)
     (told_last work_named es e ∙ ap work_named is))
-  where
-    nothing_plus : (n : ℕ) → 0 + n ≡ n
-    nothing_plus n = omega arith
 id_case es e ls draft items id m (Correct other body) is drafted h =
     subst (IdStands (es ++ e ∷ []) (id_after (length ls + 1) (length es) (Correct other body) [] id m)) (sym (facts_more id ls (Correct other body)))
-    (correct_step es e body (length es) (is_same_id other id) m (facts_of id ls) h (told_last (body_of 0) es e ∙ ap (body_of 0) is))
+    (correct_stands (es ++ e ∷ []) body (length es) (is_same_id other id) m (facts_of id ls) (id_stays es e m (facts_of id ls) h) (told_last (body_of 0) es e ∙ ap (body_of 0) is))
 id_case es e ls draft items id m (Withdraw other) is drafted h =
     subst (IdStands (es ++ e ∷ []) (id_after (length ls + 1) (length es) (Withdraw other) [] id m)) (sym (facts_more id ls (Withdraw other)))
-    (withdraw_step es e (Some (length ls + 1)) (is_same_id other id) m (facts_of id ls) h)
+    (withdraw_stands (es ++ e ∷ []) (Some (length ls + 1)) (is_same_id other id) m (facts_of id ls) (id_stays es e m (facts_of id ls) h))
 id_case es e ls draft items id m (Restore other) is drafted h =
     subst (IdStands (es ++ e ∷ []) (id_after (length ls + 1) (length es) (Restore other) [] id m)) (sym (facts_more id ls (Restore other)))
-    (withdraw_step es e None (is_same_id other id) m (facts_of id ls) h)
+    (withdraw_stands (es ++ e ∷ []) None (is_same_id other id) m (facts_of id ls) (id_stays es e m (facts_of id ls) h))
 id_case es e ls draft items id m (File work seen) is drafted h =
     let bodies = map (λ (i : DraftItem). i.body) (items_of work items) in
     let marks = map item_body (filter (marks_work es work) draft) in
     subst (IdStands (es ++ e ∷ []) (id_after (length ls + 1) (length es) (File work seen) marks id m)) (sym (facts_more id ls (Record work bodies)))
-    (record_step es e work bodies marks (length ls + 1) (length es) id m (facts_of id ls) h (fresh id ls)
+    (record_stands (es ++ e ∷ []) work bodies marks (length ls + 1) (length es) id m (facts_of id ls) (id_stays es e m (facts_of id ls) h) (fresh id ls)
     (filed_stand es e (filter (marks_work es work) draft) (items_of work items) (items_filed work es draft items drafted))
     (told_last work_named es e ∙ ap work_named is))
 
@@ -155,6 +161,38 @@ pub front_is : (es : List Entry) (e : Entry) → front (es ++ e ∷ []) ≡ fron
 front_is es e =
     ap length (laws_more es e) ∙ length-append (laws es) (law_of es e) ∙ ap (λ n. front es + n) (counted (draft_of e.drafter es) e.command)
 
+-- the step of a law entry
+pub step_case : (es : List Entry) (e : Entry) (ls : List Command) (draft : List ItemMark) (items : List DraftItem) (marks : Id → Option IdMark) (works : List ℕ → Option WorkMark)
+    (bodies : List BodyMark) (steps : List StepMark) (s : StepMark) (c : Command) → e.command ≡ c → ItemsStand es draft items
+    → ((id : Id) → IdStands es (marks id) (facts_of id ls)) → ((w : List ℕ) → last_in (works w) ≡ last_on w ls)
+    → s.entry ≡ length es → s.first ≡ length bodies → s.until ≡ length bodies + length (bodies_of es (length es) draft c) → s.before ≡ last_before works (touched es marks c)
+    → StepsStand es bodies [] steps ls
+    → StepsStand (es ++ e ∷ []) (bodies ++ bodies_of es (length es) draft c) [] (with_step c s steps) (ls ++ law_command items c)
+step_case es e ls draft items marks works bodies steps s (DraftAdd work body) is drafted stand last at first until before h =
+    subst (StepsStand (es ++ e ∷ []) (bodies ++ []) [] steps) (sym (append-nil ls)) (steps_stay es e bodies [] [] steps ls h)
+step_case es e ls draft items marks works bodies steps s (DraftDrop item) is drafted stand last at first until before h =
+    subst (StepsStand (es ++ e ∷ []) (bodies ++ []) [] steps) (sym (append-nil ls)) (steps_stay es e bodies [] [] steps ls h)
+step_case es e ls draft items marks works bodies steps s (Enact act) is drafted stand last at first until before h =
+    new_step_stands es e bodies [] steps ls s (Enact act) (touched es marks (Enact act)) works (λ w. refl) last at first until before
+    (told_last (λ c. Some c) es e ∙ ap Some is, refl) h
+step_case es e ls draft items marks works bodies steps s (Record work mods) is drafted stand last at first until before h =
+    new_step_stands es e bodies (places (length es) 0 mods) steps ls s (Record work mods) (touched es marks (Record work mods)) works (λ w. refl) last at first until before
+    (told_last recorded_for es e ∙ ap recorded_for is, record_places es e work mods is) h
+step_case es e ls draft items marks works bodies steps s (File work seen) is drafted stand last at first until before h =
+    let filed = filter (marks_work es work) draft in
+    let mods = map (λ (i : DraftItem). i.body) (items_of work items) in
+    new_step_stands es e bodies (map item_body filed) steps ls s (Record work mods) (touched es marks (File work seen)) works (λ w. refl) last at first until before
+    (told_last recorded_for es e ∙ ap recorded_for is, filed_stand es e filed (items_of work items) (items_filed work es draft items drafted)) h
+step_case es e ls draft items marks works bodies steps s (Correct id body) is drafted stand last at first until before h =
+    new_step_stands es e bodies [] steps ls s (Correct id body) (touched es marks (Correct id body)) works (λ w. of_work es w (marks id) (facts_of id ls) (stand id)) last at first until before
+    (told_last (λ c. Some c) es e ∙ ap Some is, refl) h
+step_case es e ls draft items marks works bodies steps s (Withdraw id) is drafted stand last at first until before h =
+    new_step_stands es e bodies [] steps ls s (Withdraw id) (touched es marks (Withdraw id)) works (λ w. of_work es w (marks id) (facts_of id ls) (stand id)) last at first until before
+    (told_last (λ c. Some c) es e ∙ ap Some is, refl) h
+step_case es e ls draft items marks works bodies steps s (Restore id) is drafted stand last at first until before h =
+    new_step_stands es e bodies [] steps ls s (Restore id) (touched es marks (Restore id)) works (λ w. of_work es w (marks id) (facts_of id ls) (stand id)) last at first until before
+    (told_last (λ c. Some c) es e ∙ ap Some is, refl) h
+
 -- all indexes
 pub noted : (old new : Indexes) (es : List Entry) (e : Entry) (reply : Reply) → IsKept old es → is_accepted e.law (verdict es e.drafter e.request e.command) ≡ true
     → reply ≡ reply_to es e.drafter e.command → IsNoted old new es e reply → IsKept new (es ++ e ∷ [])
@@ -181,6 +219,13 @@ noted old new es e reply kept accepted replied note =
             (subst (λ m. IdStands (es ++ e ∷ []) m (facts_of i (laws es ++ law_of es e)))
             (sym (note.ids i ∙ ap (λ n. id_after (n + 1) (length es) e.command (new_bodies old es e) i (id_mark old i)) kept.stands.front))
             (id_case es e (laws es) marks items i (id_mark old i) e.command refl draft (kept.stands.ids i)));
+        steps =
+            let S : List StepMark → List BodyMark → List Command → Type 0 = λ steps bodies l. StepsStand (es ++ e ∷ []) bodies [] steps l in
+            subst (S new.steps.items new.bodies.items) (sym (laws_more es e))
+            (subst (λ bodies. S new.steps.items bodies (laws es ++ law_of es e)) (sym note.bodies)
+            (subst (λ steps. S steps (old.bodies.items ++ new_bodies old es e) (laws es ++ law_of es e)) (sym note.steps)
+            (step_case es e (laws es) marks items (id_mark old) (work_mark old) old.bodies.items old.steps.items (new_step old es e) e.command refl draft kept.stands.ids
+            (λ w. (kept.stands.works w).last) refl refl refl refl kept.stands.steps)));
         front = note.front ∙ ap (λ n. n + law_count e.command) kept.stands.front ∙ sym (front_is es e);
         size = note.size ∙ ap (λ n. n + entry_size e) kept.stands.size ∙ sym (size_more es e);
       };

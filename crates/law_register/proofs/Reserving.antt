@@ -1,16 +1,18 @@
 -- The same indexes stand for the same entries.
-use Rattle.std.proofs.Common.{◌≡◌, ◌∙◌, sym, ap, subst, ℕ, List, Option, is_some, length}
+use Rattle.std.proofs.Common.{◌∙◌, sym, ap, subst, List, [], Option, is_some, length}
 use Rattle.std.specs.Str.{bytes_eq}
 use Rattle.std.specs.Map.{lookup}
 use Rattle.law_register.specs.declared.entry.Entry.{Entry}
 use Rattle.law_register.specs.declared.indexes.DrafterMark.{DrafterMark}
+use Rattle.law_register.specs.declared.indexes.BodyMark.{BodyMark}
+use Rattle.law_register.specs.declared.indexes.StepMark.{StepMark}
 use Rattle.law_register.specs.declared.indexes.IdMark.{IdMark}
 use Rattle.law_register.specs.declared.indexes.Indexes.{Indexes}
 use Rattle.law_register.specs.declared.indexes.RequestMark.{RequestMark}
 use Rattle.law_register.specs.declared.indexes.WorkMark.{WorkMark}
 use Rattle.law_register.specs.Counted.{is_same_id}
 use Rattle.law_register.specs.Drafts.{added, draft_of}
-use Rattle.law_register.specs.Indexes.{is_request, RequestStands, DraftStands, WorkStands, IdStands, StandFor}
+use Rattle.law_register.specs.Indexes.{is_request, RequestStands, DraftStands, WorkStands, IdStands, StepsStand}
 use Rattle.law_register.specs.KnownIds.{facts_of, enacted, ids_of}
 use Rattle.law_register.specs.LawList.{laws}
 use Rattle.law_register.specs.Registers.{IsSame, IsKept}
@@ -34,6 +36,10 @@ still_kept old new es same kept = record {
     ids = λ i.
         let P : Option IdMark → Type 0 = λ m. IdStands es m (facts_of i (laws es)) in
         subst P (ap (lookup (is_same_id i)) (sym same.ids)) (kept.stands.ids i);
+    steps =
+        let P : List StepMark → Type 0 = λ steps. StepsStand es new.bodies.items [] steps (laws es) in
+        let Q : List BodyMark → Type 0 = λ bodies. StepsStand es bodies [] old.steps.items (laws es) in
+        subst P (sym same.steps) (subst Q (sym same.bodies) kept.stands.steps);
     front = same.front ∙ kept.stands.front;
     size = same.size ∙ kept.stands.size;
   };

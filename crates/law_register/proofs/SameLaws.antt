@@ -1,7 +1,7 @@
 -- Commands are the same exactly where they are equal, and so is each part of them: what is told to be the same is equal, and each
 -- is the same as itself.
-use Rattle.std.proofs.Common.{◌≡◌, ◌==◌, ◌↔◌, ℕ, Bool, true, false, ◌&&◌, List, [], ◌∷◌, Option, Some, None, refl, sym, ap, ◌∙◌, subst}
-use Rattle.std.specs.Bool.{Decides, beq}
+use Rattle.std.proofs.Common.{◌≡◌, ◌==◌, ◌↔◌, ℕ, Bool, true, false, ◌&&◌, List, Option, Some, None, refl, sym, ap, ◌∙◌, subst}
+use Rattle.std.specs.Bool.{Decides}
 use Rattle.std.specs.Cmp.{booleans_Decides}
 use Rattle.std.specs.Cmp.Lexicographic.{pointwise}
 use Rattle.std.specs.Str.{bytes_eq}
@@ -36,7 +36,7 @@ use Rattle.law_register.specs.declared.modification.ModSource.{ModSource}
 use Rattle.law_register.specs.declared.modification.Modification.{Modification}
 use Rattle.law_register.specs.declared.modification.Modification.TheVariants as kinds
 use Rattle.law_register.specs.Counted.{is_same, is_same_id}
-use Rattle.law_register.specs.Same.{same_number, same_period, same_source, same_texts, same_own, same_node, same_nodes, same_flags, same_payload, same_spot, same_pos, same_text_pos, same_split_at, same_pair, same_pairs, same_text_edit, same_edit, same_force, same_efficacy, same_modification, same_modifications, same_act, same_command}
+use Rattle.law_register.specs.Same.{same_number, same_period, same_source, same_texts, same_own, same_node, same_nodes, same_flags, same_payload, same_spot, same_pos, same_text_pos, same_split_at, same_pair, same_pairs, same_edit, same_force, same_efficacy, same_modification, same_modifications, same_act, same_command}
 
 -- a test that holds of equal values, and of no others, decides whether they are equal
 decided : {A : Type 0} (same : A → A → Bool) → ((a b : A) → same a b ≡ true → a ≡ b) → ((a : A) → same a a ≡ true)

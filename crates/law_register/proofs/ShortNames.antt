@@ -1,5 +1,5 @@
 -- The IRI of a work has 162 bytes at most.
-use Rattle.std.proofs.Common.{◌≡◌, ◌∙◌, sym, ap, ℕ, ◌+◌, ◌*◌, ◌≤◌, nat_le, nat_lt, Bool, true, false, ◌==◌, ◌&&◌, List, [], ◌∷◌, ◌++◌, length, Option, Some, None, Ok, Err, refl, subst, arith, codes}
+use Rattle.std.proofs.Common.{◌≡◌, sym, ap, ℕ, ◌+◌, ◌*◌, ◌≤◌, nat_le, true, ◌==◌, ◌&&◌, List, [], ◌∷◌, length, Some, Ok, Err, refl, subst, arith}
 use Rattle.std.proofs.lemmas.List.{length-append}
 use Rattle.std.proofs.lemmas.Bool.Decides.{nat_tests}
 use Rattle.std.specs.List.{list_all}
@@ -8,7 +8,7 @@ use Rattle.law_register.proofs.Puts.{left_true, right_true}
 use Rattle.frbr_names.specs.Dates.{spelled_date}
 use Rattle.frbr_names.specs.Rules.{is_lowercase_or_digit, is_name_byte, begins_with_letter, is_subdivision, is_jurisdiction, is_word, is_number}
 use Rattle.frbr_names.specs.Reads.{Read}
-use Rattle.frbr_names.specs.Works.{Work, WorkParts, KeepRules, SpellsWork, words_text, front_text, work_text, work_of, date_read, date_named}
+use Rattle.frbr_names.specs.Works.{Work, WorkParts, KeepRules, words_text, front_text, work_text, work_of, date_read, date_named}
 use Rattle.frbr_names.specs.declared.date.IriDate.{IriDate}
 use Rattle.frbr_names.specs.declared.date.IriDate.TheVariants.{Year, Full}
 use Rattle.frbr_names.proofs.DateLemmas.{day_is_long}

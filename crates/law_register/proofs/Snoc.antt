@@ -1,7 +1,6 @@
 -- What one more entry, or one more law entry, makes of each definition over a register.
 use Rattle.std.proofs.Common.{suc, ◌≡◌, ◌∙◌, sym, ap, ℕ, ◌+◌, ◌==◌, Bool, true, false, cond, ◌&&◌, List, [], ◌∷◌, ◌++◌, length, Option, Some, None, refl, append_assoc, arith}
-use Rattle.std.proofs.lemmas.List.{append-nil, length-append}
-use Rattle.std.specs.Prelude.{if◌then◌else◌}
+use Rattle.std.proofs.lemmas.List.{append-nil}
 use Rattle.std.specs.List.{list_any}
 use Rattle.std.specs.Str.{bytes_eq}
 use Rattle.desk_base.specs.declared.id.Id.{Id}
@@ -12,7 +11,8 @@ use Rattle.law_register.specs.declared.entry.Entry.{Entry}
 use Rattle.law_register.specs.declared.verdict.Reply.{Reply}
 use Rattle.law_register.specs.Drafts.{is_by, additions, added, redrafted, drafted_from, draft_of}
 use Rattle.law_register.specs.KnownIds.{IdFacts, facts_after, facts_from, facts_of, enacted_by, enacted_or, enacted_from, enacted, ids_recorded, ids_from, ids_of}
-use Rattle.law_register.specs.LawList.{law_of, laws_from, laws, front}
+use Rattle.law_register.specs.Listing.{numbers_from, numbers_on}
+use Rattle.law_register.specs.LawList.{law_of, laws_from, laws}
 use Rattle.law_register.specs.Sizes.{entry_size, entries_size}
 use Rattle.law_register.specs.Verdicts.{reply_to, first_found, request_from, request_of, drafters_from, drafters, concerns, last_from, last_on, is_accepted, verdict, is_legal_from, is_legal}
 
@@ -146,6 +146,21 @@ last_from_more before work last (x ∷ ls) l =
 pub last_more : (work : List ℕ) (ls : List Command) (l : Command)
     → last_on work (ls ++ l ∷ []) ≡ cond (concerns ls work l) (length ls + 1) (last_on work ls)
 last_more work ls l = last_from_more [] work 0 ls l
+
+-- the law entries that concern a work
+numbers_from_more : (before : List Command) (work found : List ℕ) (ls : List Command) (l : Command)
+    → numbers_from before work found (ls ++ l ∷ [])
+    ≡ cond (concerns (before ++ ls) work l) ((length (before ++ ls) + 1) ∷ numbers_from before work found ls) (numbers_from before work found ls)
+numbers_from_more before work found [] l = ap (λ b. cond (concerns b work l) ((length b + 1) ∷ found) found) (sym (append-nil before))
+numbers_from_more before work found (x ∷ ls) l =
+    let next : List ℕ = cond (concerns before work x) ((length before + 1) ∷ found) found in
+    let rest : List ℕ = numbers_from (before ++ x ∷ []) work next ls in
+    numbers_from_more (before ++ x ∷ []) work next ls l
+    ∙ ap (λ b. cond (concerns b work l) ((length b + 1) ∷ rest) rest) (append_assoc before (x ∷ []) ls)
+
+pub numbers_more : (work : List ℕ) (ls : List Command) (l : Command)
+    → numbers_on work (ls ++ l ∷ []) ≡ cond (concerns ls work l) ((length ls + 1) ∷ numbers_on work ls) (numbers_on work ls)
+numbers_more work ls l = numbers_from_more [] work [] ls l
 
 -- the entry of a request
 abbrev pub found_here : Bool → Entry → Reply → Option (Entry × Reply)

@@ -1,7 +1,7 @@
 -- What is known of a work by a legal register can be replayed.
-use Rattle.std.proofs.Common.{◌≡◌, ◌∙◌, sym, ap, subst, ℕ, zero, suc, ◌+◌, ◌-◌, ◌<◌, ◌==◌, Bool, true, false, cond, not, List, [], ◌∷◌, ◌++◌, length, filter, map, slice_get, Option, Some, None, option_map, refl, arith}
+use Rattle.std.proofs.Common.{◌≡◌, sym, subst, ℕ, zero, suc, ◌+◌, ◌-◌, ◌==◌, Bool, true, false, cond, not, List, [], ◌∷◌, ◌++◌, length, filter, map, slice_get, Option, Some, None, option_map, refl, arith}
 use Rattle.std.proofs.lemmas.List.{append-nil}
-use Rattle.std.specs.List.{All, slice_index_or}
+use Rattle.std.specs.List.{All}
 use Rattle.std.specs.Option.{IfSome}
 use Rattle.std.specs.Str.{bytes_eq}
 use Rattle.act_tree.specs.Branches.{branches_of}
@@ -16,15 +16,14 @@ use Rattle.law_register.specs.declared.command.Command.{Command}
 use Rattle.law_register.specs.declared.command.Command.TheVariants.{Enact, Record, Correct, Withdraw, Restore, DraftAdd, DraftDrop, File}
 use Rattle.law_register.specs.declared.draft.DraftItem.{DraftItem}
 use Rattle.law_register.specs.declared.entry.Entry.{Entry}
-use Rattle.law_register.specs.declared.known.Known.{Known}
 use Rattle.law_register.specs.declared.known.KnownMod.{KnownMod}
 use Rattle.law_register.specs.declared.modification.Modification.{Modification}
 use Rattle.law_register.specs.declared.modification.Modification.TheVariants.{Textual, Force, Efficacy}
 use Rattle.law_register.specs.Bounds.{brought_fault, payload_fault}
 use Rattle.law_register.specs.Counted.{is_same_id}
-use Rattle.law_register.specs.Drafts.{is_by, added, redrafted, draft_of, items_of, items_but}
+use Rattle.law_register.specs.Drafts.{is_by, added, redrafted, draft_of, items_of}
 use Rattle.law_register.specs.KnownIds.{IdFacts, item_at, first_facts, facts_after, facts_of, enacted, enacted_by, enacted_or, ids_of, known_as, known_ids, known_by}
-use Rattle.law_register.specs.LawList.{law_command, law_of, laws}
+use Rattle.law_register.specs.LawList.{law_command, laws}
 use Rattle.law_register.specs.Soundness.{IsSoundBody, IsSound}
 use Rattle.law_register.specs.Verdicts.{tree_rule, bad_tree, first_item, is_legal}
 use Rattle.law_register.proofs.Ascending.{known_once}

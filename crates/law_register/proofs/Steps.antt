@@ -1,33 +1,26 @@
 -- What the marks stand for, once an entry stands behind the others.
-use Rattle.std.proofs.Common.{◌≡◌, ◌∙◌, sym, ap, subst, ℕ, zero, suc, ◌+◌, ◌-◌, ◌≤◌, ◌<◌, ◌==◌, Bool, true, false, cond, ◌&&◌, ◌||◌, not, List, [], ◌∷◌, ◌++◌, length, filter, map, Option, Some, None, option_map, is_some, slice_get, refl, append_assoc, arith}
-use Rattle.std.proofs.lemmas.List.{append-nil, length-append}
-use Rattle.std.proofs.lemmas.Bool.Decides.{nat_tests}
+use Rattle.std.proofs.Common.{◌≡◌, ◌∙◌, sym, ap, subst, ℕ, zero, suc, ◌+◌, ◌==◌, Bool, true, false, cond, ◌&&◌, ◌||◌, not, List, [], ◌∷◌, ◌++◌, length, filter, Option, Some, None, slice_get, refl, arith}
+use Rattle.std.proofs.lemmas.List.{length-append}
 use Rattle.std.specs.List.{list_any}
 use Rattle.std.specs.Str.{bytes_eq}
-use Rattle.desk_base.specs.declared.id.Id.{Id}
 use Rattle.law_register.specs.declared.act.Act.{Act}
 use Rattle.law_register.specs.declared.command.Command.{Command}
 use Rattle.law_register.specs.declared.command.Command.TheVariants.{Enact, Record, Correct, Withdraw, Restore, DraftAdd, DraftDrop, File}
 use Rattle.law_register.specs.declared.draft.DraftItem.{DraftItem}
 use Rattle.law_register.specs.declared.entry.Entry.{Entry}
-use Rattle.law_register.specs.declared.indexes.BodyMark.{BodyMark}
 use Rattle.law_register.specs.declared.indexes.DrafterMark.{DrafterMark}
 use Rattle.law_register.specs.declared.indexes.EnactedMark.{EnactedMark}
 use Rattle.law_register.specs.declared.indexes.IdMark.{IdMark}
 use Rattle.law_register.specs.declared.indexes.ItemMark.{ItemMark}
 use Rattle.law_register.specs.declared.indexes.RequestMark.{RequestMark}
-use Rattle.law_register.specs.declared.indexes.WorkMark.{WorkMark}
-use Rattle.law_register.specs.declared.modification.Modification.{Modification}
 use Rattle.law_register.specs.declared.verdict.Reply.{Reply}
-use Rattle.law_register.specs.Counted.{is_same_id}
-use Rattle.law_register.specs.Drafts.{is_by, additions, added, redrafted, draft_of, items_of, items_but}
-use Rattle.law_register.specs.Indexes.{told, told_at, work_named, act_of, body_of, marks_work, is_named, RequestStands, ItemsStand, DraftStands, EnactedStands, WorkStands, IdStands, added_of, items_in, enacted_in, last_in, ids_in, recorded_from, recorded_mark, items_after, id_after, touched, work_after, enacted_after, newly_enacted, BodiesStand}
-use Rattle.law_register.specs.KnownIds.{IdFacts, item_at, first_facts, facts_after, facts_from, facts_of, enacted, enacted_by, enacted_or, ids_of, ids_recorded, ids_from_item}
-use Rattle.law_register.specs.LawList.{laws, law_command, law_of, front}
-use Rattle.law_register.specs.Verdicts.{reply_to, first_found, request_of, drafters, is_of, concerns, last_on}
-use Rattle.law_register.proofs.Lookups.{items_filter, mark_works, items_filed}
-use Rattle.law_register.proofs.Puts.{bytes_same, bytes_are, bytes_either, number_same, number_is, left_true, right_true, and_true, id_same, id_is}
-use Rattle.law_register.proofs.Snoc.{first_act, found_here, with_drafter, laws_more, added_more, draft_more, facts_more, enacted_more, ids_more, last_more, request_more, drafters_more}
+use Rattle.law_register.specs.Drafts.{is_by, additions, added, redrafted, draft_of, items_but}
+use Rattle.law_register.specs.Indexes.{told, told_at, work_named, act_of, body_of, marks_work, RequestStands, ItemsStand, DraftStands, EnactedStands, IdStands, added_of, items_in, items_after}
+use Rattle.law_register.specs.KnownIds.{IdFacts}
+use Rattle.law_register.specs.Verdicts.{reply_to, first_found, request_of, drafters}
+use Rattle.law_register.proofs.Lookups.{items_filter, mark_works}
+use Rattle.law_register.proofs.Puts.{bytes_same, bytes_either, number_same, left_true, right_true}
+use Rattle.law_register.proofs.Snoc.{found_here, added_more, draft_more, request_more, drafters_more}
 
 -- what stands at an index stays there
 pub entry_stays : (es : List Entry) (e : Entry) (i : ℕ) (x : Entry) → slice_get es i ≡ Some x → slice_get (es ++ e ∷ []) i ≡ Some x

@@ -1,5 +1,5 @@
 -- The days on which the text of a work may change.
-use Rattle.std.specs.Prelude.{ℕ, ◌==◌, nat_lt, List, [], ◌∷◌, ◌++◌, Option, Some, None, if◌then◌else◌}
+use Rattle.std.specs.Prelude.{ℕ, ◌==◌, nat_lt, List, [], ◌∷◌, Option, Some, None, if◌then◌else◌}
 use Rattle.desk_base.specs.declared.period.Period.{Period}
 use Rattle.bearing_mods.specs.declared.force.ForceEffect.{ForceEffect}
 use Rattle.bearing_mods.specs.declared.force.ForceEffect.TheVariants as force

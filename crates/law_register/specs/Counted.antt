@@ -1,5 +1,5 @@
 -- Which modifications of force and efficacy are counted for a thing on a day, and in what order.
-use Rattle.std.specs.Prelude.{ℕ, ◌==◌, Bool, true, false, ◌&&◌, nat_le, List, [], ◌∷◌, ◌++◌, if◌then◌else◌}
+use Rattle.std.specs.Prelude.{ℕ, ◌==◌, Bool, false, ◌&&◌, nat_le, List, [], ◌∷◌, if◌then◌else◌}
 use Rattle.std.specs.Str.{bytes_eq}
 use Rattle.desk_base.specs.declared.id.Id.{Id}
 use Rattle.bearing_mods.specs.Turns.{Turn, is_earlier, force_turn, efficacy_turn}

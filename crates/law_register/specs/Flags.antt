@@ -1,5 +1,5 @@
 -- The flag of a provision: whether it bears on a day.
-use Rattle.std.specs.Prelude.{ℕ, Bool, true, false, not, ◌||◌, List, [], ◌∷◌, Option, Some, None, if◌then◌else◌}
+use Rattle.std.specs.Prelude.{ℕ, Bool, true, false, ◌||◌, List, [], ◌∷◌, Option, Some, None, if◌then◌else◌}
 use Rattle.std.specs.Str.{bytes_eq}
 use Rattle.act_tree.specs.Branches.{Branch, Branches, branch, no_branches, more_branches}
 use Rattle.act_tree.specs.Changes.{root_wid}

@@ -1,5 +1,5 @@
 -- What the indexes of a register stand for.
-use Rattle.std.specs.Prelude.{◌≡◌, ◌+◌, if◌then◌else◌, ℕ, ◌==◌, Bool, false, ◌&&◌, List, [], ◌∷◌, ◌++◌, not, length, filter, slice_get, Option, Some, None, option_map, is_some}
+use Rattle.std.specs.Prelude.{◌≡◌, ◌+◌, ◌-◌, ◌≤◌, if◌then◌else◌, ℕ, ◌==◌, Bool, true, false, ◌&&◌, List, [], ◌∷◌, ◌++◌, not, length, filter, take, drop, slice_get, Option, Some, None, option_map, is_some}
 use Rattle.std.specs.List.{list_any}
 use Rattle.std.specs.Str.{bytes_eq}
 use Rattle.indexmap.specs.IndexMap.{get_by, index_map_len}
@@ -17,6 +17,7 @@ use Rattle.law_register.specs.declared.indexes.Indexes.{Indexes}
 use Rattle.law_register.specs.declared.indexes.ItemMark.{ItemMark}
 use Rattle.law_register.specs.declared.indexes.RequestKey.{RequestKey}
 use Rattle.law_register.specs.declared.indexes.RequestMark.{RequestMark}
+use Rattle.law_register.specs.declared.indexes.StepMark.{StepMark}
 use Rattle.law_register.specs.declared.indexes.WorkMark.{WorkMark}
 use Rattle.law_register.specs.declared.modification.Modification.{Modification}
 use Rattle.law_register.specs.declared.verdict.Reply.{Reply}
@@ -25,7 +26,7 @@ use Rattle.law_register.specs.Drafts.{added, draft_of}
 use Rattle.law_register.specs.KnownIds.{IdFacts, facts_of, enacted, ids_of}
 use Rattle.law_register.specs.LawList.{laws, front}
 use Rattle.law_register.specs.Sizes.{entries_size}
-use Rattle.law_register.specs.Verdicts.{request_of, drafters, last_on}
+use Rattle.law_register.specs.Verdicts.{request_of, drafters, concerns, last_on}
 
 -- what an entry's command tells, if there is an entry
 abbrev pub told : {X : Type 0} → (Command → Option X) → Option Entry → Option X
@@ -210,6 +211,39 @@ IdStands entries (Some m) (Some f) =
 IdStands entries None (Some f) = ⊥
 IdStands entries (Some m) None = ⊥
 
+-- where a law entry brings what it records
+abbrev pub bodies_at : List BodyMark → StepMark → List BodyMark
+bodies_at bodies s = take (s.until - s.first) (drop s.first bodies)
+
+-- the work for which a command records
+abbrev pub recorded_for : Command → Option (List ℕ)
+recorded_for (Record work mods) = Some work
+recorded_for (File work seen) = Some work
+recorded_for _ = None
+
+-- the entry at an index is this to the law, and its modifications are those to which marks lead
+abbrev pub LawStands : List Entry → ℕ → List BodyMark → Command → Type 0
+LawStands entries at bodies (Record work mods) = (told_at entries at recorded_for ≡ Some work) × BodiesStand entries bodies mods
+LawStands entries at bodies (File work seen) = ⊥
+LawStands entries at bodies (DraftAdd work body) = ⊥
+LawStands entries at bodies (DraftDrop item) = ⊥
+LawStands entries at bodies law = (told_at entries at (λ c. Some c) ≡ Some law) × (bodies ≡ [])
+
+-- the step of a law entry behind others leads to it, and to the last one before it that concerns the same work
+pub record StepStands (entries : List Entry) (bodies : List BodyMark) (earlier : List Command) (s : StepMark) (l : Command) : Type 0 where
+  pub law : LawStands entries s.entry (bodies_at bodies s) l
+  pub first : s.first ≤ s.until
+  pub until : s.until ≤ length bodies
+  pub before : (work : List ℕ) → concerns earlier work l ≡ true → s.before ≡ last_on work earlier
+
+-- the steps of law entries behind others
+abbrev pub StepsStand : List Entry → List BodyMark → List Command → List StepMark → List Command → Type 0
+StepsStand entries bodies before [] [] = Unit {0}
+StepsStand entries bodies before (s ∷ steps) (law ∷ laws) =
+    StepStands entries bodies before s law × StepsStand entries bodies (before ++ law ∷ []) steps laws
+StepsStand entries bodies before [] (law ∷ laws) = ⊥
+StepsStand entries bodies before (s ∷ steps) [] = ⊥
+
 -- what the indexes tell is what the definitions tell of the entries
 pub record StandFor (ix : Indexes) (entries : List Entry) : Type 0 where
   pub requests : (drafter : List ℕ) (request : ℕ) → RequestStands entries (request_mark ix drafter request) (request_of entries drafter request)
@@ -218,5 +252,6 @@ pub record StandFor (ix : Indexes) (entries : List Entry) : Type 0 where
   pub drafter_count : index_map_len ix.drafters ≡ length (drafters entries)
   pub works : (work : List ℕ) → WorkStands entries (work_mark ix work) (enacted work (laws entries)) (last_on work (laws entries)) (length (ids_of work (laws entries)))
   pub ids : (id : Id) → IdStands entries (id_mark ix id) (facts_of id (laws entries))
+  pub steps : StepsStand entries ix.bodies.items [] ix.steps.items (laws entries)
   pub front : ix.front ≡ front entries
   pub size : ix.size ≡ entries_size entries

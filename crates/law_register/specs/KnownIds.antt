@@ -1,10 +1,10 @@
 -- What is known of an id, and of a work, by the law up to a viewpoint.
-use Rattle.std.specs.Prelude.{ℕ, ◌+◌, ◌-◌, ◌==◌, Bool, false, List, [], ◌∷◌, ◌++◌, take, slice_get, Option, Some, None, option_map, is_none, if◌then◌else◌}
+use Rattle.std.specs.Prelude.{ℕ, ◌+◌, ◌-◌, ◌==◌, List, [], ◌∷◌, ◌++◌, take, slice_get, Option, Some, None, option_map, is_none, if◌then◌else◌}
 use Rattle.std.specs.Str.{bytes_eq}
 use Rattle.desk_base.specs.declared.id.Id.{Id}
 use Rattle.law_register.specs.declared.act.Act.{Act}
 use Rattle.law_register.specs.declared.command.Command.{Command}
-use Rattle.law_register.specs.declared.command.Command.TheVariants.{Enact, Record, Correct, Withdraw, Restore, DraftAdd, DraftDrop, File}
+use Rattle.law_register.specs.declared.command.Command.TheVariants.{Enact, Record, Correct, Withdraw, Restore}
 use Rattle.law_register.specs.declared.entry.Entry.{Entry}
 use Rattle.law_register.specs.declared.known.Known.{Known}
 use Rattle.law_register.specs.declared.known.KnownMod.{KnownMod}

@@ -1,7 +1,7 @@
 -- The law: the law entries in order, numbered from 1.
 use Rattle.std.specs.Prelude.{ℕ, zero, suc, Option, Some, None, List, [], ◌∷◌, ◌++◌, map, length}
 use Rattle.law_register.specs.declared.command.Command.{Command}
-use Rattle.law_register.specs.declared.command.Command.TheVariants.{Enact, Record, Correct, Withdraw, Restore, DraftAdd, DraftDrop, File}
+use Rattle.law_register.specs.declared.command.Command.TheVariants.{Record, DraftAdd, DraftDrop, File}
 use Rattle.law_register.specs.declared.draft.DraftItem.{DraftItem}
 use Rattle.law_register.specs.declared.entry.Entry.{Entry}
 use Rattle.law_register.specs.Drafts.{items_of, draft_of}

@@ -1,18 +1,20 @@
 -- What noting an entry makes of the indexes.
-use Rattle.std.specs.Prelude.{◌≡◌, ℕ, ◌+◌, ◌<◌, ◌≤◌, ◌^◌, ◌==◌, Bool, ◌&&◌, ◌||◌, List, [], ◌∷◌, length, filter, map, Some, None, is_some, if◌then◌else◌}
+use Rattle.std.specs.Prelude.{◌≡◌, ℕ, ◌+◌, ◌<◌, ◌≤◌, ◌^◌, ◌==◌, ◌&&◌, ◌||◌, List, [], ◌∷◌, ◌++◌, length, filter, map, Option, Some, None, is_some, if◌then◌else◌}
 use Rattle.std.specs.Str.{bytes_eq}
 use Rattle.indexmap.specs.IndexMap.{index_map_len}
 use Rattle.desk_base.specs.declared.id.Id.{Id}
 use Rattle.law_register.specs.declared.command.Command.{Command}
-use Rattle.law_register.specs.declared.command.Command.TheVariants.{Enact, Record, Correct, Withdraw, Restore, DraftAdd, DraftDrop, File}
+use Rattle.law_register.specs.declared.command.Command.TheVariants.{Record, DraftAdd, DraftDrop, File}
 use Rattle.law_register.specs.declared.entry.Entry.{Entry}
 use Rattle.law_register.specs.declared.indexes.BodyMark.{BodyMark}
 use Rattle.law_register.specs.declared.indexes.Indexes.{Indexes}
 use Rattle.law_register.specs.declared.indexes.ItemMark.{ItemMark}
+use Rattle.law_register.specs.declared.indexes.StepMark.{StepMark}
+use Rattle.law_register.specs.declared.indexes.WorkMark.{WorkMark}
 use Rattle.law_register.specs.declared.modification.Modification.{Modification}
 use Rattle.law_register.specs.declared.verdict.Reply.{Reply}
 use Rattle.law_register.specs.Drafts.{additions}
-use Rattle.law_register.specs.Indexes.{marks_work, request_mark, drafter_mark, work_mark, id_mark, added_of, items_in, ids_in, items_after, id_after, is_named, touched, work_after}
+use Rattle.law_register.specs.Indexes.{marks_work, request_mark, drafter_mark, work_mark, id_mark, added_of, items_in, last_in, ids_in, items_after, id_after, is_named, touched, work_after}
 use Rattle.law_register.specs.Sizes.{entry_size}
 
 -- the modifications of a record
@@ -45,6 +47,26 @@ bodies_of entries at draft _ = []
 abbrev pub new_bodies : Indexes → List Entry → Entry → List BodyMark
 new_bodies ix entries e = bodies_of entries (length entries) (items_in (drafter_mark ix e.drafter)) e.command
 
+-- the last law entry that concerns a work which a command concerns, 0 if it concerns none
+abbrev pub last_before : (List ℕ → Option WorkMark) → Option (List ℕ) → ℕ
+last_before mark None = 0
+last_before mark (Some work) = last_in (mark work)
+
+-- the steps with that of a command, if it is that of a law entry
+abbrev pub with_step : Command → StepMark → List StepMark → List StepMark
+with_step (DraftAdd work body) s steps = steps
+with_step (DraftDrop item) s steps = steps
+with_step _ s steps = steps ++ s ∷ []
+
+-- the step of an entry behind others
+abbrev pub new_step : Indexes → List Entry → Entry → StepMark
+new_step ix entries e = record {
+  entry = length entries;
+  first = length ix.bodies.items;
+  until = length ix.bodies.items + length (new_bodies ix entries e);
+  before = last_before (work_mark ix) (touched entries (id_mark ix) e.command);
+}
+
 -- all numbers stay within their types
 pub record CanNote (ix : Indexes) (e : Entry) : Type 0 where
   pub front : ix.front ≤ 65535
@@ -69,5 +91,7 @@ pub record IsNoted (old new : Indexes) (entries : List Entry) (e : Entry) (reply
       ≡ (if is_named w (touched entries (id_mark old) e.command)
       then Some (work_after (old.front + 1) (length entries) e.command (length (new_bodies old entries e)) (work_mark old w)) else work_mark old w)
   pub ids : (i : Id) → id_mark new i ≡ id_after (old.front + 1) (length entries) e.command (new_bodies old entries e) i (id_mark old i)
+  pub steps : new.steps.items ≡ with_step e.command (new_step old entries e) old.steps.items
+  pub bodies : new.bodies.items ≡ old.bodies.items ++ new_bodies old entries e
   pub front : new.front ≡ old.front + law_count e.command
   pub size : new.size ≡ old.size + entry_size e

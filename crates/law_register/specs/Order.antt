@@ -2,7 +2,6 @@
 use Rattle.std.specs.Prelude.{ℕ, ◌==◌, Bool, true, false, ◌&&◌, ◌||◌, nat_lt, List, [], ◌∷◌, map, Option, Some, None, if◌then◌else◌}
 use Rattle.std.specs.Str.{bytes_eq}
 use Rattle.desk_base.specs.declared.id.Id.{Id}
-use Rattle.desk_base.specs.declared.period.Period.{Period}
 use Rattle.frbr_names.specs.Dates.{first_day}
 use Rattle.frbr_names.specs.Works.{date_named}
 use Rattle.frbr_names.specs.declared.date.IriDate.{IriDate}

@@ -1,8 +1,5 @@
 -- A register, as a clause sees it: its entries, and for how many more it has room.
-use Rattle.std.specs.Prelude.{◌≡◌, ℕ, ◌+◌, ◌-◌, ◌/◌, min, true, List, length, refl}
-use Rattle.std.specs.Coded.{Coded, code_by, coded×, coded_ℕ, coded_list, codes}
-use Rattle.act_tree.specs.Codes.{branches_code}
-use Rattle.act_tree.specs.OwnCode.{own_code}
+use Rattle.std.specs.Prelude.{◌≡◌, ℕ, ◌-◌, ◌/◌, min, true, List, vec_len, vec_capacity}
 use Rattle.indexmap.specs.IndexMap.{spare}
 use Rattle.law_register.specs.declared.entry.Entry.{Entry}
 use Rattle.law_register.specs.declared.indexes.Indexes.{Indexes}
@@ -15,8 +12,11 @@ pub record Contents : Type 0 where
   pub spare : ℕ
 
 -- for how many more entries the indexes have room: an entry records 64 ids at most, and a drafter's mark is taken out and put back
+abbrev pub map_room : Indexes → ℕ
+map_room ix = min (spare ix.requests) (min (spare ix.drafters / 2) (min (spare ix.works) (spare ix.ids / 64)))
+
 abbrev pub index_room : Indexes → ℕ
-index_room ix = min (spare ix.requests) (min (spare ix.drafters / 2) (min (spare ix.works) (spare ix.ids / 64)))
+index_room ix = min (map_room ix) (min (vec_capacity ix.steps - vec_len ix.steps) ((vec_capacity ix.bodies - vec_len ix.bodies) / 64))
 
 -- indexes with the same entries, in the same order, and the same counts
 pub record IsSame (old new : Indexes) : Type 0 where
@@ -24,6 +24,8 @@ pub record IsSame (old new : Indexes) : Type 0 where
   pub drafters : new.drafters.entries ≡ old.drafters.entries
   pub works : new.works.entries ≡ old.works.entries
   pub ids : new.ids.entries ≡ old.ids.entries
+  pub steps : new.steps.items ≡ old.steps.items
+  pub bodies : new.bodies.items ≡ old.bodies.items
   pub front : new.front ≡ old.front
   pub size : new.size ≡ old.size
 

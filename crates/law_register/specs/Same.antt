@@ -96,15 +96,19 @@ same_pair a b = bytes_eq a.0 b.0 && bytes_eq a.1 b.1
 abbrev pub same_pairs : List (List ℕ × List ℕ) → List (List ℕ × List ℕ) → Bool
 same_pairs = pointwise same_pair
 
--- two edits of texts, or of what is split or joined
+-- two splits or joins
+abbrev pub same_cut : TextualMod → TextualMod → Bool
+same_cut (Split a at num heading) (Split b place other title) =
+    bytes_eq a b && (same_split_at at place && (bytes_eq num other && bytes_eq heading title))
+same_cut (Join a second separator) (Join b other between) =
+    bytes_eq a b && (bytes_eq second other && bytes_eq separator between)
+same_cut _ _ = false
+
+-- two edits of texts, splits or joins
 abbrev pub same_text_edit : TextualMod → TextualMod → Bool
 same_text_edit (SubstituteText a spot new) (SubstituteText b place other) = bytes_eq a b && (same_spot spot place && bytes_eq new other)
 same_text_edit (InsertText a at new) (InsertText b place other) = bytes_eq a b && (same_text_pos at place && bytes_eq new other)
-same_text_edit (Split a at num heading) (Split b place other title) =
-    bytes_eq a b && (same_split_at at place && (bytes_eq num other && bytes_eq heading title))
-same_text_edit (Join a second separator) (Join b other between) =
-    bytes_eq a b && (bytes_eq second other && bytes_eq separator between)
-same_text_edit _ _ = false
+same_text_edit a b = same_cut a b
 
 -- two edits
 abbrev pub same_edit : TextualMod → TextualMod → Bool
@@ -132,14 +136,19 @@ same_efficacy efficacy.Extra efficacy.Extra = true
 same_efficacy (efficacy.Inapplied a) (efficacy.Inapplied b) = same_period a b
 same_efficacy _ _ = false
 
+-- two modifications of force or efficacy
+abbrev pub same_bearing_modification : Modification → Modification → Bool
+same_bearing_modification (kinds.Force source thing on effect) (kinds.Force href other from change) =
+    same_source source href && (is_same thing other && ((on == from) && same_force effect change))
+same_bearing_modification (kinds.Efficacy source thing on effect) (kinds.Efficacy href other from change) =
+    same_source source href && (is_same thing other && ((on == from) && same_efficacy effect change))
+same_bearing_modification _ _ = false
+
+-- two modifications
 abbrev pub same_modification : Modification → Modification → Bool
 same_modification (kinds.Textual source own edit) (kinds.Textual href other change) =
     same_source source href && (same_period own other && same_edit edit change)
-same_modification (kinds.Force source thing on effect) (kinds.Force href other from change) =
-    same_source source href && (is_same thing other && ((on == from) && same_force effect change))
-same_modification (kinds.Efficacy source thing on effect) (kinds.Efficacy href other from change) =
-    same_source source href && (is_same thing other && ((on == from) && same_efficacy effect change))
-same_modification _ _ = false
+same_modification a b = same_bearing_modification a b
 
 abbrev pub same_modifications : List Modification → List Modification → Bool
 same_modifications = pointwise same_modification

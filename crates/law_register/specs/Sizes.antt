@@ -1,5 +1,5 @@
 -- How many bytes an entry takes where it is kept: a number of 1, 2, 4 or 8 bytes, a text behind its length, a list behind its count.
-use Rattle.std.specs.Prelude.{ℕ, ◌+◌, List, [], ◌∷◌, length, None, Some}
+use Rattle.std.specs.Prelude.{ℕ, ◌+◌, List, [], ◌∷◌, length}
 use Rattle.act_tree.specs.Branches.{Branch, Branches, branch, no_branches, more_branches, branches_of}
 use Rattle.act_tree.specs.Provisions.{Own}
 use Rattle.bearing_mods.specs.declared.efficacy.EfficacyEffect.{EfficacyEffect}

@@ -6,7 +6,6 @@ use Rattle.act_tree.specs.Branches.{branches_of}
 use Rattle.act_tree.specs.Faults.{first_fault}
 use Rattle.textual_mods.specs.Edits as edits
 use Rattle.law_register.specs.declared.known.Known.{Known}
-use Rattle.law_register.specs.declared.known.KnownMod.{KnownMod}
 use Rattle.law_register.specs.declared.modification.Modification.{Modification}
 use Rattle.law_register.specs.declared.modification.Modification.TheVariants.{Textual, Force, Efficacy}
 use Rattle.law_register.specs.Counted.{is_same_id}

@@ -102,6 +102,19 @@ pub struct IdMark {
     pub withdrawn: Option<u32>,
 }
 
+/// A law entry, as a step among those that concern its work.
+#[derive(Clone, Copy, Debug)]
+pub struct StepMark {
+    /// The index of the entry.
+    pub entry: usize,
+    /// Where the modifications that it records start, among those that all law entries record.
+    pub first: usize,
+    /// Where they end.
+    pub until: usize,
+    /// The number of the last law entry before it that concerns the same work, or 0.
+    pub before: u32,
+}
+
 /// The entries of all requests.
 pub type Requests = IndexMap<RequestKey, RequestMark>;
 
@@ -125,6 +138,10 @@ pub struct Indexes {
     pub works: Works,
     /// What is known of all ids.
     pub ids: KnownIds,
+    /// All law entries, in order.
+    pub steps: Vec<StepMark>,
+    /// The modifications that all law entries record, in order.
+    pub bodies: Vec<BodyMark>,
     /// How many law entries there are.
     pub front: u32,
     /// How many bytes all entries take.
@@ -164,6 +181,8 @@ impl Indexes {
             drafters: IndexMap::new(alloc),
             works: IndexMap::new(alloc),
             ids: IndexMap::new(alloc),
+            steps: Vec::new(alloc),
+            bodies: Vec::new(alloc),
             front: 0,
             size: 0,
         }
@@ -178,6 +197,8 @@ impl Indexes {
         self.drafters.reserve(2)?;
         self.works.reserve(1)?;
         self.ids.reserve(64)?;
+        self.steps.reserve(1)?;
+        self.bodies.reserve(64)?;
         Ok(())
     }
 

@@ -1,6 +1,6 @@
 //! Noting an entry in each of the indexes. None of these calls takes memory.
 
-ghost use Rattle.std.specs.Prelude.{◌≡◌, ◌||◌, ◌==◌, ◌&&◌, ◌+◌, ◌-◌, ◌<◌, ◌≤◌, ◌^◌, ℕ, List, [], ◌∷◌, ◌++◌, length, map, slice_get, take, drop, Option, Some, None, option_map, is_some, if◌then◌else◌};
+ghost use Rattle.std.specs.Prelude.{◌≡◌, ◌||◌, ◌==◌, ◌&&◌, ◌+◌, ◌-◌, ◌<◌, ◌≤◌, ◌^◌, ℕ, List, [], ◌∷◌, ◌++◌, length, map, slice_get, take, drop, Option, Some, None, option_map, is_some, if◌then◌else◌, vec_len, vec_capacity};
 ghost use Rattle.std.specs.Str.{bytes_eq};
 ghost use Rattle.indexmap.specs.IndexMap.{get_by, index_map_len, spare};
 ghost use Rattle.law_register.specs.Counted.{is_same_id};
@@ -11,8 +11,8 @@ ghost use Rattle.law_register.specs.Drafts.{additions};
 
 use crate::indexes::{
     BodyMark, BodyMarks, DrafterKey, DrafterMark, Drafters, EnactedMark, IdMark, Indexes, ItemMark,
-    ItemMarks, KnownIds, RequestKey, RequestMark, Requests, WorkKey, WorkMark, Works, drafter_key,
-    work_key,
+    ItemMarks, KnownIds, RequestKey, RequestMark, Requests, StepMark, WorkKey, WorkMark, Works,
+    drafter_key, work_key,
 };
 use crate::sizes::entry_size;
 use crate::{Command, Drafter, Entry, Modification, Reply, telling};
@@ -378,6 +378,48 @@ fn note_touched(
     }
 }
 
+/// The number of the last law entry that concerns a work, or 0.
+pub fn last_on(works: &Works, work: &WorkName) -> u32
+    ensures { result ≡ spec.last_in (get_by (λ k. bytes_eq work.now k.items) works.now) }
+{
+    match works.get(&work_key(work)) {
+        Some(mark) => mark.last,
+        None => 0,
+    }
+}
+
+// The same of a work that a command concerns, if it does.
+fn last_before(works: &Works, work: Option<&WorkName>) -> u32
+    ensures { result ≡ noting.last_before (λ w. get_by (λ k. bytes_eq w k.items) works.now) (option_map (λ n. n.now) work.entry) }
+{
+    match work {
+        Some(work) => last_on(works, work),
+        None => 0,
+    }
+}
+
+// Notes a command as a step, if it is that of a law entry.
+fn note_step(steps: &mut Vec<StepMark>, command: &Command, step: StepMark)
+    requires { vec_len steps.old < vec_capacity steps.old }
+    ensures { steps.new.items ≡ noting.with_step command.now step steps.old.items }
+{
+    match command {
+        Command::DraftAdd { .. } => {}
+        Command::DraftDrop { .. } => {}
+        _ => steps.push_reserved(step),
+    }
+}
+
+// Notes where modifications are brought that a law entry records.
+fn note_bodies(all: &mut Vec<BodyMark>, bodies: &[BodyMark])
+    requires { vec_len all.old + length bodies.now ≤ vec_capacity all.old }
+    ensures { all.new.items ≡ all.old.items ++ bodies.now }
+{
+    for body in bodies {
+        all.push_reserved(*body);
+    }
+}
+
 /// 1 for a law entry, 0 for an entry of a draft.
 pub fn law_count(command: &Command) -> u32
     ensures { result ≡ noting.law_count command.now }
@@ -416,6 +458,14 @@ impl Indexes {
         let command = &entry.command;
         let bodies = self.new_bodies(entries, entry);
         let work = touched(&self.ids, entries, command);
+        let step = StepMark {
+            entry: at,
+            first: self.bodies.len(),
+            until: self.bodies.len() + bodies.len(),
+            before: last_before(&self.works, work),
+        };
+        note_step(&mut self.steps, command, step);
+        note_bodies(&mut self.bodies, &bodies);
         note_touched(
             &mut self.works,
             work,

@@ -138,27 +138,11 @@ fn are_same_pairs(a: &[(Text, Num)], b: &[(Text, Num)]) -> bool
     true
 }
 
-// Whether two edits of texts, splits or joins are the same.
-fn is_same_text_edit(a: &TextualMod, b: &TextualMod) -> bool
-    ensures { result ≡ spec.same_text_edit a.now b.now }
+// Whether two splits or joins are the same.
+fn is_same_cut(a: &TextualMod, b: &TextualMod) -> bool
+    ensures { result ≡ spec.same_cut a.now b.now }
 {
     match (a, b) {
-        (
-            TextualMod::SubstituteText { wid, spot, new },
-            TextualMod::SubstituteText {
-                wid: other,
-                spot: place,
-                new: text,
-            },
-        ) => wid == other && is_same_spot(spot, place) && new == text,
-        (
-            TextualMod::InsertText { wid, at, new },
-            TextualMod::InsertText {
-                wid: other,
-                at: place,
-                new: text,
-            },
-        ) => wid == other && is_same_text_pos(at, place) && new == text,
         (
             TextualMod::Split {
                 wid,
@@ -191,6 +175,31 @@ fn is_same_text_edit(a: &TextualMod, b: &TextualMod) -> bool
             },
         ) => wid == other && second == sibling && separator == between,
         _ => false,
+    }
+}
+
+// Whether two edits of texts, splits or joins are the same.
+fn is_same_text_edit(a: &TextualMod, b: &TextualMod) -> bool
+    ensures { result ≡ spec.same_text_edit a.now b.now }
+{
+    match (a, b) {
+        (
+            TextualMod::SubstituteText { wid, spot, new },
+            TextualMod::SubstituteText {
+                wid: other,
+                spot: place,
+                new: text,
+            },
+        ) => wid == other && is_same_spot(spot, place) && new == text,
+        (
+            TextualMod::InsertText { wid, at, new },
+            TextualMod::InsertText {
+                wid: other,
+                at: place,
+                new: text,
+            },
+        ) => wid == other && is_same_text_pos(at, place) && new == text,
+        _ => is_same_cut(a, b),
     }
 }
 
@@ -236,27 +245,11 @@ fn is_same_efficacy(a: EfficacyEffect, b: EfficacyEffect) -> bool
     a == b
 }
 
-// Whether two modifications are the same.
-fn is_same_modification(a: &Modification, b: &Modification) -> bool
-    ensures { result ≡ spec.same_modification a.now b.now }
+// Whether two modifications of force or efficacy are the same.
+fn is_same_bearing_modification(a: &Modification, b: &Modification) -> bool
+    ensures { result ≡ spec.same_bearing_modification a.now b.now }
 {
     match (a, b) {
-        (
-            Modification::Textual {
-                source,
-                force,
-                edit,
-            },
-            Modification::Textual {
-                source: origin,
-                force: period,
-                edit: change,
-            },
-        ) => {
-            is_same_source(source, origin)
-                && is_same_period(*force, *period)
-                && is_same_edit(edit, change)
-        }
         (
             Modification::Force {
                 source,
@@ -296,6 +289,31 @@ fn is_same_modification(a: &Modification, b: &Modification) -> bool
                 && is_same_efficacy(*effect, *change)
         }
         _ => false,
+    }
+}
+
+// Whether two modifications are the same.
+fn is_same_modification(a: &Modification, b: &Modification) -> bool
+    ensures { result ≡ spec.same_modification a.now b.now }
+{
+    match (a, b) {
+        (
+            Modification::Textual {
+                source,
+                force,
+                edit,
+            },
+            Modification::Textual {
+                source: origin,
+                force: period,
+                edit: change,
+            },
+        ) => {
+            is_same_source(source, origin)
+                && is_same_period(*force, *period)
+                && is_same_edit(edit, change)
+        }
+        _ => is_same_bearing_modification(a, b),
     }
 }
 

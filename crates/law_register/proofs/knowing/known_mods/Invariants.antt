@@ -1,8 +1,11 @@
--- The items of the law entries passed are known.
-use Rattle.std.proofs.Common.{◌≡◌}
-use Rattle.law_register.specs.LawList.{laws}
-use Rattle.law_register.specs.Listing.{laws_known}
+-- The modifications so far, and those of the ids that are left, are all of them.
+use Rattle.std.proofs.Common.{◌≡◌, ◌++◌, drop}
+use Rattle.indexmap.specs.IndexMap.{get_by}
+use Rattle.law_register.specs.Counted.{is_same_id}
+use Rattle.law_register.specs.Listing.{known_marks}
 use Rattle.law_register.proofs.knowing.known_mods.Given as goal
 
-abbrev pub invariant-loop-law : goal.invariant-loop-law
-invariant-loop-law l = l.mods ≡ laws_known (laws l.entries) l.work l.law
+abbrev pub invariant-loop-id : goal.invariant-loop-id
+invariant-loop-id l =
+    l.mods ++ known_marks l.entries (λ i. get_by (is_same_id i) l.known.marks) (drop l.id-index l.known.ids.items)
+    ≡ known_marks l.entries (λ i. get_by (is_same_id i) l.known.marks) l.known.ids.items

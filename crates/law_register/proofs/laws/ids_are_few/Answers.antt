@@ -1,7 +1,7 @@
-use Rattle.std.proofs.Common.{◌≡◌, ◌≤◌, ap, subst, List, length}
+use Rattle.std.proofs.Common.{◌≤◌, ap, subst, List, length}
 use Rattle.law_register.specs.declared.entry.Entry.{Entry}
 use Rattle.law_register.specs.KnownIds.{ids_of}
-use Rattle.law_register.specs.LawList.{laws, front, law_numbers, first_numbers}
+use Rattle.law_register.specs.LawList.{laws}
 use Rattle.law_register.specs.Registers.{Contents}
 use Rattle.law_register.proofs.Limits.{legal_ids}
 use Rattle.law_register.proofs.laws.ids_are_few.Goals as goal

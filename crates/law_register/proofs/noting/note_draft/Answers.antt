@@ -1,7 +1,6 @@
 use Rattle.std.proofs.Common.{◌≡◌, ◌∙◌, sym, ap, ℕ, ◌+◌, cond, length, Option, Some, is_some, true, arith}
 use Rattle.std.specs.Str.{bytes_eq}
 use Rattle.std.specs.Map.{lookup}
-use Rattle.arrayvec.specs.declared.array_vec.ArrayVec.{ArrayVec}
 use Rattle.law_register.specs.declared.indexes.DrafterMark.{DrafterMark}
 use Rattle.law_register.specs.Indexes.{added_of, items_in}
 use Rattle.law_register.proofs.Puts.{bytes_are}

@@ -1,6 +1,4 @@
 use Rattle.std.proofs.Common.{arith}
-use Rattle.law_register.proofs.Limits.{can_note}
-use Rattle.law_register.proofs.Pushing.{noted}
 use Rattle.law_register.proofs.noting.note_touched.Goals as goal
 
 pub note_work-requires-clause-few : goal.note_work-requires-clause-few

@@ -2,8 +2,6 @@ use Rattle.std.proofs.Common.{◌≡◌}
 use Rattle.indexmap.specs.IndexMap.{insert_entry}
 use Rattle.law_register.specs.declared.indexes.RequestKey.{RequestKey}
 use Rattle.law_register.proofs.Puts.{on_ok, request_eq, request_put}
-use Rattle.law_register.proofs.Steps.{request_step}
-use Rattle.law_register.proofs.IdSteps.{work_case}
 use Rattle.law_register.proofs.noting.put_request.Goals as goal
 
 pub returns-clause-marks : goal.returns-clause-marks

@@ -1,5 +1,5 @@
 -- Those of the items passed are kept.
-use Rattle.std.proofs.Common.{◌≡◌, ◌==◌, ◌≤◌, not, filter, length, take}
+use Rattle.std.proofs.Common.{◌≡◌, ◌≤◌, filter, length, take}
 use Rattle.law_register.specs.Indexes.{marks_work}
 use Rattle.law_register.proofs.telling.items_of.Given as goal
 

@@ -1,6 +1,5 @@
 -- Those of the items passed are kept.
 use Rattle.std.proofs.Common.{◌≡◌, ◌==◌, ◌≤◌, not, filter, length, take}
-use Rattle.law_register.specs.Indexes.{marks_work}
 use Rattle.law_register.proofs.telling.without_item.Given as goal
 
 abbrev pub invariant-loop-mark : goal.invariant-loop-mark

@@ -1,10 +1,8 @@
-use Rattle.std.proofs.Common.{◌≡◌, ◌==◌, ◌∙◌, ap, List, filter, length}
-use Rattle.std.specs.List.{list_any}
-use Rattle.law_register.specs.Drafts.{draft_of, items_of}
-use Rattle.law_register.specs.Indexes.{drafter_mark, items_in, marks_work, ItemsStand}
+use Rattle.std.proofs.Common.{◌∙◌, ap, length}
+use Rattle.law_register.specs.Drafts.{draft_of}
+use Rattle.law_register.specs.Indexes.{drafter_mark, items_in, ItemsStand}
 use Rattle.law_register.specs.Registers.{Contents}
-use Rattle.law_register.specs.Verdicts.{has_item}
-use Rattle.law_register.proofs.Lookups.{items_length, items_any, items_counted}
+use Rattle.law_register.proofs.Lookups.{items_length}
 use Rattle.law_register.proofs.register.Register.draft_len.Goals as goal
 
 pub returns-in-Some : goal.returns-in-Some

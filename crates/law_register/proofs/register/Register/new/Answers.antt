@@ -1,4 +1,4 @@
-use Rattle.std.proofs.Common.{◌≡◌, sym, subst, List, [], refl}
+use Rattle.std.proofs.Common.{sym, subst, List, refl}
 use Rattle.law_register.specs.declared.entry.Entry.{Entry}
 use Rattle.law_register.specs.Registers.{IsKept}
 use Rattle.law_register.proofs.register.Register.new.Goals as goal

@@ -1,4 +1,4 @@
-use Rattle.std.proofs.Common.{◌≡◌, ◌∙◌, sym, ap, subst, List, ◌++◌, ◌∷◌, [], true}
+use Rattle.std.proofs.Common.{◌≡◌, ◌∙◌, sym, ap, subst, List, true}
 use Rattle.law_register.specs.declared.entry.Entry.{Entry}
 use Rattle.law_register.specs.Noting.{IsNoted}
 use Rattle.law_register.specs.Registers.{Contents, IsKept}
