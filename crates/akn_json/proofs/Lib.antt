@@ -1,4 +1,10 @@
 pub mod Decimals
 pub mod Forms
+pub mod Passing
 pub mod PrintedTexts
 pub mod PrintedValues
+pub mod Spelled
+pub mod SpelledActs
+pub mod SpelledDays
+pub mod SpelledMods
+pub mod SpelledNodes

@@ -1,9 +1,10 @@
 //! A dossier or a command is read from its bytes: a clause says which value it is, or which fault comes first.
 
-ghost use Rattle.std.specs.Prelude.{◌≤◌, IfOk};
+ghost use Rattle.std.specs.Prelude.{◌≡◌, ◌≤◌, true, IfOk};
 ghost use Rattle.serde_json.specs.Data.{depth};
 ghost use Rattle.serde_json.specs.Read.{max_depth};
 ghost use Rattle.serde_json.specs.View.{view};
+ghost use Rattle.law_register.specs.Spelling.{are_spelled_modifications, is_spelled_act, is_well_spelled};
 ghost use Rattle.akn_json.specs.Reads.{Gives, broken, or_fault};
 ghost use Rattle.akn_json.specs.CommandForms.{asked_of};
 ghost use Rattle.akn_json.specs.DossierForm as spec;
@@ -83,10 +84,12 @@ fn dossier(alloc: Global, value: &Value) -> Result<Dossier, ReadFail>
 ///
 /// The fault is the first one in the reading order: the length, the JSON text, and then the form. Of an
 /// object the kind and the keys are judged first, and then the values in the order in which the form
-/// names them.
-#[tactic(auto, unfolding(crate::specs::DossierForm::dossier_of))]
+/// names them. What is read is well spelled: the act and each modification.
+#[tactic(auto, using(crate::proofs::Spelled::spelled), unfolding(crate::specs::DossierForm::dossier_of))]
 pub fn read_dossier(alloc: Global, bytes: &[u8]) -> Result<Dossier, ReadFail>
-    ensures { Gives (λ d. d) result (dossier_of bytes.now) }
+    ensures value { Gives (λ d. d) result (dossier_of bytes.now) }
+    ensures act { IfOk result (λ d. is_spelled_act d.act ≡ true) }
+    ensures mods { IfOk result (λ d. are_spelled_modifications d.mods ≡ true) }
 {
     let value = value_of(alloc, bytes)?;
     dossier(alloc, &value)
@@ -95,10 +98,11 @@ pub fn read_dossier(alloc: Global, bytes: &[u8]) -> Result<Dossier, ReadFail>
 /// The command that bytes ask for, with its drafter and its number.
 ///
 /// The fault is the first one in the reading order, as of a dossier; the word for the kind of command is judged
-/// before the keys, which it chooses.
-#[tactic(auto, unfolding(crate::specs::CommandForms::asked_of))]
+/// before the keys, which it chooses. What is read is well spelled.
+#[tactic(auto, using(crate::proofs::Spelled::spelled), unfolding(crate::specs::CommandForms::asked_of))]
 pub fn read_command(alloc: Global, bytes: &[u8]) -> Result<Asked, ReadFail>
-    ensures { Gives (λ a. a) result (asked_of bytes.now) }
+    ensures value { Gives (λ a. a) result (asked_of bytes.now) }
+    ensures spelled { IfOk result (λ a. is_well_spelled a.command ≡ true) }
 {
     let value = value_of(alloc, bytes)?;
     command_form::asked(alloc, &value)

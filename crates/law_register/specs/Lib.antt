@@ -11,6 +11,7 @@ pub mod Answers
 pub mod Breakpoints
 pub mod Versions
 pub mod Soundness
+pub mod Spelling
 pub mod Drafters
 pub mod Bounds
 pub mod Same
