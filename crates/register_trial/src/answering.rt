@@ -1,0 +1,43 @@
+//! The line of an answer.
+
+ghost use Rattle.std.specs.Prelude.{◌≡◌, IfOk, Result};
+ghost use Rattle.law_register.specs.Answers.{Answers};
+ghost use Rattle.law_register.specs.Asking.{answer_at};
+ghost use Rattle.law_register.specs.declared.answer.Answer.{Answer};
+ghost use Rattle.law_register.specs.declared.rules.QueryRule.{QueryRule};
+ghost use Rattle.register_trial.specs.Knowing as spec;
+
+use akn_json::{put_answer, put_query_rule};
+use desk_base::{Memory, Steps};
+use law_register::{Answer, AskFault, Question, Register};
+use replay_core::FromEnacted;
+use std::alloc::Global;
+use std::sync::ledger::Ledger;
+use viewpoints::Past;
+
+// The line of an answer, or of the rule that a question breaks.
+fn answer_line(alloc: Global, told: Result<Answer, AskFault>) -> Result<Vec<u8>, Memory>
+    ensures { (answer : Result Answer QueryRule) → Answers told answer → IfOk result (λ line. line.items ≡ spec.answer_line answer) }
+{
+    match told {
+        Ok(answer) => put_answer(alloc, &answer),
+        Err(AskFault::Query(rule)) => put_query_rule(alloc, rule),
+        Err(AskFault::Memory) => Err(Memory),
+    }
+}
+
+/// The line of the answer to a question by a register.
+pub fn told_of_question<L: Ledger>(
+    alloc: Global,
+    register: &Register,
+    past: &mut Past,
+    question: &Question,
+    steps: &mut Steps<L>,
+) -> Result<Vec<u8>, Memory>
+    ensures { IfOk result (λ line. line.items ≡ spec.answer_line (answer_at register.now.entries question.now)) }
+{
+    answer_line(
+        alloc,
+        past.answer_past(alloc, &FromEnacted, register, question, steps),
+    )
+}
