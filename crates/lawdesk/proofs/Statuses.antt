@@ -1,35 +1,37 @@
 -- What a job tells of its input comes with the status of a job that is done.
-use Rattle.std.proofs.Common.{◌≡◌, ℕ, List, Option, Some, None, Result, Ok, Err, refl, subst, inl, inr}
+use Rattle.std.proofs.Common.{ℕ, List, Option, Result, Ok, Err, refl, subst, inl, inr}
 use Rattle.akn_json.specs.DossierForm.{dossier_of}
 use Rattle.akn_json.specs.declared.dossier.Dossier.{Dossier}
 use Rattle.akn_json.specs.declared.fault.FormFault.{FormFault}
-use Rattle.law_register.specs.Answers.{answer_on}
+use Rattle.law_register.specs.Asking.{answer_at}
+use Rattle.law_register.specs.LawList.{front}
+use Rattle.law_register.specs.declared.act.Act.{Act}
 use Rattle.law_register.specs.declared.answer.Answer.{Answer}
+use Rattle.law_register.specs.declared.entry.Entry.{Entry}
 use Rattle.law_register.specs.declared.question.Reading.{Reading}
 use Rattle.law_register.specs.declared.rules.QueryRule.{QueryRule}
 use Rattle.law_register.specs.declared.rules.Rule.{Rule}
+use Rattle.lawdesk.specs.Asking.{question_of}
+use Rattle.lawdesk.specs.Entering.{entries_of}
 use Rattle.lawdesk.specs.declared.job.Job.{Job}
 use Rattle.lawdesk.specs.declared.job.Job.TheVariants.{Text}
-use Rattle.lawdesk.specs.Knowing.{known_of, question_on}
-use Rattle.lawdesk.specs.Rules.{dossier_rule}
-use Rattle.lawdesk.specs.Reports.{Told, told, told_answer, told_of, told_of_text, told_unless}
+use Rattle.lawdesk.specs.Reports.{told, told_answer, told_by, told_of, told_text}
 use Rattle.lawdesk.specs.Runs.{IsDone, IsTold}
 
 told_answer-done : (answer : Result Answer QueryRule) → IsDone (told_answer answer).status
 told_answer-done (Ok answer) = inl refl
 told_answer-done (Err rule) = inr (inl refl)
 
-told_of_text-done : (day : ℕ) (reading : Reading) (dossier : Dossier) → IsDone (told_of_text day reading dossier).status
-unfolding told_of_text
-told_of_text-done day reading dossier = told_answer-done (answer_on (known_of dossier) (question_on (known_of dossier) day reading))
+told_text-done : (day : ℕ) (reading : Reading) (act : Act) (entries : List Entry) → IsDone (told_text day reading act entries).status
+unfolding told_text
+told_text-done day reading act entries = told_answer-done (answer_at entries (question_of act (front entries) day reading))
 
-told_unless-done : (rule : Option Rule) (told : Told) → IsDone told.status → IsDone (told_unless rule told).status
-told_unless-done None told h = h
-told_unless-done (Some rule) told h = inr (inl refl)
+told_by-done : (day : ℕ) (reading : Reading) (act : Act) (made : Result (List Entry) Rule) → IsDone (told_by day reading act made).status
+told_by-done day reading act (Ok entries) = told_text-done day reading act entries
+told_by-done day reading act (Err rule) = inr (inl refl)
 
 told_of-done : (day : ℕ) (reading : Reading) (read : Result Dossier FormFault) → IsDone (told_of day reading read).status
-told_of-done day reading (Ok dossier) =
-    told_unless-done (dossier_rule dossier) (told_of_text day reading dossier) (told_of_text-done day reading dossier)
+told_of-done day reading (Ok dossier) = told_by-done day reading dossier.act (entries_of dossier)
 told_of-done day reading (Err fault) = inr (inr refl)
 
 told-done : (job : Job) (input : List ℕ) → IsDone (told job input).status

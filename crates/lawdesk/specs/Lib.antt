@@ -1,5 +1,5 @@
-pub mod Rules
-pub mod Knowing
+pub mod Entering
+pub mod Asking
 pub mod Input
 pub mod Jobs
 pub mod Stops

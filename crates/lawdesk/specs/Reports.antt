@@ -1,21 +1,24 @@
 -- What the program tells of its input: a status, and the bytes that are written.
-use Rattle.std.specs.Prelude.{ℕ, List, [], ◌∷◌, ◌++◌, Option, Some, None, Result, Ok, Err}
+use Rattle.std.specs.Prelude.{ℕ, List, [], ◌∷◌, ◌++◌, Result, Ok, Err}
 use Rattle.serde_json.specs.Data.{Data}
 use Rattle.serde_json.specs.Written.{compact_text}
 use Rattle.akn_json.specs.AnswerData.{answer_data}
 use Rattle.akn_json.specs.DossierForm.{dossier_of}
 use Rattle.akn_json.specs.RefusalData.{form_fault_data, query_data, rule_data}
-use Rattle.law_register.specs.declared.rules.Rule.{Rule}
 use Rattle.akn_json.specs.declared.dossier.Dossier.{Dossier}
 use Rattle.akn_json.specs.declared.fault.FormFault.{FormFault}
+use Rattle.law_register.specs.Asking.{answer_at}
+use Rattle.law_register.specs.LawList.{front}
+use Rattle.law_register.specs.declared.act.Act.{Act}
 use Rattle.law_register.specs.declared.answer.Answer.{Answer}
+use Rattle.law_register.specs.declared.entry.Entry.{Entry}
 use Rattle.law_register.specs.declared.question.Reading.{Reading}
 use Rattle.law_register.specs.declared.rules.QueryRule.{QueryRule}
-use Rattle.law_register.specs.Answers.{answer_on}
+use Rattle.law_register.specs.declared.rules.Rule.{Rule}
+use Rattle.lawdesk.specs.Asking.{question_of}
+use Rattle.lawdesk.specs.Entering.{entries_of}
 use Rattle.lawdesk.specs.declared.job.Job.{Job}
 use Rattle.lawdesk.specs.declared.job.Job.TheVariants.{Text}
-use Rattle.lawdesk.specs.Knowing.{known_of, question_on}
-use Rattle.lawdesk.specs.Rules.{dossier_rule}
 
 -- a status, and the bytes that are written
 pub record Told : Type 0 where
@@ -31,22 +34,22 @@ abbrev pub told_answer : Result Answer QueryRule → Told
 told_answer (Ok answer) = record { status = 0; bytes = line_of (answer_data answer) }
 told_answer (Err rule) = record { status = 9; bytes = line_of (query_data rule) }
 
--- the answer of what a dossier makes known, on a day and in a reading
-unfoldable pub told_of_text : ℕ → Reading → Dossier → Told
-told_of_text day reading dossier = told_answer (answer_on (known_of dossier) (question_on (known_of dossier) day reading))
+-- the answer of these entries to the question for an act on a day, in a reading, as all of them make it known
+unfoldable pub told_text : ℕ → Reading → Act → List Entry → Told
+told_text day reading act entries = told_answer (answer_at entries (question_of act (front entries) day reading))
 
 -- a command that is refused, with the rule that it breaks
 abbrev pub told_rule : Rule → Told
 told_rule rule = record { status = 9; bytes = line_of (rule_data rule) }
 
--- the refusal where a rule is broken, and what is told of the text where none is
-abbrev pub told_unless : Option Rule → Told → Told
-told_unless None told = told
-told_unless (Some rule) told = told_rule rule
+-- the answer of the entries that were made, or the rule for which there are none
+abbrev pub told_by : ℕ → Reading → Act → Result (List Entry) Rule → Told
+told_by day reading act (Ok entries) = told_text day reading act entries
+told_by day reading act (Err rule) = told_rule rule
 
--- the rules of the commands come before those of the question
+-- what the register that a dossier makes answers; the rules of its commands come before those of the question
 abbrev pub told_on : ℕ → Reading → Dossier → Told
-told_on day reading dossier = told_unless (dossier_rule dossier) (told_of_text day reading dossier)
+told_on day reading dossier = told_by day reading dossier.act (entries_of dossier)
 
 -- bytes that are no dossier are refused with the fault that comes first
 abbrev pub told_fault : FormFault → Told

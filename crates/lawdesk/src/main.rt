@@ -1,12 +1,11 @@
 //! The program of the desk.
 #![tactic(auto)]
 
+mod entering;
 mod input;
 mod job;
-mod knowing;
 mod report;
 mod reporting;
-mod rules;
 mod run;
 mod stop;
 #[cfg(test)]

@@ -1,26 +1,25 @@
 //! Reporting: what the program tells of its input, as a status and bytes.
 
 ghost use Rattle.std.specs.Prelude.{◌≡◌, ◌++◌, ◌∷◌, [], IfOk, Result};
-ghost use Rattle.law_register.specs.Answers.{Answers, answer_on};
-ghost use Rattle.law_register.specs.Soundness.{IsSound};
+ghost use Rattle.law_register.specs.Answers.{Answers};
+ghost use Rattle.law_register.specs.Asking.{answer_at};
 ghost use Rattle.law_register.specs.declared.answer.Answer.{Answer};
 ghost use Rattle.law_register.specs.declared.rules.QueryRule.{QueryRule};
-ghost use Rattle.lawdesk.specs.Knowing.{question_on};
 ghost use Rattle.lawdesk.specs.Reports.{told, told_answer, told_on, told_rule, told_fault};
 ghost use Rattle.lawdesk.specs.Views.{report_view};
 
+use crate::entering::{EnterFault, register_of};
 use crate::job::Job;
-use crate::knowing::{known_of, question_on};
 use crate::report::Report;
-use crate::rules::dossier_rule;
 use akn_json::{
     Dossier, FormFault, ReadFail, put_answer, put_form_fault, put_query_rule, put_rule,
     read_dossier,
 };
 use desk_base::{Day, Memory, Steps};
-use law_register::{Answer, AskFault, Known, Reading, Replayer, Rule};
+use law_register::{Answer, AskFault, Question, Reading, Register, Replayer, Rule};
 use std::alloc::Global;
 use std::sync::ledger::Ledger;
+use viewpoints::Past;
 
 // A line of these bytes.
 fn line(mut bytes: Vec<u8>) -> Result<Vec<u8>, Memory>
@@ -47,21 +46,19 @@ fn report_answer(alloc: Global, told: Result<Answer, AskFault>) -> Result<Report
     }
 }
 
-// The report of the text that is known, on a day and in a reading.
-fn report_known<L: Ledger, P: Replayer>(
+// The report of what a register answers to a question.
+fn report_asked<L: Ledger, P: Replayer>(
     alloc: Global,
     replayer: &P,
-    known: &Known,
-    day: Day,
-    reading: Reading,
+    register: Register,
+    question: Question,
     steps: &mut Steps<L>,
 ) -> Result<Report, Memory>
-    requires { IsSound known.now }
-    ensures { IfOk result (λ report. report_view report ≡ told_answer (answer_on known.now (question_on known.now day reading))) }
+    ensures { IfOk result (λ report. report_view report ≡ told_answer (answer_at register.entries question)) }
 {
-    let question = question_on(known, day, reading)?;
-    let version = replayer.replay(alloc, known, reading, day, steps)?;
-    report_answer(alloc, replayer.answer_of(alloc, known, version, &question))
+    let mut past = Past::new(alloc)?;
+    let told = past.answer_past(alloc, replayer, &register, &question, steps);
+    report_answer(alloc, told)
 }
 
 // The report of a command that is refused.
@@ -75,7 +72,7 @@ fn report_rule(alloc: Global, rule: Rule) -> Result<Report, Memory>
 }
 
 // The report that a dossier gives on a day, in a reading.
-#[tactic(auto, unfolding(crate::specs::Reports::told_of_text))]
+#[tactic(auto, unfolding(crate::specs::Reports::told_text))]
 fn report_on<L: Ledger, P: Replayer>(
     alloc: Global,
     replayer: &P,
@@ -86,12 +83,22 @@ fn report_on<L: Ledger, P: Replayer>(
 ) -> Result<Report, Memory>
     ensures { IfOk result (λ report. report_view report ≡ told_on day reading dossier) }
 {
-    match dossier_rule(alloc, &dossier)? {
-        Some(rule) => report_rule(alloc, rule),
-        None => {
-            let known = known_of(alloc, dossier)?;
-            report_known(alloc, replayer, &known, day, reading, steps)
+    let work = dossier.act.work.copy()?;
+    let language = dossier.act.language;
+    match register_of(alloc, dossier) {
+        Ok(register) => {
+            let question = Question {
+                work,
+                language,
+                version: Some(day),
+                portion: None,
+                viewpoint: register.front(),
+                reading,
+            };
+            report_asked(alloc, replayer, register, question, steps)
         }
+        Err(EnterFault::Rule(rule)) => report_rule(alloc, rule),
+        Err(EnterFault::Memory) => Err(Memory),
     }
 }
 

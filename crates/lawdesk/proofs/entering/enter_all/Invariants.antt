@@ -1,0 +1,11 @@
+-- What comes of the commands that are left, behind the entries so far, is what comes of all; each has its number.
+use Rattle.std.proofs.Common.{◌≡◌, ◌+◌, length}
+use Rattle.std.specs.Vec.Iter.{into_iter_items}
+use Rattle.lawdesk.specs.Entering as spec
+use Rattle.lawdesk.proofs.entering.enter_all.Given as goal
+
+abbrev pub invariant-loop-command : goal.invariant-loop-command
+invariant-loop-command l = record {
+  counted : l.request + length (into_iter_items l.command-iterator) ≡ 1 + length l.fn.commands.items;
+  entered : spec.entered l.register.entries l.request (into_iter_items l.command-iterator) ≡ spec.entered l.initial.register.entries 1 l.fn.commands.items;
+}

@@ -1,0 +1,16 @@
+-- What is asked of the register that a dossier makes.
+use Rattle.std.specs.Prelude.{ℕ, None, Some}
+use Rattle.law_register.specs.declared.act.Act.{Act}
+use Rattle.law_register.specs.declared.question.Question.{Question}
+use Rattle.law_register.specs.declared.question.Reading.{Reading}
+
+-- the whole act on a day, in a reading, as it is known at a viewpoint
+abbrev pub question_of : Act → ℕ → ℕ → Reading → Question
+question_of act viewpoint day reading = record {
+  work = act.work;
+  language = act.language;
+  version = Some day;
+  portion = None;
+  viewpoint = viewpoint;
+  reading = reading;
+}
