@@ -6,8 +6,8 @@ use Rattle.serde_json.specs.View.{items_of, view}
 use Rattle.serde_json.specs.declared.value.Value.{Value}
 use Rattle.act_tree.specs.Branches.{branches_of}
 use Rattle.akn_json.specs.AnswerData.{node_data, nodes_data}
-use Rattle.law_register.specs.ShownNodes.{shown_view, shown_list}
-use Rattle.law_register.specs.declared.answer_node.AnswerNode.{AnswerNode}
+use Rattle.law_register.specs.Answer.ShownNodes.{shown_view, shown_list}
+use Rattle.law_register.specs.declared.answer.answer_node.AnswerNode.{AnswerNode}
 
 -- the data of a provision
 abbrev pub shown_node_data : AnswerNode → Data

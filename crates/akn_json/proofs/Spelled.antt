@@ -2,7 +2,7 @@
 use Rattle.std.proofs.Common.{◌≡◌, Bool, true, Result}
 use Rattle.std.specs.Prelude.{IfOk}
 use Rattle.serde_json.specs.Data.{Data}
-use Rattle.law_register.specs.Spelling.{is_spelled_modification, are_spelled_modifications, is_spelled_act, is_well_spelled}
+use Rattle.law_register.specs.Law.Spelling.{is_spelled_modification, are_spelled_modifications, is_spelled_act, is_well_spelled}
 use Rattle.akn_json.specs.declared.asked.Asked.{Asked}
 use Rattle.akn_json.specs.declared.dossier.Dossier.{Dossier}
 use Rattle.akn_json.specs.declared.fault.ReadFail.{ReadFail}

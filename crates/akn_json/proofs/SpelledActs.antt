@@ -7,8 +7,8 @@ use Rattle.desk_base.specs.Days.{day_of}
 use Rattle.frbr_names.specs.Expressions.{is_language}
 use Rattle.frbr_names.specs.Works.{date_named}
 use Rattle.frbr_names.proofs.WorkLemmas.{named_date}
-use Rattle.law_register.specs.declared.act.Act.{Act}
-use Rattle.law_register.specs.Spelling.{is_spelled_day, is_spelled_payload, is_spelled_act}
+use Rattle.law_register.specs.declared.law.act.Act.{Act}
+use Rattle.law_register.specs.Law.Spelling.{is_spelled_day, is_spelled_payload, is_spelled_act}
 use Rattle.akn_json.specs.Reads.{Read, ◌>>=◌}
 use Rattle.akn_json.specs.Fields.{text_in}
 use Rattle.akn_json.specs.Works.{agrees, act_day_in}

@@ -7,7 +7,7 @@ use Rattle.desk_base.proofs.DayLaws.{day_spelled}
 use Rattle.frbr_names.specs.Dates.{spelled_date, IsDate}
 use Rattle.frbr_names.specs.declared.date.IriDate.{IriDate}
 use Rattle.frbr_names.specs.declared.date.IriDate.TheVariants.{Year, Full}
-use Rattle.law_register.specs.Spelling.{agrees_with}
+use Rattle.law_register.specs.Law.Spelling.{agrees_with}
 use Rattle.akn_json.specs.Works.{agrees}
 
 last_by-le : (first : ℕ → ℕ) (last n : ℕ) → last_by first last n ≤ last

@@ -4,11 +4,11 @@ use Rattle.std.proofs.lemmas.Bool.{eq-eqb}
 use Rattle.serde_json.specs.Data.{Data, Items, no_items, item}
 use Rattle.serde_json.specs.Find.{get}
 use Rattle.bearing_mods.specs.declared.efficacy.EfficacyEffect.TheVariants as made
-use Rattle.law_register.specs.declared.modification.ModSource.{ModSource}
-use Rattle.law_register.specs.declared.modification.Destination.{Destination}
-use Rattle.law_register.specs.declared.modification.Modification.{Modification}
-use Rattle.law_register.specs.declared.modification.Modification.TheVariants.{Efficacy}
-use Rattle.law_register.specs.Spelling.{is_spelled_payload, is_spelled_edit, is_spelled_effect, is_spelled_modification, are_spelled_modifications}
+use Rattle.law_register.specs.declared.law.modification.ModSource.{ModSource}
+use Rattle.law_register.specs.declared.law.modification.Destination.{Destination}
+use Rattle.law_register.specs.declared.law.modification.Modification.{Modification}
+use Rattle.law_register.specs.declared.law.modification.Modification.TheVariants.{Efficacy}
+use Rattle.law_register.specs.Law.Spelling.{is_spelled_payload, is_spelled_edit, is_spelled_effect, is_spelled_modification, are_spelled_modifications}
 use Rattle.akn_json.specs.declared.reading.bearing_kind.EfficacyKind.{EfficacyKind}
 use Rattle.akn_json.specs.declared.reading.bearing_kind.EfficacyKind.TheVariants as kind
 use Rattle.akn_json.specs.declared.reading.edit_form.EditForm.{EditForm}

@@ -8,7 +8,7 @@ use Rattle.frbr_names.specs.Expressions.{Expression, expression_of}
 use Rattle.frbr_names.specs.Reads.{Read as NameRead}
 use Rattle.act_tree.specs.Branches.{Branch, branch, branches_of}
 use Rattle.act_tree.specs.Provisions.{Own}
-use Rattle.law_register.specs.Spelling.{is_spelled_ref, is_spelled_node, is_spelled_payload}
+use Rattle.law_register.specs.Law.Spelling.{is_spelled_ref, is_spelled_node, is_spelled_payload}
 use Rattle.akn_json.specs.declared.reading.key.Key.TheVariants as key
 use Rattle.akn_json.specs.Keys.{key_name}
 use Rattle.akn_json.specs.Reads.{Read, ◌>>=◌}

@@ -6,7 +6,7 @@ use Rattle.serde_json.specs.Data.{Data}
 use Rattle.eid_paths.specs.declared.numbering.Numbering.{Numbering}
 use Rattle.eid_paths.specs.declared.numbering.TheConstants.Numbering.{DEFAULT}
 use Rattle.eid_paths.specs.Numberings.{numbering_of}
-use Rattle.law_register.specs.declared.act.Act.{Act}
+use Rattle.law_register.specs.declared.law.act.Act.{Act}
 use Rattle.akn_json.specs.declared.fault.FormRule.TheVariants.{BadName}
 use Rattle.akn_json.specs.declared.reading.key.Key.TheVariants as key
 use Rattle.akn_json.specs.Reads.{Read, ◌>>=◌, ◌>>◌, broken, unless_broken}

@@ -10,10 +10,10 @@ use Rattle.act_tree.specs.declared.cause.Cause.{Cause}
 use Rattle.eid_paths.specs.Elements.{element_name}
 use Rattle.act_tree.specs.Causes.{cause_name}
 use Rattle.act_tree.specs.Branches.{Branch, Branches, branch, no_branches, more_branches, branches_of}
-use Rattle.law_register.specs.Shown.{Shown}
-use Rattle.law_register.specs.Questions.{reading_name}
-use Rattle.law_register.specs.declared.question.Question.{Question}
-use Rattle.law_register.specs.declared.answer.Answer.{Answer}
+use Rattle.law_register.specs.Answer.Shown.{Shown}
+use Rattle.law_register.specs.Answer.Questions.{reading_name}
+use Rattle.law_register.specs.declared.answer.question.Question.{Question}
+use Rattle.law_register.specs.declared.answer.answer.Answer.{Answer}
 
 -- texts, as the items of a list
 abbrev pub texts_data : List (List ℕ) → Items

@@ -7,10 +7,10 @@ use Rattle.bearing_mods.specs.declared.force.ForceEffect.{ForceEffect}
 use Rattle.bearing_mods.specs.declared.force.ForceEffect.TheVariants as effect
 use Rattle.bearing_mods.specs.declared.efficacy.EfficacyEffect.{EfficacyEffect}
 use Rattle.bearing_mods.specs.declared.efficacy.EfficacyEffect.TheVariants as made
-use Rattle.law_register.specs.declared.modification.Destination.{Destination}
-use Rattle.law_register.specs.declared.modification.Destination.TheVariants as destination
-use Rattle.law_register.specs.declared.modification.Modification.{Modification}
-use Rattle.law_register.specs.declared.modification.Modification.TheVariants.{Force, Efficacy}
+use Rattle.law_register.specs.declared.law.modification.Destination.{Destination}
+use Rattle.law_register.specs.declared.law.modification.Destination.TheVariants as destination
+use Rattle.law_register.specs.declared.law.modification.Modification.{Modification}
+use Rattle.law_register.specs.declared.law.modification.Modification.TheVariants.{Force, Efficacy}
 use Rattle.akn_json.specs.declared.fault.FormRule.TheVariants.{WrongShape, UnknownWord}
 use Rattle.akn_json.specs.declared.reading.bearing_kind.ForceKind.{ForceKind}
 use Rattle.akn_json.specs.declared.reading.bearing_kind.ForceKind.TheVariants as force

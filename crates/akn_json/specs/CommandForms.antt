@@ -3,10 +3,10 @@
 use Rattle.std.specs.Prelude.{ℕ, List, [], ◌∷◌, Ok}
 use Rattle.serde_json.specs.Data.{Data}
 use Rattle.desk_base.specs.declared.id.Id.{Id}
-use Rattle.law_register.specs.Drafters.{drafter_of}
-use Rattle.law_register.specs.declared.command.Command.{Command}
-use Rattle.law_register.specs.declared.command.Command.TheVariants as command
-use Rattle.law_register.specs.declared.modification.Modification.{Modification}
+use Rattle.law_register.specs.Register.Drafters.{drafter_of}
+use Rattle.law_register.specs.declared.law.command.Command.{Command}
+use Rattle.law_register.specs.declared.law.command.Command.TheVariants as command
+use Rattle.law_register.specs.declared.law.modification.Modification.{Modification}
 use Rattle.akn_json.specs.declared.asked.Asked.{Asked}
 use Rattle.akn_json.specs.declared.fault.FormRule.TheVariants.{BadName, UnknownWord}
 use Rattle.akn_json.specs.declared.reading.command_kind.CommandKind.{CommandKind}

@@ -3,8 +3,8 @@ use Rattle.std.specs.Prelude.{ℕ, ◌+◌, Bool, true, false, List, [], ◌∷�
 use Rattle.serde_json.specs.Data.{Data, Items, no_items, item, Members, no_members, member}
 use Rattle.serde_json.specs.Find.{get, as_object}
 use Rattle.akn_json.specs.declared.fault.FormRule.TheVariants.{WrongShape}
-use Rattle.law_register.specs.declared.modification.Modification.{Modification}
-use Rattle.law_register.specs.declared.modification.Modification.TheVariants.{Textual}
+use Rattle.law_register.specs.declared.law.modification.Modification.{Modification}
+use Rattle.law_register.specs.declared.law.modification.Modification.TheVariants.{Textual}
 use Rattle.akn_json.specs.EditKinds.{kind_in, form_in}
 use Rattle.akn_json.specs.EditForms.{keys_in, edit_in}
 use Rattle.akn_json.specs.declared.reading.key.Key.TheVariants as key

@@ -6,12 +6,13 @@ use Rattle.desk_base.specs.Days.{day_text}
 use Rattle.desk_base.specs.Ids.{id_text}
 use Rattle.act_tree.specs.Faults.{fault_number}
 use Rattle.akn_json.specs.Faults.{rule_number, rule_name}
-use Rattle.law_register.specs.Queries.{query_number, query_name, register_number, register_name}
-use Rattle.law_register.specs.declared.rules.Rule.{Rule}
+use Rattle.law_register.specs.Answer.Queries.{query_number, query_name}
+use Rattle.law_register.specs.Register.Rules.{register_number, register_name}
+use Rattle.law_register.specs.declared.register.rules.Rule.{Rule}
 use Rattle.akn_json.specs.declared.fault.FormFault.{FormFault}
-use Rattle.law_register.specs.declared.rules.QueryRule.{QueryRule}
-use Rattle.law_register.specs.declared.rules.QueryRule.TheVariants.{UnknownWork, ViewpointAhead, NotYetEnacted, OtherLanguage, UnknownPortion}
-use Rattle.law_register.specs.declared.rules.Rule.TheVariants as rules
+use Rattle.law_register.specs.declared.answer.queries.QueryRule.{QueryRule}
+use Rattle.law_register.specs.declared.answer.queries.QueryRule.TheVariants.{UnknownWork, ViewpointAhead, NotYetEnacted, OtherLanguage, UnknownPortion}
+use Rattle.law_register.specs.declared.register.rules.Rule.TheVariants as rules
 
 -- a number
 abbrev pub number_data : ℕ → Data

@@ -9,7 +9,7 @@ use Rattle.frbr_names.specs.Reads.{Read as NameRead}
 use Rattle.frbr_names.specs.Works.{Work, work_of, date_named}
 use Rattle.frbr_names.specs.declared.date.IriDate.{IriDate}
 use Rattle.frbr_names.specs.declared.date.IriDate.TheVariants.{Year, Full}
-use Rattle.law_register.specs.declared.modification.ModSource.{ModSource}
+use Rattle.law_register.specs.declared.law.modification.ModSource.{ModSource}
 use Rattle.akn_json.specs.declared.fault.FormRule.TheVariants.{BadName, BadDay, DateDiffers}
 use Rattle.akn_json.specs.Reads.{Read, ◌>>=◌, ◌>>◌, broken, or_fault, unless_broken}
 use Rattle.akn_json.specs.declared.reading.key.Key.TheVariants as key

@@ -4,7 +4,7 @@ ghost use Rattle.std.specs.Prelude.{◌≡◌, ◌≤◌, true, IfOk};
 ghost use Rattle.serde_json.specs.Data.{depth};
 ghost use Rattle.serde_json.specs.Read.{max_depth};
 ghost use Rattle.serde_json.specs.View.{view};
-ghost use Rattle.law_register.specs.Spelling.{are_spelled_modifications, is_spelled_act, is_well_spelled};
+ghost use Rattle.law_register.specs.Law.Spelling.{are_spelled_modifications, is_spelled_act, is_well_spelled};
 ghost use Rattle.akn_json.specs.Reads.{Gives, broken, or_fault};
 ghost use Rattle.akn_json.specs.CommandForms.{asked_of};
 ghost use Rattle.akn_json.specs.DossierForm as spec;

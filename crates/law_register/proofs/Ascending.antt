@@ -4,13 +4,13 @@ use Rattle.std.proofs.lemmas.Bool.Decides.{nat_tests}
 use Rattle.std.specs.List.{list_any}
 use Rattle.std.specs.Str.{bytes_eq}
 use Rattle.desk_base.specs.declared.id.Id.{Id}
-use Rattle.law_register.specs.declared.command.Command.{Command}
-use Rattle.law_register.specs.declared.command.Command.TheVariants.{Enact, Record, Correct, Withdraw, Restore, DraftAdd, DraftDrop, File}
-use Rattle.law_register.specs.declared.known.KnownMod.{KnownMod}
-use Rattle.law_register.specs.declared.modification.Modification.{Modification}
-use Rattle.law_register.specs.Counted.{is_same_id}
-use Rattle.law_register.specs.KnownIds.{IdFacts, facts_of, ids_from_item, ids_recorded, ids_from, ids_of, known_as, known_ids}
-use Rattle.law_register.specs.Soundness.{id_twice}
+use Rattle.law_register.specs.declared.law.command.Command.{Command}
+use Rattle.law_register.specs.declared.law.command.Command.TheVariants.{Enact, Record, Correct, Withdraw, Restore, DraftAdd, DraftDrop, File}
+use Rattle.law_register.specs.declared.register.known.KnownMod.{KnownMod}
+use Rattle.law_register.specs.declared.law.modification.Modification.{Modification}
+use Rattle.law_register.specs.Answer.Counted.{is_same_id}
+use Rattle.law_register.specs.Register.KnownIds.{IdFacts, facts_of, ids_from_item, ids_recorded, ids_from, ids_of, known_as, known_ids}
+use Rattle.law_register.specs.Answer.Soundness.{id_twice}
 
 -- an id comes at this item of this law entry, or later
 abbrev pub Later : ℕ → ℕ → Id → Type 0

@@ -2,14 +2,14 @@
 use Rattle.std.proofs.Common.{◌≡◌, sym, ap, subst, Bool, List, [], length, Option, None, is_some, refl}
 use Rattle.std.specs.Str.{bytes_eq}
 use Rattle.std.specs.Map.{lookup}
-use Rattle.law_register.specs.declared.indexes.DrafterMark.{DrafterMark}
-use Rattle.law_register.specs.declared.indexes.IdMark.{IdMark}
-use Rattle.law_register.specs.declared.indexes.Indexes.{Indexes}
-use Rattle.law_register.specs.declared.indexes.RequestMark.{RequestMark}
-use Rattle.law_register.specs.declared.indexes.StepMark.{StepMark}
-use Rattle.law_register.specs.declared.indexes.WorkMark.{WorkMark}
-use Rattle.law_register.specs.Counted.{is_same_id}
-use Rattle.law_register.specs.Indexes.{is_request, RequestStands, DraftStands, WorkStands, IdStands, StepsStand, StandFor}
+use Rattle.law_register.specs.declared.register.indexes.DrafterMark.{DrafterMark}
+use Rattle.law_register.specs.declared.register.indexes.IdMark.{IdMark}
+use Rattle.law_register.specs.declared.register.indexes.Indexes.{Indexes}
+use Rattle.law_register.specs.declared.register.indexes.RequestMark.{RequestMark}
+use Rattle.law_register.specs.declared.register.indexes.StepMark.{StepMark}
+use Rattle.law_register.specs.declared.register.indexes.WorkMark.{WorkMark}
+use Rattle.law_register.specs.Answer.Counted.{is_same_id}
+use Rattle.law_register.specs.Register.Indexes.{is_request, RequestStands, DraftStands, WorkStands, IdStands, StepsStand, StandFor}
 
 nothing : {K X : Type 0} (test : K → Bool) (es : List (K × X)) → es ≡ [] → None ≡ lookup test es
 nothing test es e = ap (lookup test) (sym e)

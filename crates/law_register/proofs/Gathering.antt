@@ -2,18 +2,18 @@
 use Rattle.std.proofs.Common.{◌≡◌, ◌∙◌, sym, ap, subst, ℕ, suc, ◌+◌, ◌-◌, ◌≤◌, ◌<◌, List, [], ◌∷◌, ◌++◌, length, take, Option, Some, None, slice_get, refl, arith}
 use Rattle.std.proofs.lemmas.List.{append-nil}
 use Rattle.desk_base.specs.declared.id.Id.{Id}
-use Rattle.law_register.specs.declared.command.Command.{Command}
-use Rattle.law_register.specs.declared.entry.Entry.{Entry}
-use Rattle.law_register.specs.declared.indexes.BodyMark.{BodyMark}
-use Rattle.law_register.specs.declared.indexes.IdMark.{IdMark}
-use Rattle.law_register.specs.declared.indexes.Indexes.{Indexes}
-use Rattle.law_register.specs.declared.indexes.StepMark.{StepMark}
-use Rattle.law_register.specs.Indexes.{bodies_at, IdStands, StepStands}
-use Rattle.law_register.specs.KnownIds.{IdFacts, facts_after, facts_of, ids_recorded, ids_of}
-use Rattle.law_register.specs.LawList.{laws}
-use Rattle.law_register.specs.Listing.{numbers_on, own_facts, id_told, ids_marked}
-use Rattle.law_register.specs.Registers.{IsKept}
-use Rattle.law_register.specs.Verdicts.{last_on}
+use Rattle.law_register.specs.declared.law.command.Command.{Command}
+use Rattle.law_register.specs.declared.register.entry.Entry.{Entry}
+use Rattle.law_register.specs.declared.register.indexes.BodyMark.{BodyMark}
+use Rattle.law_register.specs.declared.register.indexes.IdMark.{IdMark}
+use Rattle.law_register.specs.declared.register.indexes.Indexes.{Indexes}
+use Rattle.law_register.specs.declared.register.indexes.StepMark.{StepMark}
+use Rattle.law_register.specs.Register.Indexes.{bodies_at, IdStands, StepStands}
+use Rattle.law_register.specs.Register.KnownIds.{IdFacts, facts_after, facts_of, ids_recorded, ids_of}
+use Rattle.law_register.specs.Register.LawList.{laws}
+use Rattle.law_register.specs.Register.Listing.{numbers_on, own_facts, id_told, ids_marked}
+use Rattle.law_register.specs.Register.Registers.{IsKept}
+use Rattle.law_register.specs.Register.Verdicts.{last_on}
 use Rattle.law_register.proofs.Chains.{IsNext, IsTurn, last_within, quiet_first, turn_of, turns_over}
 use Rattle.law_register.proofs.IdSteps.{fresh}
 use Rattle.law_register.proofs.Listed.{legal_records}

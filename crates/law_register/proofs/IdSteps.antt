@@ -4,19 +4,19 @@ use Rattle.std.proofs.lemmas.List.{length-append}
 use Rattle.std.proofs.lemmas.Bool.Decides.{nat_tests}
 use Rattle.std.specs.Str.{bytes_eq}
 use Rattle.desk_base.specs.declared.id.Id.{Id}
-use Rattle.law_register.specs.declared.act.Act.{Act}
-use Rattle.law_register.specs.declared.command.Command.{Command}
-use Rattle.law_register.specs.declared.command.Command.TheVariants.{Enact, Record, Correct, Withdraw, Restore, DraftAdd, DraftDrop, File}
-use Rattle.law_register.specs.declared.entry.Entry.{Entry}
-use Rattle.law_register.specs.declared.indexes.BodyMark.{BodyMark}
-use Rattle.law_register.specs.declared.indexes.EnactedMark.{EnactedMark}
-use Rattle.law_register.specs.declared.indexes.IdMark.{IdMark}
-use Rattle.law_register.specs.declared.indexes.WorkMark.{WorkMark}
-use Rattle.law_register.specs.declared.modification.Modification.{Modification}
-use Rattle.law_register.specs.Counted.{is_same_id}
-use Rattle.law_register.specs.Indexes.{told_at, work_named, act_of, body_of, is_named, EnactedStands, WorkStands, IdStands, enacted_in, last_in, ids_in, recorded_from, recorded_mark, corrected, with_withdrawn, work_of_mark, work_after, enacted_after, newly_enacted, BodiesStand}
-use Rattle.law_register.specs.KnownIds.{IdFacts, item_at, first_facts, facts_after, facts_from, facts_of, enacted, enacted_by, enacted_or, ids_of, ids_recorded, ids_from_item}
-use Rattle.law_register.specs.Verdicts.{is_of, concerns, last_on}
+use Rattle.law_register.specs.declared.law.act.Act.{Act}
+use Rattle.law_register.specs.declared.law.command.Command.{Command}
+use Rattle.law_register.specs.declared.law.command.Command.TheVariants.{Enact, Record, Correct, Withdraw, Restore, DraftAdd, DraftDrop, File}
+use Rattle.law_register.specs.declared.register.entry.Entry.{Entry}
+use Rattle.law_register.specs.declared.register.indexes.BodyMark.{BodyMark}
+use Rattle.law_register.specs.declared.register.indexes.EnactedMark.{EnactedMark}
+use Rattle.law_register.specs.declared.register.indexes.IdMark.{IdMark}
+use Rattle.law_register.specs.declared.register.indexes.WorkMark.{WorkMark}
+use Rattle.law_register.specs.declared.law.modification.Modification.{Modification}
+use Rattle.law_register.specs.Answer.Counted.{is_same_id}
+use Rattle.law_register.specs.Register.Indexes.{told_at, work_named, act_of, body_of, is_named, EnactedStands, WorkStands, IdStands, enacted_in, last_in, ids_in, recorded_from, recorded_mark, corrected, with_withdrawn, work_of_mark, work_after, enacted_after, newly_enacted, BodiesStand}
+use Rattle.law_register.specs.Register.KnownIds.{IdFacts, item_at, first_facts, facts_after, facts_from, facts_of, enacted, enacted_by, enacted_or, ids_of, ids_recorded, ids_from_item}
+use Rattle.law_register.specs.Register.Verdicts.{is_of, concerns, last_on}
 use Rattle.law_register.proofs.Puts.{number_either, number_same, number_is}
 use Rattle.law_register.proofs.Snoc.{first_act, enacted_more, ids_more, last_more}
 use Rattle.law_register.proofs.Steps.{enacted_stays, told_last}

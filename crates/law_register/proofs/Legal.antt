@@ -2,20 +2,20 @@
 use Rattle.std.proofs.Common.{◌≡◌, sym, ap, subst, ℕ, ◌+◌, ◌≤◌, nat_le, nat_lt, Bool, true, false, cond, ◌&&◌, ◌||◌, List, [], ◌∷◌, ◌++◌, length, Option, Some, None, refl, append_assoc, arith}
 use Rattle.std.proofs.lemmas.List.{append-nil, length-append}
 use Rattle.std.proofs.lemmas.Bool.Decides.{nat_tests}
-use Rattle.law_register.specs.declared.command.Command.{Command}
-use Rattle.law_register.specs.declared.command.Command.TheVariants.{Enact, Record, Correct, Withdraw, Restore, DraftAdd, DraftDrop, File}
-use Rattle.law_register.specs.declared.draft.DraftItem.{DraftItem}
-use Rattle.law_register.specs.declared.entry.Entry.{Entry}
-use Rattle.law_register.specs.declared.rules.Rule.{Rule}
-use Rattle.law_register.specs.declared.rules.Rule.TheVariants.{LawFull, NumberReused}
-use Rattle.law_register.specs.declared.verdict.Reply.{Reply}
-use Rattle.law_register.specs.declared.verdict.Verdict.TheVariants.{Accepted, Repeat, Refused}
-use Rattle.law_register.specs.Drafts.{additions, added, is_by, draft_of}
-use Rattle.law_register.specs.LawList.{law_command, law_of, laws, front}
-use Rattle.law_register.specs.Same.{same_command, same_number}
-use Rattle.law_register.specs.Sizes.{name_size, command_size, size_of, entry_size, entries_size}
-use Rattle.law_register.specs.Verdicts as v
-use Rattle.law_register.specs.Verdicts.{rule_or, broken_where, again, refused_or, reply_to, law_number, request_of, first_rule, verdict_by, verdict, is_accepted, is_legal_from, is_legal}
+use Rattle.law_register.specs.declared.law.command.Command.{Command}
+use Rattle.law_register.specs.declared.law.command.Command.TheVariants.{Enact, Record, Correct, Withdraw, Restore, DraftAdd, DraftDrop, File}
+use Rattle.law_register.specs.declared.register.draft.DraftItem.{DraftItem}
+use Rattle.law_register.specs.declared.register.entry.Entry.{Entry}
+use Rattle.law_register.specs.declared.register.rules.Rule.{Rule}
+use Rattle.law_register.specs.declared.register.rules.Rule.TheVariants.{LawFull, NumberReused}
+use Rattle.law_register.specs.declared.register.verdict.Reply.{Reply}
+use Rattle.law_register.specs.declared.register.verdict.Verdict.TheVariants.{Accepted, Repeat, Refused}
+use Rattle.law_register.specs.Register.Drafts.{additions, added, is_by, draft_of}
+use Rattle.law_register.specs.Register.LawList.{law_command, law_of, laws, front}
+use Rattle.law_register.specs.Law.Same.{same_command, same_number}
+use Rattle.law_register.specs.Law.Sizes.{name_size, command_size, size_of, entry_size, entries_size}
+use Rattle.law_register.specs.Register.Verdicts as v
+use Rattle.law_register.specs.Register.Verdicts.{rule_or, broken_where, again, refused_or, reply_to, law_number, request_of, first_rule, verdict_by, verdict, is_accepted, is_legal_from, is_legal}
 use Rattle.law_register.proofs.Puts.{left_true, right_true}
 use Rattle.law_register.proofs.Snoc.{laws_more, size_more}
 

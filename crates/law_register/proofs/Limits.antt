@@ -3,23 +3,23 @@ use Rattle.std.proofs.Common.{◌≡◌, ◌∙◌, sym, ap, subst, ℕ, ◌+◌
 use Rattle.std.proofs.lemmas.List.{append-nil, length-append, length-map}
 use Rattle.std.proofs.lemmas.Bool.Decides.{nat_tests}
 use Rattle.std.specs.Str.{bytes_eq}
-use Rattle.law_register.specs.declared.command.Command.{Command}
-use Rattle.law_register.specs.declared.command.Command.TheVariants.{Enact, Record, Correct, Withdraw, Restore, DraftAdd, DraftDrop, File}
-use Rattle.law_register.specs.declared.draft.DraftItem.{DraftItem}
-use Rattle.law_register.specs.declared.entry.Entry.{Entry}
-use Rattle.law_register.specs.declared.indexes.Indexes.{Indexes}
-use Rattle.law_register.specs.declared.modification.Modification.{Modification}
-use Rattle.law_register.specs.declared.rules.Rule.TheVariants.{BadModification, DraftFull, WorkFull}
-use Rattle.law_register.specs.Bounds.{most_items}
-use Rattle.law_register.specs.Drafts.{is_by, additions, added, redrafted, draft_of, items_of}
-use Rattle.law_register.specs.Indexes.{items_in, drafter_mark}
-use Rattle.law_register.specs.KnownIds.{ids_of, ids_recorded}
-use Rattle.law_register.specs.LawList.{law_command, laws}
-use Rattle.law_register.specs.Noting.{mods_of, CanNote}
-use Rattle.law_register.specs.Registers.{IsKept}
-use Rattle.law_register.specs.Sizes.{size_of, entries_size}
-use Rattle.law_register.specs.Verdicts as v
-use Rattle.law_register.specs.Verdicts.{broken_where, is_legal}
+use Rattle.law_register.specs.declared.law.command.Command.{Command}
+use Rattle.law_register.specs.declared.law.command.Command.TheVariants.{Enact, Record, Correct, Withdraw, Restore, DraftAdd, DraftDrop, File}
+use Rattle.law_register.specs.declared.register.draft.DraftItem.{DraftItem}
+use Rattle.law_register.specs.declared.register.entry.Entry.{Entry}
+use Rattle.law_register.specs.declared.register.indexes.Indexes.{Indexes}
+use Rattle.law_register.specs.declared.law.modification.Modification.{Modification}
+use Rattle.law_register.specs.declared.register.rules.Rule.TheVariants.{BadModification, DraftFull, WorkFull}
+use Rattle.law_register.specs.Law.Bounds.{most_items}
+use Rattle.law_register.specs.Register.Drafts.{is_by, additions, added, redrafted, draft_of, items_of}
+use Rattle.law_register.specs.Register.Indexes.{items_in, drafter_mark}
+use Rattle.law_register.specs.Register.KnownIds.{ids_of, ids_recorded}
+use Rattle.law_register.specs.Register.LawList.{law_command, laws}
+use Rattle.law_register.specs.Register.Noting.{mods_of, CanNote}
+use Rattle.law_register.specs.Register.Registers.{IsKept}
+use Rattle.law_register.specs.Law.Sizes.{size_of, entries_size}
+use Rattle.law_register.specs.Register.Verdicts as v
+use Rattle.law_register.specs.Register.Verdicts.{broken_where, is_legal}
 use Rattle.law_register.proofs.IdSteps.{recorded_count}
 use Rattle.law_register.proofs.Legal.{first_kept, not_broken, IsNew, kept_rules, legally, legal_size, legal_front, legal_added}
 use Rattle.law_register.proofs.Lookups.{items_length}

@@ -3,19 +3,19 @@ use Rattle.std.proofs.Common.{◌≡◌, ◌∙◌, sym, ap, subst, ℕ, zero, s
 use Rattle.std.proofs.lemmas.List.{length-map}
 use Rattle.std.specs.Str.{bytes_eq}
 use Rattle.desk_base.specs.declared.id.Id.{Id}
-use Rattle.law_register.specs.declared.command.Command.{Command}
-use Rattle.law_register.specs.declared.command.Command.TheVariants.{Enact, Record, Correct, Withdraw, Restore, DraftAdd, DraftDrop, File}
-use Rattle.law_register.specs.declared.draft.DraftItem.{DraftItem}
-use Rattle.law_register.specs.declared.entry.Entry.{Entry}
-use Rattle.law_register.specs.declared.indexes.IdMark.{IdMark}
-use Rattle.law_register.specs.declared.modification.Modification.{Modification}
-use Rattle.law_register.specs.Counted.{is_same_id}
-use Rattle.law_register.specs.Drafts.{draft_of, items_of}
-use Rattle.law_register.specs.Indexes.{IdStands}
-use Rattle.law_register.specs.KnownIds.{IdFacts, item_at, first_facts, facts_after, facts_of, ids_from_item, ids_recorded, ids_of, known_as, known_ids}
-use Rattle.law_register.specs.LawList.{law_command, law_of, laws}
-use Rattle.law_register.specs.Listing.{own_facts, known_told, known_mark, known_marks}
-use Rattle.law_register.specs.Verdicts.{is_of, bad_modification, is_legal}
+use Rattle.law_register.specs.declared.law.command.Command.{Command}
+use Rattle.law_register.specs.declared.law.command.Command.TheVariants.{Enact, Record, Correct, Withdraw, Restore, DraftAdd, DraftDrop, File}
+use Rattle.law_register.specs.declared.register.draft.DraftItem.{DraftItem}
+use Rattle.law_register.specs.declared.register.entry.Entry.{Entry}
+use Rattle.law_register.specs.declared.register.indexes.IdMark.{IdMark}
+use Rattle.law_register.specs.declared.law.modification.Modification.{Modification}
+use Rattle.law_register.specs.Answer.Counted.{is_same_id}
+use Rattle.law_register.specs.Register.Drafts.{draft_of, items_of}
+use Rattle.law_register.specs.Register.Indexes.{IdStands}
+use Rattle.law_register.specs.Register.KnownIds.{IdFacts, item_at, first_facts, facts_after, facts_of, ids_from_item, ids_recorded, ids_of, known_as, known_ids}
+use Rattle.law_register.specs.Register.LawList.{law_command, law_of, laws}
+use Rattle.law_register.specs.Register.Listing.{own_facts, known_told, known_mark, known_marks}
+use Rattle.law_register.specs.Register.Verdicts.{is_of, bad_modification, is_legal}
 use Rattle.law_register.proofs.IdSteps.{fresh, item_at_suc}
 use Rattle.law_register.proofs.Legal.{IsNew, kept_rules, legally}
 use Rattle.law_register.proofs.Limits.{DraftFits, few_mods, filter_few, draft_step}

@@ -2,19 +2,19 @@
 use Rattle.std.proofs.Common.{◌≡◌, ◌∙◌, ap, ℕ, ◌==◌, Bool, true, false, cond, ◌||◌, List, [], ◌∷◌, length, filter, Option, Some, None, option_map, slice_get, suc, refl}
 use Rattle.std.specs.List.{list_any}
 use Rattle.std.specs.Str.{bytes_eq}
-use Rattle.law_register.specs.declared.act.Act.{Act}
-use Rattle.law_register.specs.declared.draft.DraftItem.{DraftItem}
-use Rattle.law_register.specs.declared.entry.Entry.{Entry}
-use Rattle.law_register.specs.declared.indexes.EnactedMark.{EnactedMark}
-use Rattle.law_register.specs.declared.indexes.IdMark.{IdMark}
-use Rattle.law_register.specs.declared.indexes.ItemMark.{ItemMark}
-use Rattle.law_register.specs.declared.indexes.RequestMark.{RequestMark}
-use Rattle.law_register.specs.declared.verdict.Reply.{Reply}
-use Rattle.law_register.specs.Drafts.{items_of}
-use Rattle.law_register.specs.Indexes.{told_at, work_named, act_of, body_of, marks_work, is_named, RequestStands, ItemsStand, EnactedStands, IdStands}
-use Rattle.law_register.specs.KnownIds.{IdFacts}
-use Rattle.law_register.specs.Verdicts.{again, has_item}
-use Rattle.law_register.specs.declared.command.Command.{Command}
+use Rattle.law_register.specs.declared.law.act.Act.{Act}
+use Rattle.law_register.specs.declared.register.draft.DraftItem.{DraftItem}
+use Rattle.law_register.specs.declared.register.entry.Entry.{Entry}
+use Rattle.law_register.specs.declared.register.indexes.EnactedMark.{EnactedMark}
+use Rattle.law_register.specs.declared.register.indexes.IdMark.{IdMark}
+use Rattle.law_register.specs.declared.register.indexes.ItemMark.{ItemMark}
+use Rattle.law_register.specs.declared.register.indexes.RequestMark.{RequestMark}
+use Rattle.law_register.specs.declared.register.verdict.Reply.{Reply}
+use Rattle.law_register.specs.Register.Drafts.{items_of}
+use Rattle.law_register.specs.Register.Indexes.{told_at, work_named, act_of, body_of, marks_work, is_named, RequestStands, ItemsStand, EnactedStands, IdStands}
+use Rattle.law_register.specs.Register.KnownIds.{IdFacts}
+use Rattle.law_register.specs.Register.Verdicts.{again, has_item}
+use Rattle.law_register.specs.declared.law.command.Command.{Command}
 
 -- a value that a mark leads to, if there is a mark
 abbrev pub led : {M X : Type 0} → (M → Option X) → Option M → Option X

@@ -2,16 +2,16 @@
 use Rattle.std.proofs.Common.{◌≡◌, ◌∙◌, sym, ap, subst, ℕ, zero, suc, ◌+◌, ◌-◌, ◌≤◌, true, false, List, [], ◌∷◌, ◌++◌, length, take, drop, Option, Some, None, slice_get, refl, append_assoc, arith}
 use Rattle.std.proofs.Math.Seq.{drop-append_seam}
 use Rattle.std.proofs.lemmas.List.{append-nil, length-append, length-drop, drop-append-le, take-append-le}
-use Rattle.law_register.specs.declared.command.Command.{Command}
-use Rattle.law_register.specs.declared.command.Command.TheVariants.{Enact, Record, Correct, Withdraw, Restore, DraftAdd, DraftDrop, File}
-use Rattle.law_register.specs.declared.entry.Entry.{Entry}
-use Rattle.law_register.specs.declared.indexes.BodyMark.{BodyMark}
-use Rattle.law_register.specs.declared.indexes.StepMark.{StepMark}
-use Rattle.law_register.specs.declared.indexes.WorkMark.{WorkMark}
-use Rattle.law_register.specs.declared.modification.Modification.{Modification}
-use Rattle.law_register.specs.Indexes.{body_of, bodies_at, is_named, last_in, recorded_for, BodiesStand, LawStands, StepStands, StepsStand}
-use Rattle.law_register.specs.Noting.{last_before}
-use Rattle.law_register.specs.Verdicts.{concerns, last_on}
+use Rattle.law_register.specs.declared.law.command.Command.{Command}
+use Rattle.law_register.specs.declared.law.command.Command.TheVariants.{Enact, Record, Correct, Withdraw, Restore, DraftAdd, DraftDrop, File}
+use Rattle.law_register.specs.declared.register.entry.Entry.{Entry}
+use Rattle.law_register.specs.declared.register.indexes.BodyMark.{BodyMark}
+use Rattle.law_register.specs.declared.register.indexes.StepMark.{StepMark}
+use Rattle.law_register.specs.declared.register.indexes.WorkMark.{WorkMark}
+use Rattle.law_register.specs.declared.law.modification.Modification.{Modification}
+use Rattle.law_register.specs.Register.Indexes.{body_of, bodies_at, is_named, last_in, recorded_for, BodiesStand, LawStands, StepStands, StepsStand}
+use Rattle.law_register.specs.Register.Noting.{last_before}
+use Rattle.law_register.specs.Register.Verdicts.{concerns, last_on}
 use Rattle.law_register.proofs.Puts.{bytes_same}
 use Rattle.law_register.proofs.Lists.{take_all}
 use Rattle.law_register.proofs.Steps.{told_stays}

@@ -1,15 +1,15 @@
 -- Of each request there is one entry, and law entries are numbered in order.
 use Rattle.std.proofs.Common.{◌≡◌, ◌∙◌, sym, ap, ℕ, zero, suc, ◌+◌, ◌==◌, ◌⊎◌, inl, inr, Bool, true, false, cond, ◌&&◌, List, [], ◌∷◌, ◌++◌, length, slice_get, Option, Some, None, refl, arith}
 use Rattle.std.proofs.lemmas.List.{append-nil}
-use Rattle.law_register.specs.declared.command.Command.{Command}
-use Rattle.law_register.specs.declared.command.Command.TheVariants.{Enact, Record, Correct, Withdraw, Restore, DraftAdd, DraftDrop, File}
-use Rattle.law_register.specs.declared.entry.Entry.{Entry}
-use Rattle.law_register.specs.declared.verdict.Reply.{Reply}
-use Rattle.law_register.specs.Drafts.{is_by}
-use Rattle.law_register.specs.LawList.{front, with_number, law_numbers, first_numbers}
-use Rattle.law_register.specs.Noting.{law_count}
-use Rattle.law_register.specs.Same.{same_number}
-use Rattle.law_register.specs.Verdicts.{first_found, request_from, reply_to, law_number, is_legal}
+use Rattle.law_register.specs.declared.law.command.Command.{Command}
+use Rattle.law_register.specs.declared.law.command.Command.TheVariants.{Enact, Record, Correct, Withdraw, Restore, DraftAdd, DraftDrop, File}
+use Rattle.law_register.specs.declared.register.entry.Entry.{Entry}
+use Rattle.law_register.specs.declared.register.verdict.Reply.{Reply}
+use Rattle.law_register.specs.Register.Drafts.{is_by}
+use Rattle.law_register.specs.Register.LawList.{front, with_number, law_numbers, first_numbers}
+use Rattle.law_register.specs.Register.Noting.{law_count}
+use Rattle.law_register.specs.Law.Same.{same_number}
+use Rattle.law_register.specs.Register.Verdicts.{first_found, request_from, reply_to, law_number, is_legal}
 use Rattle.law_register.proofs.Legal.{IsNew, legally}
 use Rattle.law_register.proofs.Pushing.{front_is}
 use Rattle.law_register.proofs.Puts.{bytes_are, number_is, number_same, and_true}

@@ -3,17 +3,17 @@ use Rattle.std.proofs.Common.{◌≡◌, ◌∙◌, sym, ap, subst, ℕ, zero, s
 use Rattle.std.proofs.lemmas.List.{append-nil}
 use Rattle.std.specs.Str.{bytes_eq}
 use Rattle.desk_base.specs.declared.id.Id.{Id}
-use Rattle.law_register.specs.declared.command.Command.{Command}
-use Rattle.law_register.specs.declared.command.Command.TheVariants.{Enact, Record, Correct, Withdraw, Restore, DraftAdd, DraftDrop, File}
-use Rattle.law_register.specs.declared.entry.Entry.{Entry}
-use Rattle.law_register.specs.declared.indexes.BodyMark.{BodyMark}
-use Rattle.law_register.specs.declared.indexes.IdMark.{IdMark}
-use Rattle.law_register.specs.declared.modification.Modification.{Modification}
-use Rattle.law_register.specs.Counted.{is_same_id}
-use Rattle.law_register.specs.Indexes.{told, told_at, work_named, body_of, recorded_for, recorded_from, id_after, BodiesStand, IdStands, LawStands}
-use Rattle.law_register.specs.KnownIds.{IdFacts, item_at, first_facts, facts_after, facts_of, ids_from_item, ids_recorded, ids_of}
-use Rattle.law_register.specs.Listing.{own_facts, id_told, ids_marked}
-use Rattle.law_register.specs.Verdicts.{is_of, concerns}
+use Rattle.law_register.specs.declared.law.command.Command.{Command}
+use Rattle.law_register.specs.declared.law.command.Command.TheVariants.{Enact, Record, Correct, Withdraw, Restore, DraftAdd, DraftDrop, File}
+use Rattle.law_register.specs.declared.register.entry.Entry.{Entry}
+use Rattle.law_register.specs.declared.register.indexes.BodyMark.{BodyMark}
+use Rattle.law_register.specs.declared.register.indexes.IdMark.{IdMark}
+use Rattle.law_register.specs.declared.law.modification.Modification.{Modification}
+use Rattle.law_register.specs.Answer.Counted.{is_same_id}
+use Rattle.law_register.specs.Register.Indexes.{told, told_at, work_named, body_of, recorded_for, recorded_from, id_after, BodiesStand, IdStands, LawStands}
+use Rattle.law_register.specs.Register.KnownIds.{IdFacts, item_at, first_facts, facts_after, facts_of, ids_from_item, ids_recorded, ids_of}
+use Rattle.law_register.specs.Register.Listing.{own_facts, id_told, ids_marked}
+use Rattle.law_register.specs.Register.Verdicts.{is_of, concerns}
 use Rattle.law_register.proofs.IdSteps.{fresh, record_stands, correct_stands, withdraw_stands}
 use Rattle.law_register.proofs.Puts.{number_same, id_same}
 use Rattle.law_register.proofs.Snoc.{facts_more, ids_more}

@@ -2,17 +2,17 @@
 use Rattle.std.proofs.Common.{◌≡◌, ◌∙◌, sym, ap, subst, ℕ, ◌+◌, ◌≤◌, ◌<◌, nat_le, ◌⊎◌, inl, inr, Bool, true, false, cond, List, [], ◌∷◌, ◌++◌, length, take, Option, Some, None, refl, arith}
 use Rattle.std.proofs.lemmas.Bool.Decides.{nat_tests}
 use Rattle.std.proofs.lemmas.List.{length-append, take-append-le}
-use Rattle.law_register.specs.declared.act.Act.{Act}
-use Rattle.law_register.specs.declared.command.Command.{Command}
-use Rattle.law_register.specs.declared.command.Command.TheVariants.{Enact, Record, Correct, Withdraw, Restore, DraftAdd, DraftDrop, File}
-use Rattle.law_register.specs.declared.entry.Entry.{Entry}
-use Rattle.law_register.specs.declared.indexes.EnactedMark.{EnactedMark}
-use Rattle.law_register.specs.Indexes.{EnactedStands}
-use Rattle.law_register.specs.KnownIds.{enacted_by, enacted_or, enacted}
-use Rattle.law_register.specs.LawList.{law_of, laws, front}
-use Rattle.law_register.specs.Listing.{enacted_within}
-use Rattle.law_register.specs.Noting.{law_count}
-use Rattle.law_register.specs.Verdicts.{verdict, is_accepted, is_legal_from, is_legal}
+use Rattle.law_register.specs.declared.law.act.Act.{Act}
+use Rattle.law_register.specs.declared.law.command.Command.{Command}
+use Rattle.law_register.specs.declared.law.command.Command.TheVariants.{Enact, Record, Correct, Withdraw, Restore, DraftAdd, DraftDrop, File}
+use Rattle.law_register.specs.declared.register.entry.Entry.{Entry}
+use Rattle.law_register.specs.declared.register.indexes.EnactedMark.{EnactedMark}
+use Rattle.law_register.specs.Register.Indexes.{EnactedStands}
+use Rattle.law_register.specs.Register.KnownIds.{enacted_by, enacted_or, enacted}
+use Rattle.law_register.specs.Register.LawList.{law_of, laws, front}
+use Rattle.law_register.specs.Register.Listing.{enacted_within}
+use Rattle.law_register.specs.Register.Noting.{law_count}
+use Rattle.law_register.specs.Register.Verdicts.{verdict, is_accepted, is_legal_from, is_legal}
 use Rattle.law_register.proofs.Lists.{by_last, at_most_or, take_all, take_last, take_front}
 use Rattle.law_register.proofs.Pushing.{front_is}
 use Rattle.law_register.proofs.Puts.{left_true, right_true, and_true}

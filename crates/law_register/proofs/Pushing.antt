@@ -3,27 +3,27 @@ use Rattle.std.proofs.Common.{◌≡◌, ◌∙◌, sym, ap, subst, ℕ, suc, �
 use Rattle.std.proofs.lemmas.List.{append-nil, length-append, length-map}
 use Rattle.std.specs.Str.{bytes_eq}
 use Rattle.desk_base.specs.declared.id.Id.{Id}
-use Rattle.law_register.specs.declared.command.Command.{Command}
-use Rattle.law_register.specs.declared.command.Command.TheVariants.{Enact, Record, Correct, Withdraw, Restore, DraftAdd, DraftDrop, File}
-use Rattle.law_register.specs.declared.draft.DraftItem.{DraftItem}
-use Rattle.law_register.specs.declared.entry.Entry.{Entry}
-use Rattle.law_register.specs.declared.indexes.BodyMark.{BodyMark}
-use Rattle.law_register.specs.declared.indexes.IdMark.{IdMark}
-use Rattle.law_register.specs.declared.indexes.Indexes.{Indexes}
-use Rattle.law_register.specs.declared.indexes.ItemMark.{ItemMark}
-use Rattle.law_register.specs.declared.indexes.StepMark.{StepMark}
-use Rattle.law_register.specs.declared.indexes.WorkMark.{WorkMark}
-use Rattle.law_register.specs.declared.modification.Modification.{Modification}
-use Rattle.law_register.specs.declared.verdict.Reply.{Reply}
-use Rattle.law_register.specs.Counted.{is_same_id}
-use Rattle.law_register.specs.Drafts.{draft_of, items_of}
-use Rattle.law_register.specs.Indexes.{told_at, work_named, body_of, marks_work, is_named, request_mark, drafter_mark, work_mark, id_mark, items_in, enacted_in, last_in, id_after, touched, work_after, enacted_after, recorded_for, ItemsStand, IdStands, WorkStands, BodiesStand, StepsStand}
-use Rattle.law_register.specs.KnownIds.{facts_of, enacted, ids_of}
-use Rattle.law_register.specs.LawList.{law_command, law_of, laws, front}
-use Rattle.law_register.specs.Noting.{law_count, places, item_body, bodies_of, new_bodies, last_before, with_step, new_step, IsNoted}
-use Rattle.law_register.specs.Registers.{IsKept}
-use Rattle.law_register.specs.Sizes.{entry_size}
-use Rattle.law_register.specs.Verdicts.{reply_to, last_on, is_accepted, verdict, is_legal}
+use Rattle.law_register.specs.declared.law.command.Command.{Command}
+use Rattle.law_register.specs.declared.law.command.Command.TheVariants.{Enact, Record, Correct, Withdraw, Restore, DraftAdd, DraftDrop, File}
+use Rattle.law_register.specs.declared.register.draft.DraftItem.{DraftItem}
+use Rattle.law_register.specs.declared.register.entry.Entry.{Entry}
+use Rattle.law_register.specs.declared.register.indexes.BodyMark.{BodyMark}
+use Rattle.law_register.specs.declared.register.indexes.IdMark.{IdMark}
+use Rattle.law_register.specs.declared.register.indexes.Indexes.{Indexes}
+use Rattle.law_register.specs.declared.register.indexes.ItemMark.{ItemMark}
+use Rattle.law_register.specs.declared.register.indexes.StepMark.{StepMark}
+use Rattle.law_register.specs.declared.register.indexes.WorkMark.{WorkMark}
+use Rattle.law_register.specs.declared.law.modification.Modification.{Modification}
+use Rattle.law_register.specs.declared.register.verdict.Reply.{Reply}
+use Rattle.law_register.specs.Answer.Counted.{is_same_id}
+use Rattle.law_register.specs.Register.Drafts.{draft_of, items_of}
+use Rattle.law_register.specs.Register.Indexes.{told_at, work_named, body_of, marks_work, is_named, request_mark, drafter_mark, work_mark, id_mark, items_in, enacted_in, last_in, id_after, touched, work_after, enacted_after, recorded_for, ItemsStand, IdStands, WorkStands, BodiesStand, StepsStand}
+use Rattle.law_register.specs.Register.KnownIds.{facts_of, enacted, ids_of}
+use Rattle.law_register.specs.Register.LawList.{law_command, law_of, laws, front}
+use Rattle.law_register.specs.Register.Noting.{law_count, places, item_body, bodies_of, new_bodies, last_before, with_step, new_step, IsNoted}
+use Rattle.law_register.specs.Register.Registers.{IsKept}
+use Rattle.law_register.specs.Law.Sizes.{entry_size}
+use Rattle.law_register.specs.Register.Verdicts.{reply_to, last_on, is_accepted, verdict, is_legal}
 use Rattle.law_register.proofs.IdSteps.{fresh, record_stands, correct_stands, withdraw_stands, of_work, enact_step, keep_step, not_enacting, recorded_count, work_case, either}
 use Rattle.law_register.proofs.Legal.{accepted_new}
 use Rattle.law_register.proofs.Lookups.{items_filed, items_counted}

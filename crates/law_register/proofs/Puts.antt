@@ -6,9 +6,9 @@ use Rattle.std.specs.Map.{lookup}
 use Rattle.indexmap.specs.IndexMap.{insert_entry}
 use Rattle.std.proofs.lemmas.Slice.Eq.{bytes_eq-Decides}
 use Rattle.desk_base.specs.declared.id.Id.{Id}
-use Rattle.law_register.specs.Counted.{is_same_id}
-use Rattle.law_register.specs.Indexes.{is_request}
-use Rattle.law_register.specs.declared.indexes.RequestKey.{RequestKey}
+use Rattle.law_register.specs.Answer.Counted.{is_same_id}
+use Rattle.law_register.specs.Register.Indexes.{is_request}
+use Rattle.law_register.specs.declared.register.indexes.RequestKey.{RequestKey}
 
 -- an equal key passes the test where the other does, and two that pass it are equal
 pub record Tells {K : Type 0} (eq : K → K → Bool) (test : K → Bool) (key : K) : Type 0 where

@@ -2,21 +2,21 @@
 use Rattle.std.proofs.Common.{◌∙◌, sym, ap, subst, List, [], Option, is_some, length}
 use Rattle.std.specs.Str.{bytes_eq}
 use Rattle.std.specs.Map.{lookup}
-use Rattle.law_register.specs.declared.entry.Entry.{Entry}
-use Rattle.law_register.specs.declared.indexes.DrafterMark.{DrafterMark}
-use Rattle.law_register.specs.declared.indexes.BodyMark.{BodyMark}
-use Rattle.law_register.specs.declared.indexes.StepMark.{StepMark}
-use Rattle.law_register.specs.declared.indexes.IdMark.{IdMark}
-use Rattle.law_register.specs.declared.indexes.Indexes.{Indexes}
-use Rattle.law_register.specs.declared.indexes.RequestMark.{RequestMark}
-use Rattle.law_register.specs.declared.indexes.WorkMark.{WorkMark}
-use Rattle.law_register.specs.Counted.{is_same_id}
-use Rattle.law_register.specs.Drafts.{added, draft_of}
-use Rattle.law_register.specs.Indexes.{is_request, RequestStands, DraftStands, WorkStands, IdStands, StepsStand}
-use Rattle.law_register.specs.KnownIds.{facts_of, enacted, ids_of}
-use Rattle.law_register.specs.LawList.{laws}
-use Rattle.law_register.specs.Registers.{IsSame, IsKept}
-use Rattle.law_register.specs.Verdicts.{request_of, last_on}
+use Rattle.law_register.specs.declared.register.entry.Entry.{Entry}
+use Rattle.law_register.specs.declared.register.indexes.DrafterMark.{DrafterMark}
+use Rattle.law_register.specs.declared.register.indexes.BodyMark.{BodyMark}
+use Rattle.law_register.specs.declared.register.indexes.StepMark.{StepMark}
+use Rattle.law_register.specs.declared.register.indexes.IdMark.{IdMark}
+use Rattle.law_register.specs.declared.register.indexes.Indexes.{Indexes}
+use Rattle.law_register.specs.declared.register.indexes.RequestMark.{RequestMark}
+use Rattle.law_register.specs.declared.register.indexes.WorkMark.{WorkMark}
+use Rattle.law_register.specs.Answer.Counted.{is_same_id}
+use Rattle.law_register.specs.Register.Drafts.{added, draft_of}
+use Rattle.law_register.specs.Register.Indexes.{is_request, RequestStands, DraftStands, WorkStands, IdStands, StepsStand}
+use Rattle.law_register.specs.Register.KnownIds.{facts_of, enacted, ids_of}
+use Rattle.law_register.specs.Register.LawList.{laws}
+use Rattle.law_register.specs.Register.Registers.{IsSame, IsKept}
+use Rattle.law_register.specs.Register.Verdicts.{request_of, last_on}
 
 pub still_kept : (old new : Indexes) (es : List Entry) → IsSame old new → IsKept old es → IsKept new es
 still_kept old new es same kept = record {

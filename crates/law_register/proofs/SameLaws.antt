@@ -27,16 +27,16 @@ use Rattle.textual_mods.specs.declared.edit.TextPos.{TextPos}
 use Rattle.textual_mods.specs.declared.edit.TextPos.TheVariants as stands
 use Rattle.textual_mods.specs.declared.edit.TextualMod.{TextualMod}
 use Rattle.textual_mods.specs.declared.edit.TextualMod.TheVariants.{Repeal, SubstituteNodes, SubstituteText, InsertNodes, InsertText, Renumber, Split, Join}
-use Rattle.law_register.specs.declared.act.Act.{Act}
-use Rattle.law_register.specs.declared.command.Command.{Command}
-use Rattle.law_register.specs.declared.command.Command.TheVariants.{Enact, Record, Correct, Withdraw, Restore, DraftAdd, DraftDrop, File}
-use Rattle.law_register.specs.declared.modification.Destination.{Destination}
-use Rattle.law_register.specs.declared.modification.Destination.TheVariants as to
-use Rattle.law_register.specs.declared.modification.ModSource.{ModSource}
-use Rattle.law_register.specs.declared.modification.Modification.{Modification}
-use Rattle.law_register.specs.declared.modification.Modification.TheVariants as kinds
-use Rattle.law_register.specs.Counted.{is_same, is_same_id}
-use Rattle.law_register.specs.Same.{same_number, same_period, same_source, same_texts, same_own, same_node, same_nodes, same_flags, same_payload, same_spot, same_pos, same_text_pos, same_split_at, same_pair, same_pairs, same_edit, same_force, same_efficacy, same_modification, same_modifications, same_act, same_command}
+use Rattle.law_register.specs.declared.law.act.Act.{Act}
+use Rattle.law_register.specs.declared.law.command.Command.{Command}
+use Rattle.law_register.specs.declared.law.command.Command.TheVariants.{Enact, Record, Correct, Withdraw, Restore, DraftAdd, DraftDrop, File}
+use Rattle.law_register.specs.declared.law.modification.Destination.{Destination}
+use Rattle.law_register.specs.declared.law.modification.Destination.TheVariants as to
+use Rattle.law_register.specs.declared.law.modification.ModSource.{ModSource}
+use Rattle.law_register.specs.declared.law.modification.Modification.{Modification}
+use Rattle.law_register.specs.declared.law.modification.Modification.TheVariants as kinds
+use Rattle.law_register.specs.Answer.Counted.{is_same, is_same_id}
+use Rattle.law_register.specs.Law.Same.{same_number, same_period, same_source, same_texts, same_own, same_node, same_nodes, same_flags, same_payload, same_spot, same_pos, same_text_pos, same_split_at, same_pair, same_pairs, same_edit, same_force, same_efficacy, same_modification, same_modifications, same_act, same_command}
 
 -- a test that holds of equal values, and of no others, decides whether they are equal
 decided : {A : Type 0} (same : A → A → Bool) → ((a b : A) → same a b ≡ true → a ≡ b) → ((a : A) → same a a ≡ true)

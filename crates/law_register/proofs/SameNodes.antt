@@ -4,7 +4,7 @@ use Rattle.act_tree.specs.Branches.{Branch}
 use Rattle.act_tree.specs.Provisions.{Own}
 use Rattle.act_tree.specs.Specs.{spec_view, specs_view}
 use Rattle.act_tree.specs.declared.node_spec.NodeSpec.{NodeSpec}
-use Rattle.law_register.specs.Same.{same_node, same_payload}
+use Rattle.law_register.specs.Law.Same.{same_node, same_payload}
 
 neither : (t : Bool) → (t && false) ≡ false
 neither true = refl

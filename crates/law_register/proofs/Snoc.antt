@@ -4,17 +4,17 @@ use Rattle.std.proofs.lemmas.List.{append-nil}
 use Rattle.std.specs.List.{list_any}
 use Rattle.std.specs.Str.{bytes_eq}
 use Rattle.desk_base.specs.declared.id.Id.{Id}
-use Rattle.law_register.specs.declared.act.Act.{Act}
-use Rattle.law_register.specs.declared.command.Command.{Command}
-use Rattle.law_register.specs.declared.draft.DraftItem.{DraftItem}
-use Rattle.law_register.specs.declared.entry.Entry.{Entry}
-use Rattle.law_register.specs.declared.verdict.Reply.{Reply}
-use Rattle.law_register.specs.Drafts.{is_by, additions, added, redrafted, drafted_from, draft_of}
-use Rattle.law_register.specs.KnownIds.{IdFacts, facts_after, facts_from, facts_of, enacted_by, enacted_or, enacted_from, enacted, ids_recorded, ids_from, ids_of}
-use Rattle.law_register.specs.Listing.{numbers_from, numbers_on}
-use Rattle.law_register.specs.LawList.{law_of, laws_from, laws}
-use Rattle.law_register.specs.Sizes.{entry_size, entries_size}
-use Rattle.law_register.specs.Verdicts.{reply_to, first_found, request_from, request_of, drafters_from, drafters, concerns, last_from, last_on, is_accepted, verdict, is_legal_from, is_legal}
+use Rattle.law_register.specs.declared.law.act.Act.{Act}
+use Rattle.law_register.specs.declared.law.command.Command.{Command}
+use Rattle.law_register.specs.declared.register.draft.DraftItem.{DraftItem}
+use Rattle.law_register.specs.declared.register.entry.Entry.{Entry}
+use Rattle.law_register.specs.declared.register.verdict.Reply.{Reply}
+use Rattle.law_register.specs.Register.Drafts.{is_by, additions, added, redrafted, drafted_from, draft_of}
+use Rattle.law_register.specs.Register.KnownIds.{IdFacts, facts_after, facts_from, facts_of, enacted_by, enacted_or, enacted_from, enacted, ids_recorded, ids_from, ids_of}
+use Rattle.law_register.specs.Register.Listing.{numbers_from, numbers_on}
+use Rattle.law_register.specs.Register.LawList.{law_of, laws_from, laws}
+use Rattle.law_register.specs.Law.Sizes.{entry_size, entries_size}
+use Rattle.law_register.specs.Register.Verdicts.{reply_to, first_found, request_from, request_of, drafters_from, drafters, concerns, last_from, last_on, is_accepted, verdict, is_legal_from, is_legal}
 
 -- the law that one more entry makes behind others
 laws_from_more : (before es : List Entry) (e : Entry) → laws_from before (es ++ e ∷ []) ≡ laws_from before es ++ law_of (before ++ es) e

@@ -11,21 +11,21 @@ use Rattle.textual_mods.specs.declared.edit.TextualMod.{TextualMod}
 use Rattle.textual_mods.specs.declared.edit.TextualMod.TheVariants.{Repeal, SubstituteNodes, SubstituteText, InsertNodes, InsertText, Renumber, Split, Join}
 use Rattle.textual_mods.specs.Edits as edits
 use Rattle.desk_base.specs.declared.id.Id.{Id}
-use Rattle.law_register.specs.declared.act.Act.{Act}
-use Rattle.law_register.specs.declared.command.Command.{Command}
-use Rattle.law_register.specs.declared.command.Command.TheVariants.{Enact, Record, Correct, Withdraw, Restore, DraftAdd, DraftDrop, File}
-use Rattle.law_register.specs.declared.draft.DraftItem.{DraftItem}
-use Rattle.law_register.specs.declared.entry.Entry.{Entry}
-use Rattle.law_register.specs.declared.known.KnownMod.{KnownMod}
-use Rattle.law_register.specs.declared.modification.Modification.{Modification}
-use Rattle.law_register.specs.declared.modification.Modification.TheVariants.{Textual, Force, Efficacy}
-use Rattle.law_register.specs.Bounds.{brought_fault, payload_fault}
-use Rattle.law_register.specs.Counted.{is_same_id}
-use Rattle.law_register.specs.Drafts.{is_by, added, redrafted, draft_of, items_of}
-use Rattle.law_register.specs.KnownIds.{IdFacts, item_at, first_facts, facts_after, facts_of, enacted, enacted_by, enacted_or, ids_of, known_as, known_ids, known_by}
-use Rattle.law_register.specs.LawList.{law_command, laws}
-use Rattle.law_register.specs.Soundness.{IsSoundBody, IsSound}
-use Rattle.law_register.specs.Verdicts.{tree_rule, bad_tree, first_item, is_legal}
+use Rattle.law_register.specs.declared.law.act.Act.{Act}
+use Rattle.law_register.specs.declared.law.command.Command.{Command}
+use Rattle.law_register.specs.declared.law.command.Command.TheVariants.{Enact, Record, Correct, Withdraw, Restore, DraftAdd, DraftDrop, File}
+use Rattle.law_register.specs.declared.register.draft.DraftItem.{DraftItem}
+use Rattle.law_register.specs.declared.register.entry.Entry.{Entry}
+use Rattle.law_register.specs.declared.register.known.KnownMod.{KnownMod}
+use Rattle.law_register.specs.declared.law.modification.Modification.{Modification}
+use Rattle.law_register.specs.declared.law.modification.Modification.TheVariants.{Textual, Force, Efficacy}
+use Rattle.law_register.specs.Law.Bounds.{brought_fault, payload_fault}
+use Rattle.law_register.specs.Answer.Counted.{is_same_id}
+use Rattle.law_register.specs.Register.Drafts.{is_by, added, redrafted, draft_of, items_of}
+use Rattle.law_register.specs.Register.KnownIds.{IdFacts, item_at, first_facts, facts_after, facts_of, enacted, enacted_by, enacted_or, ids_of, known_as, known_ids, known_by}
+use Rattle.law_register.specs.Register.LawList.{law_command, laws}
+use Rattle.law_register.specs.Answer.Soundness.{IsSoundBody, IsSound}
+use Rattle.law_register.specs.Register.Verdicts.{tree_rule, bad_tree, first_item, is_legal}
 use Rattle.law_register.proofs.Ascending.{known_once}
 use Rattle.law_register.proofs.Legal.{first_kept, second_kept, IsNew, kept_rules, legally}
 use Rattle.law_register.proofs.Snoc.{first_act, laws_more, draft_more, facts_more, enacted_more}

@@ -3,21 +3,21 @@ use Rattle.std.proofs.Common.{◌≡◌, ◌∙◌, sym, ap, subst, ℕ, zero, s
 use Rattle.std.proofs.lemmas.List.{length-append}
 use Rattle.std.specs.List.{list_any}
 use Rattle.std.specs.Str.{bytes_eq}
-use Rattle.law_register.specs.declared.act.Act.{Act}
-use Rattle.law_register.specs.declared.command.Command.{Command}
-use Rattle.law_register.specs.declared.command.Command.TheVariants.{Enact, Record, Correct, Withdraw, Restore, DraftAdd, DraftDrop, File}
-use Rattle.law_register.specs.declared.draft.DraftItem.{DraftItem}
-use Rattle.law_register.specs.declared.entry.Entry.{Entry}
-use Rattle.law_register.specs.declared.indexes.DrafterMark.{DrafterMark}
-use Rattle.law_register.specs.declared.indexes.EnactedMark.{EnactedMark}
-use Rattle.law_register.specs.declared.indexes.IdMark.{IdMark}
-use Rattle.law_register.specs.declared.indexes.ItemMark.{ItemMark}
-use Rattle.law_register.specs.declared.indexes.RequestMark.{RequestMark}
-use Rattle.law_register.specs.declared.verdict.Reply.{Reply}
-use Rattle.law_register.specs.Drafts.{is_by, additions, added, redrafted, draft_of, items_but}
-use Rattle.law_register.specs.Indexes.{told, told_at, work_named, act_of, body_of, marks_work, RequestStands, ItemsStand, DraftStands, EnactedStands, IdStands, added_of, items_in, items_after}
-use Rattle.law_register.specs.KnownIds.{IdFacts}
-use Rattle.law_register.specs.Verdicts.{reply_to, first_found, request_of, drafters}
+use Rattle.law_register.specs.declared.law.act.Act.{Act}
+use Rattle.law_register.specs.declared.law.command.Command.{Command}
+use Rattle.law_register.specs.declared.law.command.Command.TheVariants.{Enact, Record, Correct, Withdraw, Restore, DraftAdd, DraftDrop, File}
+use Rattle.law_register.specs.declared.register.draft.DraftItem.{DraftItem}
+use Rattle.law_register.specs.declared.register.entry.Entry.{Entry}
+use Rattle.law_register.specs.declared.register.indexes.DrafterMark.{DrafterMark}
+use Rattle.law_register.specs.declared.register.indexes.EnactedMark.{EnactedMark}
+use Rattle.law_register.specs.declared.register.indexes.IdMark.{IdMark}
+use Rattle.law_register.specs.declared.register.indexes.ItemMark.{ItemMark}
+use Rattle.law_register.specs.declared.register.indexes.RequestMark.{RequestMark}
+use Rattle.law_register.specs.declared.register.verdict.Reply.{Reply}
+use Rattle.law_register.specs.Register.Drafts.{is_by, additions, added, redrafted, draft_of, items_but}
+use Rattle.law_register.specs.Register.Indexes.{told, told_at, work_named, act_of, body_of, marks_work, RequestStands, ItemsStand, DraftStands, EnactedStands, IdStands, added_of, items_in, items_after}
+use Rattle.law_register.specs.Register.KnownIds.{IdFacts}
+use Rattle.law_register.specs.Register.Verdicts.{reply_to, first_found, request_of, drafters}
 use Rattle.law_register.proofs.Lookups.{items_filter, mark_works}
 use Rattle.law_register.proofs.Puts.{bytes_same, bytes_either, number_same, left_true, right_true}
 use Rattle.law_register.proofs.Snoc.{found_here, added_more, draft_more, request_more, drafters_more}

@@ -1,18 +1,19 @@
-//! An answer: the text of an act on a day, and what became of its modifications.
+//! What is asked of the law, and what is answered: questions, versions, answers, and who replays.
 
-use crate::{AnswerNodes, Ids, Question, Unapplied};
+mod answer;
+mod answer_node;
+mod days;
+mod ids;
+mod queries;
+mod question;
+mod replayer;
+mod version;
 
-/// The answer to a question.
-#[derive(Debug, Drop)]
-pub struct Answer {
-    /// What was asked.
-    pub question: Question,
-    /// Whether the act itself bears.
-    pub bears: bool,
-    /// The children of the root, or the one provision that was asked for.
-    pub nodes: AnswerNodes,
-    /// The modifications that were applied, in order.
-    pub applied: Ids,
-    /// Those that could not be applied, in order.
-    pub unapplied: Unapplied,
-}
+pub use answer::Answer;
+pub use answer_node::{AnswerNode, AnswerNodes};
+pub use days::Days;
+pub use ids::{Ids, Unapplied};
+pub use queries::{AskFault, QueryRule};
+pub use question::{Question, Reading};
+pub use replayer::Replayer;
+pub use version::Version;

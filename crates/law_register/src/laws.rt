@@ -1,10 +1,10 @@
 //! What holds of commands and of registers. Each law is a function that does nothing, whose clause is the law.
 
 ghost use Rattle.std.specs.Prelude.{◌≡◌, ◌≤◌, ◌↔◌, ℕ, true, length, slice_get, Some};
-ghost use Rattle.law_register.specs.declared.entry.Entry.{Entry};
-ghost use Rattle.law_register.specs.KnownIds.{ids_of};
-ghost use Rattle.law_register.specs.LawList.{laws, front, law_numbers, first_numbers};
-ghost use Rattle.law_register.specs.Same.{same_command};
+ghost use Rattle.law_register.specs.declared.register.entry.Entry.{Entry};
+ghost use Rattle.law_register.specs.Register.KnownIds.{ids_of};
+ghost use Rattle.law_register.specs.Register.LawList.{laws, front, law_numbers, first_numbers};
+ghost use Rattle.law_register.specs.Law.Same.{same_command};
 
 use crate::{Command, Register};
 use frbr_names::WorkName;

@@ -1,14 +1,14 @@
 -- The register that a dossier makes: its commands are entered one after another, until one is refused.
 use Rattle.std.specs.Prelude.{◌≡◌, ℕ, ◌+◌, List, [], ◌∷◌, ◌++◌, map, codes, Option, Result, Ok, Err}
 use Rattle.akn_json.specs.declared.dossier.Dossier.{Dossier}
-use Rattle.law_register.specs.declared.command.Command.{Command}
-use Rattle.law_register.specs.declared.command.Command.TheVariants.{Enact, Record}
-use Rattle.law_register.specs.declared.entry.Entry.{Entry}
-use Rattle.law_register.specs.declared.modification.Modification.{Modification}
-use Rattle.law_register.specs.declared.rules.Rule.{Rule}
-use Rattle.law_register.specs.declared.verdict.Verdict.{Verdict}
-use Rattle.law_register.specs.declared.verdict.Verdict.TheVariants.{Accepted, Repeat, Refused}
-use Rattle.law_register.specs.Verdicts.{verdict}
+use Rattle.law_register.specs.declared.law.command.Command.{Command}
+use Rattle.law_register.specs.declared.law.command.Command.TheVariants.{Enact, Record}
+use Rattle.law_register.specs.declared.register.entry.Entry.{Entry}
+use Rattle.law_register.specs.declared.law.modification.Modification.{Modification}
+use Rattle.law_register.specs.declared.register.rules.Rule.{Rule}
+use Rattle.law_register.specs.declared.register.verdict.Verdict.{Verdict}
+use Rattle.law_register.specs.declared.register.verdict.Verdict.TheVariants.{Accepted, Repeat, Refused}
+use Rattle.law_register.specs.Register.Verdicts.{verdict}
 use Rattle.lawdesk.specs.declared.entering.EnterFault.{EnterFault}
 use Rattle.lawdesk.specs.declared.entering.EnterFault.TheVariants as fails
 

@@ -7,14 +7,14 @@ use Rattle.akn_json.specs.DossierForm.{dossier_of}
 use Rattle.akn_json.specs.RefusalData.{form_fault_data, query_data, rule_data}
 use Rattle.akn_json.specs.declared.dossier.Dossier.{Dossier}
 use Rattle.akn_json.specs.declared.fault.FormFault.{FormFault}
-use Rattle.law_register.specs.Asking.{answer_at}
-use Rattle.law_register.specs.LawList.{front}
-use Rattle.law_register.specs.declared.act.Act.{Act}
-use Rattle.law_register.specs.declared.answer.Answer.{Answer}
-use Rattle.law_register.specs.declared.entry.Entry.{Entry}
-use Rattle.law_register.specs.declared.question.Reading.{Reading}
-use Rattle.law_register.specs.declared.rules.QueryRule.{QueryRule}
-use Rattle.law_register.specs.declared.rules.Rule.{Rule}
+use Rattle.law_register.specs.Answer.Asking.{answer_at}
+use Rattle.law_register.specs.Register.LawList.{front}
+use Rattle.law_register.specs.declared.law.act.Act.{Act}
+use Rattle.law_register.specs.declared.answer.answer.Answer.{Answer}
+use Rattle.law_register.specs.declared.register.entry.Entry.{Entry}
+use Rattle.law_register.specs.declared.answer.question.Reading.{Reading}
+use Rattle.law_register.specs.declared.answer.queries.QueryRule.{QueryRule}
+use Rattle.law_register.specs.declared.register.rules.Rule.{Rule}
 use Rattle.lawdesk.specs.Asking.{question_of}
 use Rattle.lawdesk.specs.Entering.{entries_of}
 use Rattle.lawdesk.specs.declared.job.Job.{Job}

@@ -1,7 +1,7 @@
 //! Entering: the register that a dossier makes. Its act is enacted first, and then each modification is recorded alone.
 
 ghost use Rattle.std.specs.Prelude.{◌≡◌, ◌+◌, ◌++◌, ◌∷◌, ◌<◌, ◌^◌, [], true, length, map, Option, Some, IfOk, OnOk, Ok};
-ghost use Rattle.law_register.specs.Verdicts.{is_accepted, verdict};
+ghost use Rattle.law_register.specs.Register.Verdicts.{is_accepted, verdict};
 ghost use Rattle.lawdesk.specs.Entering as spec;
 ghost use Rattle.lawdesk.specs.Entering.{Enters};
 

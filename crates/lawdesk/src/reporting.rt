@@ -1,10 +1,10 @@
 //! Reporting: what the program tells of its input, as a status and bytes.
 
 ghost use Rattle.std.specs.Prelude.{◌≡◌, ◌++◌, ◌∷◌, [], IfOk, Result};
-ghost use Rattle.law_register.specs.Answers.{Answers};
-ghost use Rattle.law_register.specs.Asking.{answer_at};
-ghost use Rattle.law_register.specs.declared.answer.Answer.{Answer};
-ghost use Rattle.law_register.specs.declared.rules.QueryRule.{QueryRule};
+ghost use Rattle.law_register.specs.Answer.Answers.{Answers};
+ghost use Rattle.law_register.specs.Answer.Asking.{answer_at};
+ghost use Rattle.law_register.specs.declared.answer.answer.Answer.{Answer};
+ghost use Rattle.law_register.specs.declared.answer.queries.QueryRule.{QueryRule};
 ghost use Rattle.lawdesk.specs.Reports.{told, told_answer, told_on, told_rule, told_fault};
 ghost use Rattle.lawdesk.specs.Views.{report_view};
 

@@ -7,12 +7,12 @@ use Rattle.akn_json.specs.AnswerData.{answer_data}
 use Rattle.akn_json.specs.RefusalData.{query_data}
 use Rattle.desk_base.specs.Ids.{id_text}
 use Rattle.frbr_names.specs.declared.expression_iri.ExpressionIri.{ExpressionIri}
-use Rattle.law_register.specs.declared.answer.Answer.{Answer}
-use Rattle.law_register.specs.declared.known.Known.{Known}
-use Rattle.law_register.specs.declared.known.KnownMod.{KnownMod}
-use Rattle.law_register.specs.declared.question.Question.{Question}
-use Rattle.law_register.specs.declared.question.Reading.{Reading}
-use Rattle.law_register.specs.declared.rules.QueryRule.{QueryRule}
+use Rattle.law_register.specs.declared.answer.answer.Answer.{Answer}
+use Rattle.law_register.specs.declared.register.known.Known.{Known}
+use Rattle.law_register.specs.declared.register.known.KnownMod.{KnownMod}
+use Rattle.law_register.specs.declared.answer.question.Question.{Question}
+use Rattle.law_register.specs.declared.answer.question.Reading.{Reading}
+use Rattle.law_register.specs.declared.answer.queries.QueryRule.{QueryRule}
 
 -- how many law entries and how many entries there are
 abbrev pub front_line : ℕ → ℕ → List ℕ

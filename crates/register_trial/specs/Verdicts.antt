@@ -5,12 +5,12 @@ use Rattle.serde_json.specs.Written.{compact_text}
 use Rattle.akn_json.specs.Reads.{Read}
 use Rattle.akn_json.specs.RefusalData.{form_fault_data, rule_data}
 use Rattle.akn_json.specs.declared.asked.Asked.{Asked}
-use Rattle.law_register.specs.Verdicts.{verdict}
-use Rattle.law_register.specs.declared.entry.Entry.{Entry}
-use Rattle.law_register.specs.declared.verdict.Reply.{Reply}
-use Rattle.law_register.specs.declared.verdict.Reply.TheVariants as reply
-use Rattle.law_register.specs.declared.verdict.Verdict.{Verdict}
-use Rattle.law_register.specs.declared.verdict.Verdict.TheVariants.{Accepted, Repeat, Refused}
+use Rattle.law_register.specs.Register.Verdicts.{verdict}
+use Rattle.law_register.specs.declared.register.entry.Entry.{Entry}
+use Rattle.law_register.specs.declared.register.verdict.Reply.{Reply}
+use Rattle.law_register.specs.declared.register.verdict.Reply.TheVariants as reply
+use Rattle.law_register.specs.declared.register.verdict.Verdict.{Verdict}
+use Rattle.law_register.specs.declared.register.verdict.Verdict.TheVariants.{Accepted, Repeat, Refused}
 
 -- the reply to an accepted command, as a JSON object of one member
 abbrev pub reply_text : Reply → List ℕ

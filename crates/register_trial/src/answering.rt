@@ -1,10 +1,10 @@
 //! The line of an answer.
 
 ghost use Rattle.std.specs.Prelude.{◌≡◌, IfOk, Result};
-ghost use Rattle.law_register.specs.Answers.{Answers};
-ghost use Rattle.law_register.specs.Asking.{answer_at};
-ghost use Rattle.law_register.specs.declared.answer.Answer.{Answer};
-ghost use Rattle.law_register.specs.declared.rules.QueryRule.{QueryRule};
+ghost use Rattle.law_register.specs.Answer.Answers.{Answers};
+ghost use Rattle.law_register.specs.Answer.Asking.{answer_at};
+ghost use Rattle.law_register.specs.declared.answer.answer.Answer.{Answer};
+ghost use Rattle.law_register.specs.declared.answer.queries.QueryRule.{QueryRule};
 ghost use Rattle.register_trial.specs.Knowing as spec;
 
 use akn_json::{put_answer, put_query_rule};

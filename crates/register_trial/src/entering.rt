@@ -1,7 +1,7 @@
 //! Entering: a command that is accepted becomes an entry.
 
 ghost use Rattle.std.specs.Prelude.{◌≡◌, ◌++◌, ◌∷◌, [], true, OnOk, OnErr};
-ghost use Rattle.law_register.specs.Verdicts.{is_accepted, verdict};
+ghost use Rattle.law_register.specs.Register.Verdicts.{is_accepted, verdict};
 ghost use Rattle.register_trial.specs.Verdicts as spec;
 
 use akn_json::Asked;

@@ -1,7 +1,7 @@
 //! The line of what a viewpoint knows of a work.
 
 ghost use Rattle.std.specs.Prelude.{◌≡◌, ◌++◌, Some, IfOk, OnOk, string_bytes};
-ghost use Rattle.law_register.specs.KnownIds as known;
+ghost use Rattle.law_register.specs.Register.KnownIds as known;
 ghost use Rattle.register_trial.specs.Knowing as spec;
 
 use desk_base::Memory;

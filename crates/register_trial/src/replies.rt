@@ -1,9 +1,9 @@
 //! The lines of verdicts, and of the front.
 
 ghost use Rattle.std.specs.Prelude.{◌≡◌, IfOk, length, string_bytes};
-ghost use Rattle.law_register.specs.LawList.{front};
+ghost use Rattle.law_register.specs.Register.LawList.{front};
 ghost use Rattle.register_trial.specs.Knowing.{front_line};
-ghost use Rattle.law_register.specs.declared.verdict.Verdict.TheVariants.{Repeat};
+ghost use Rattle.law_register.specs.declared.register.verdict.Verdict.TheVariants.{Repeat};
 ghost use Rattle.register_trial.specs.Verdicts as spec;
 
 use akn_json::put_rule;

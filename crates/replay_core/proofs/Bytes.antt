@@ -2,7 +2,7 @@
 use Rattle.std.proofs.Common.{◌≡◌, ◌∙◌, ap, refl, ℕ, ◌==◌, ◌&&◌, ◌||◌, nat_lt, nat_cmp, is_lt, Less, Equal, Greater, Ordering, Bool, true, false, cond, List, [], ◌∷◌}
 use Rattle.std.specs.Ordering.{ordering_then}
 use Rattle.std.specs.Cmp.Lexicographic.{slice_cmp}
-use Rattle.law_register.specs.Order.{bytes_lt}
+use Rattle.law_register.specs.Answer.Order.{bytes_lt}
 
 pub one_byte : (less same : Bool) (o : Ordering) → is_lt (ordering_then (cond less Less (cond same Equal Greater)) o) ≡ (less || (same && is_lt o))
 one_byte true same o = refl

@@ -11,8 +11,8 @@ use Rattle.std.proofs.lemmas.Map.Text.{is_eq-slice_cmp}
 use Rattle.bearing_mods.specs.Turns.{is_lower}
 use Rattle.desk_base.specs.declared.id.Id.{Id}
 use Rattle.frbr_names.specs.Works.{date_named}
-use Rattle.law_register.specs.Order.{day_in, source_day, bytes_lt, source_before, is_same_source}
-use Rattle.law_register.specs.declared.modification.ModSource.{ModSource}
+use Rattle.law_register.specs.Answer.Order.{day_in, source_day, bytes_lt, source_before, is_same_source}
+use Rattle.law_register.specs.declared.law.modification.ModSource.{ModSource}
 use Rattle.replay_core.specs.Dues.{comes_before}
 use Rattle.replay_core.specs.declared.order.Due.{Due}
 use Rattle.replay_core.proofs.Bytes.{one_byte, bytes_less}

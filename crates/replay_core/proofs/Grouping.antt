@@ -3,12 +3,12 @@ use Rattle.std.proofs.Common.{◌≡◌, ◌∙◌, sym, ap, ℕ, ◌==◌, ◌&
 use Rattle.std.proofs.lemmas.Bool.Decides.{nat_tests}
 use Rattle.std.proofs.lemmas.Slice.Eq.{bytes_eq-Decides}
 use Rattle.desk_base.specs.declared.id.Id.{Id}
-use Rattle.law_register.specs.declared.modification.Destination.{Destination}
-use Rattle.law_register.specs.declared.modification.Destination.TheVariants as to
-use Rattle.law_register.specs.Counted.{is_same_id, is_same, take_turn, take_turns}
+use Rattle.law_register.specs.declared.law.modification.Destination.{Destination}
+use Rattle.law_register.specs.declared.law.modification.Destination.TheVariants as to
+use Rattle.law_register.specs.Answer.Counted.{is_same_id, is_same, take_turn, take_turns}
 use Rattle.bearing_mods.specs.Turns.{Turn}
 use Rattle.std.specs.Map.{lookup}
-use Rattle.law_register.specs.contracts.modification.DestinationPartialEq.TheImpl.{eq-value}
+use Rattle.law_register.specs.contracts.law.modification.DestinationPartialEq.TheImpl.{eq-value}
 use Rattle.replay_core.specs.declared.counted.Group.{Group}
 use Rattle.replay_core.specs.Groups.{forces_of, efficacies_of}
 

@@ -10,9 +10,9 @@ use Rattle.act_tree.specs.Seen.{tree_view, has_node, provision_at}
 use Rattle.act_tree.specs.Slots.{at, number, size}
 use Rattle.act_tree.proofs.Climbing.{Seated}
 use Rattle.act_tree.proofs.TreeNodes.{node_seated, found_held}
-use Rattle.law_register.specs.declared.known.Known.{Known}
-use Rattle.law_register.specs.declared.question.Reading.{Reading}
-use Rattle.law_register.specs.Flags.{flag, flag_below, flag_in, flag_among, or_else, root_flag}
+use Rattle.law_register.specs.declared.register.known.Known.{Known}
+use Rattle.law_register.specs.declared.answer.question.Reading.{Reading}
+use Rattle.law_register.specs.Answer.Flags.{flag, flag_below, flag_in, flag_among, or_else, root_flag}
 
 some_left : (a b : Option Bool) → is_some a ≡ true → is_some (or_else a b) ≡ true
 some_left (Some f) b is = refl

@@ -3,15 +3,15 @@ use Rattle.std.proofs.Common.{◌≡◌, ◌∙◌, sym, ap, refl, ℕ, zero, su
 use Rattle.std.proofs.lemmas.Bool.Decides.{nat_tests}
 use Rattle.std.specs.List.{list_any}
 use Rattle.desk_base.specs.declared.id.Id.{Id}
-use Rattle.law_register.specs.Bearing.{force_on, period_on, bears_on}
-use Rattle.law_register.specs.Counted.{is_same_id}
-use Rattle.law_register.specs.declared.known.KnownMod.{KnownMod}
-use Rattle.law_register.specs.declared.modification.Destination.TheVariants as to
-use Rattle.law_register.specs.declared.modification.Modification.{Modification}
-use Rattle.law_register.specs.declared.modification.Modification.TheVariants.{Textual, Force, Efficacy}
-use Rattle.law_register.specs.declared.question.Reading.{Reading}
-use Rattle.law_register.specs.Order.{Due, is_before, insert_due, joined, due_of}
-use Rattle.law_register.specs.Soundness.{id_twice}
+use Rattle.law_register.specs.Answer.Bearing.{force_on, period_on, bears_on}
+use Rattle.law_register.specs.Answer.Counted.{is_same_id}
+use Rattle.law_register.specs.declared.register.known.KnownMod.{KnownMod}
+use Rattle.law_register.specs.declared.law.modification.Destination.TheVariants as to
+use Rattle.law_register.specs.declared.law.modification.Modification.{Modification}
+use Rattle.law_register.specs.declared.law.modification.Modification.TheVariants.{Textual, Force, Efficacy}
+use Rattle.law_register.specs.declared.answer.question.Reading.{Reading}
+use Rattle.law_register.specs.Answer.Order.{Due, is_before, insert_due, joined, due_of}
+use Rattle.law_register.specs.Answer.Soundness.{id_twice}
 use Rattle.replay_core.specs.declared.order.Due as own
 
 pub same_sym : (a b : Id) (t : Bool) → is_same_id a b ≡ t → is_same_id b a ≡ t

@@ -3,14 +3,14 @@ use Rattle.std.proofs.Common.{◌≡◌, ◌∙◌, ap, refl, sym, ℕ, ◌+◌,
 use Rattle.std.proofs.lemmas.List.{drop_more}
 use Rattle.std.proofs.lemmas.Option.{slice_get-get_or}
 use Rattle.desk_base.specs.declared.id.Id.{Id}
-use Rattle.law_register.specs.declared.known.KnownMod.{KnownMod}
-use Rattle.law_register.specs.declared.modification.Destination.TheVariants as to
-use Rattle.law_register.specs.declared.modification.ModSource.{ModSource}
-use Rattle.law_register.specs.declared.modification.Modification.{Modification}
-use Rattle.law_register.specs.declared.modification.Modification.TheVariants.{Textual, Force, Efficacy}
-use Rattle.law_register.specs.declared.question.Reading.{Reading}
-use Rattle.law_register.specs.Bearing.{force_on, period_on, bears_on}
-use Rattle.law_register.specs.Order as order
+use Rattle.law_register.specs.declared.register.known.KnownMod.{KnownMod}
+use Rattle.law_register.specs.declared.law.modification.Destination.TheVariants as to
+use Rattle.law_register.specs.declared.law.modification.ModSource.{ModSource}
+use Rattle.law_register.specs.declared.law.modification.Modification.{Modification}
+use Rattle.law_register.specs.declared.law.modification.Modification.TheVariants.{Textual, Force, Efficacy}
+use Rattle.law_register.specs.declared.answer.question.Reading.{Reading}
+use Rattle.law_register.specs.Answer.Bearing.{force_on, period_on, bears_on}
+use Rattle.law_register.specs.Answer.Order as order
 use Rattle.replay_core.specs.declared.order.Due.{Due}
 use Rattle.replay_core.specs.Ascending.{IsAscending}
 use Rattle.replay_core.specs.Dues.{precedes, comes_before, insert_listed, started, start_on, body_listed, listed, edit_in, edit_at, StandsFor, StandFor}

@@ -10,15 +10,15 @@ use Rattle.act_tree.specs.Provisions.{Provision}
 use Rattle.act_tree.specs.Seen.{provision_at, branch_at, below_at}
 use Rattle.act_tree.proofs.Texts.{same_text}
 use Rattle.act_tree.proofs.Walking.{branch_is, nodes_from}
-use Rattle.law_register.specs.Shown.{Shown}
-use Rattle.law_register.specs.ShownNodes.{shown_view}
-use Rattle.law_register.specs.declared.answer_node.AnswerNode.{AnswerNode}
-use Rattle.law_register.specs.declared.known.Known.{Known}
-use Rattle.law_register.specs.declared.question.Reading.{Reading}
-use Rattle.law_register.specs.Answers as answers
-use Rattle.law_register.specs.Answers.{shown, shown_as, all_shown, portion_in, portion_among}
-use Rattle.law_register.specs.Flags as flags
-use Rattle.law_register.specs.Flags.{flag_below, flag_in, flag_among}
+use Rattle.law_register.specs.Answer.Shown.{Shown}
+use Rattle.law_register.specs.Answer.ShownNodes.{shown_view}
+use Rattle.law_register.specs.declared.answer.answer_node.AnswerNode.{AnswerNode}
+use Rattle.law_register.specs.declared.register.known.Known.{Known}
+use Rattle.law_register.specs.declared.answer.question.Reading.{Reading}
+use Rattle.law_register.specs.Answer.Answers as answers
+use Rattle.law_register.specs.Answer.Answers.{shown, shown_as, all_shown, portion_in, portion_among}
+use Rattle.law_register.specs.Answer.Flags as flags
+use Rattle.law_register.specs.Answer.Flags.{flag_below, flag_in, flag_among}
 
 module _ (known : Known) (reading : Reading) (day : ℕ) where
   pub branches_of-shown : (numbering : Numbering) (flag : Bool) (above : Option (List ℕ)) (bs : List (Branch Provision))

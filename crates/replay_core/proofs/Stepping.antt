@@ -5,9 +5,9 @@ use Rattle.act_tree.specs.declared.cause.Cause.{Cause}
 use Rattle.act_tree.specs.Branches.{Branches}
 use Rattle.act_tree.specs.Provisions.{Provision}
 use Rattle.textual_mods.specs.Edits as edits
-use Rattle.law_register.specs.declared.known.KnownMod.{KnownMod}
-use Rattle.law_register.specs.Order.{Due}
-use Rattle.law_register.specs.Replay.{VersionValue, taken, replayed}
+use Rattle.law_register.specs.declared.register.known.KnownMod.{KnownMod}
+use Rattle.law_register.specs.Answer.Order.{Due}
+use Rattle.law_register.specs.Answer.Replay.{VersionValue, taken, replayed}
 use Rattle.replay_core.specs.declared.order.Due as own
 use Rattle.replay_core.specs.Dues.{edit_at, StandsFor, StandFor}
 use Rattle.replay_core.specs.Replaying.{edited_by}

@@ -2,9 +2,9 @@
 use Rattle.std.proofs.Common.{◌≡◌, ℕ, Bool, true, false, not, ◌&&◌, cond, List, [], ◌∷◌, map, refl, ap, arith}
 use Rattle.std.proofs.lemmas.Bool.Decides.{nat_tests}
 use Rattle.bearing_mods.specs.Turns.{Turn, is_earlier, is_not_after, is_in_order, force_turn, efficacy_turn}
-use Rattle.law_register.specs.declared.known.KnownMod.{KnownMod}
-use Rattle.law_register.specs.declared.modification.Destination.{Destination}
-use Rattle.law_register.specs.Counted.{take_turn, take_turns, force_from, efficacy_from, forces_on, efficacies_on}
+use Rattle.law_register.specs.declared.register.known.KnownMod.{KnownMod}
+use Rattle.law_register.specs.declared.law.modification.Destination.{Destination}
+use Rattle.law_register.specs.Answer.Counted.{take_turn, take_turns, force_from, efficacy_from, forces_on, efficacies_on}
 
 -- of two turns, only one comes before the other
 earlier-once : (a b : Turn) → is_earlier a b ≡ true → is_earlier b a ≡ false

@@ -4,16 +4,16 @@ use Rattle.desk_base.specs.declared.id.Id.{Id}
 use Rattle.desk_base.specs.declared.period.Period.{Period}
 use Rattle.bearing_mods.specs.Turns.{is_lower}
 use Rattle.textual_mods.specs.declared.edit.TextualMod.{TextualMod}
-use Rattle.law_register.specs.declared.known.KnownMod.{KnownMod}
-use Rattle.law_register.specs.declared.modification.Destination.{Destination}
-use Rattle.law_register.specs.declared.modification.Destination.TheVariants as to
-use Rattle.law_register.specs.declared.modification.ModSource.{ModSource}
-use Rattle.law_register.specs.declared.modification.Modification.{Modification}
-use Rattle.law_register.specs.declared.modification.Modification.TheVariants.{Textual, Force, Efficacy}
-use Rattle.law_register.specs.declared.question.Reading.{Reading}
-use Rattle.law_register.specs.Bearing.{force_on, period_on, bears_on}
-use Rattle.law_register.specs.Order.{source_before, is_same_source}
-use Rattle.law_register.specs.Order as order
+use Rattle.law_register.specs.declared.register.known.KnownMod.{KnownMod}
+use Rattle.law_register.specs.declared.law.modification.Destination.{Destination}
+use Rattle.law_register.specs.declared.law.modification.Destination.TheVariants as to
+use Rattle.law_register.specs.declared.law.modification.ModSource.{ModSource}
+use Rattle.law_register.specs.declared.law.modification.Modification.{Modification}
+use Rattle.law_register.specs.declared.law.modification.Modification.TheVariants.{Textual, Force, Efficacy}
+use Rattle.law_register.specs.declared.answer.question.Reading.{Reading}
+use Rattle.law_register.specs.Answer.Bearing.{force_on, period_on, bears_on}
+use Rattle.law_register.specs.Answer.Order.{source_before, is_same_source}
+use Rattle.law_register.specs.Answer.Order as order
 use Rattle.replay_core.specs.Ascending.{placed}
 use Rattle.replay_core.specs.declared.order.Due.{Due}
 

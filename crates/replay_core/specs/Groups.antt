@@ -3,9 +3,9 @@ use Rattle.std.specs.Prelude.{◌≡◌, ℕ, List, [], Option, Some, None}
 use Rattle.indexmap.specs.IndexMap.{IndexMap, get_by}
 use Rattle.bearing_mods.specs.declared.force.CountedForce.{CountedForce}
 use Rattle.bearing_mods.specs.declared.efficacy.CountedEfficacy.{CountedEfficacy}
-use Rattle.law_register.specs.declared.known.KnownMod.{KnownMod}
-use Rattle.law_register.specs.declared.modification.Destination.{Destination}
-use Rattle.law_register.specs.Counted.{is_same, forces_on, efficacies_on}
+use Rattle.law_register.specs.declared.register.known.KnownMod.{KnownMod}
+use Rattle.law_register.specs.declared.law.modification.Destination.{Destination}
+use Rattle.law_register.specs.Answer.Counted.{is_same, forces_on, efficacies_on}
 use Rattle.replay_core.specs.declared.counted.Group.{Group}
 
 -- the force modifications of a group; none where there is no group

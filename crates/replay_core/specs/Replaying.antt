@@ -7,8 +7,8 @@ use Rattle.act_tree.specs.Brought.{has_brought}
 use Rattle.act_tree.specs.Provisions.{Provision}
 use Rattle.textual_mods.specs.Edits.{applied}
 use Rattle.textual_mods.specs.declared.edit.TextualMod.{TextualMod}
-use Rattle.law_register.specs.Counted.{is_same_id}
-use Rattle.law_register.specs.Replay.{VersionValue, taken}
+use Rattle.law_register.specs.Answer.Counted.{is_same_id}
+use Rattle.law_register.specs.Answer.Replay.{VersionValue, taken}
 
 -- a version after the edit of a modification, if there is one
 abbrev pub edited_by : VersionValue → Id → Option TextualMod → VersionValue

@@ -4,12 +4,12 @@ ghost use Rattle.std.specs.Prelude.{◌≡◌, ◌∷◌, [], true, None, Some, 
 ghost use Rattle.std.specs.List.{All};
 ghost use Rattle.act_tree.specs.Branches.{branches_of, listed};
 ghost use Rattle.act_tree.specs.Seen.{tree_view, has_node, provision_at, branch_at};
-ghost use Rattle.law_register.specs.Answers as spec;
-ghost use Rattle.law_register.specs.Answers.{Answers, all_shown, portion_among};
-ghost use Rattle.law_register.specs.ShownNodes.{shown_view};
-ghost use Rattle.law_register.specs.Flags as flags;
-ghost use Rattle.law_register.specs.Replay.{replay_on};
-ghost use Rattle.law_register.specs.Versions.{version_view};
+ghost use Rattle.law_register.specs.Answer.Answers as spec;
+ghost use Rattle.law_register.specs.Answer.Answers.{Answers, all_shown, portion_among};
+ghost use Rattle.law_register.specs.Answer.ShownNodes.{shown_view};
+ghost use Rattle.law_register.specs.Answer.Flags as flags;
+ghost use Rattle.law_register.specs.Answer.Replay.{replay_on};
+ghost use Rattle.law_register.specs.Answer.Versions.{version_view};
 
 use crate::on_day::OnDay;
 use crate::showing::{find_flag, find_portion, show_all};
@@ -172,7 +172,7 @@ fn answer_from(
 }
 
 /// The answer to a question, from the version that it asks for, or the first rule that it breaks.
-#[tactic(auto, unfolding(law_register::specs::Answers::answer_on))]
+#[tactic(auto, unfolding(law_register::specs::Answer::Answers::answer_on))]
 pub fn answer(
     alloc: Global,
     known: &Known,

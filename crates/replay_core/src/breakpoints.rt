@@ -1,7 +1,7 @@
 //! The days on which the text of a work may change.
 
 ghost use Rattle.std.specs.Prelude.{◌≡◌, [], ◌++◌, ◌∷◌, ◌≤◌, IfOk, OnOk, IfSome, IfNone, if◌then◌else◌, length, take, drop};
-ghost use Rattle.law_register.specs.Breakpoints as spec;
+ghost use Rattle.law_register.specs.Answer.Breakpoints as spec;
 
 use bearing_mods::{EfficacyEffect, ForceEffect};
 use desk_base::{Day, Memory, Period};

@@ -1,12 +1,12 @@
 //! The modifications of force and efficacy that are counted on a day, by what they are directed at.
 
 ghost use Rattle.std.specs.Prelude.{◌≡◌, [], ◌++◌, ◌∷◌, ◌≤◌, ℕ, Some, OnOk, IfOk, length, nat_le, take, drop, if◌then◌else◌};
-ghost use Rattle.law_register.specs.Counted.{is_same, take_turn, take_turns, force_from, efficacy_from, forces_on, efficacies_on};
+ghost use Rattle.law_register.specs.Answer.Counted.{is_same, take_turn, take_turns, force_from, efficacy_from, forces_on, efficacies_on};
 ghost use Rattle.bearing_mods.specs.Turns as turns;
 ghost use Rattle.bearing_mods.specs.Turns.{force_turn, efficacy_turn};
 ghost use Rattle.indexmap.specs.IndexMap.{get_by};
 ghost use Rattle.replay_core.specs.Groups.{forces_at, efficacies_at, CountsForce, CountsEfficacy};
-ghost use Rattle.law_register.specs.declared.modification.Destination.{Destination};
+ghost use Rattle.law_register.specs.declared.law.modification.Destination.{Destination};
 
 use bearing_mods::{CountedEfficacy, CountedForce};
 use desk_base::{Day, Id, Memory};

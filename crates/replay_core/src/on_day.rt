@@ -1,11 +1,11 @@
 //! A work on a day, in a reading: whether what is known of it bears.
 
 ghost use Rattle.std.specs.Prelude.{◌≡◌, ℕ, List, IfOk};
-ghost use Rattle.law_register.specs.Bearing as bearing;
-ghost use Rattle.law_register.specs.Bearing.{force_of_act};
-ghost use Rattle.law_register.specs.Counted.{forces_on, efficacies_on};
-ghost use Rattle.law_register.specs.Flags as flags;
-ghost use Rattle.law_register.specs.declared.modification.Destination.TheVariants as to;
+ghost use Rattle.law_register.specs.Answer.Bearing as bearing;
+ghost use Rattle.law_register.specs.Answer.Bearing.{force_of_act};
+ghost use Rattle.law_register.specs.Answer.Counted.{forces_on, efficacies_on};
+ghost use Rattle.law_register.specs.Answer.Flags as flags;
+ghost use Rattle.law_register.specs.declared.law.modification.Destination.TheVariants as to;
 ghost use Rattle.replay_core.specs.Dues.{start_on};
 ghost use Rattle.replay_core.specs.Groups.{CountsForce, CountsEfficacy};
 

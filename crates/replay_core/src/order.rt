@@ -2,7 +2,7 @@
 
 ghost use Rattle.std.specs.Prelude.{◌≡◌, ◌++◌, ◌∷◌, ◌≤◌, ◌&&◌, ◌||◌, IfOk, OnOk, length, map, take, drop};
 ghost use Rattle.bearing_mods.specs.Turns.{is_lower};
-ghost use Rattle.law_register.specs.Order as spec;
+ghost use Rattle.law_register.specs.Answer.Order as spec;
 ghost use Rattle.replay_core.specs.Ascending.{IsAscending};
 ghost use Rattle.replay_core.specs.Dues.{comes_before, insert_listed, textual_listed, body_listed, listed, StandFor};
 

@@ -5,9 +5,9 @@ ghost use Rattle.std.specs.List.{All};
 ghost use Rattle.act_tree.specs.Branches.{branch, branches_of};
 ghost use Rattle.act_tree.specs.Eids as spec;
 ghost use Rattle.act_tree.specs.Seen.{tree_view, has_node, provision_at, branch_at};
-ghost use Rattle.law_register.specs.Answers.{shown_as, all_shown, portion_among};
-ghost use Rattle.law_register.specs.Flags.{flag_below, flag_among};
-ghost use Rattle.law_register.specs.ShownNodes.{shown_view};
+ghost use Rattle.law_register.specs.Answer.Answers.{shown_as, all_shown, portion_among};
+ghost use Rattle.law_register.specs.Answer.Flags.{flag_below, flag_among};
+ghost use Rattle.law_register.specs.Answer.ShownNodes.{shown_view};
 
 use crate::on_day::OnDay;
 use act_tree::{NodeId, Tree, eid_below};

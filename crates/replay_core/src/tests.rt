@@ -3,8 +3,8 @@
 ghost use Rattle.std.specs.Prelude.{◌≡◌, ◌<◌, ◌∷◌, [], IfOk, None, Some};
 ghost use Rattle.act_tree.specs.Branches.{branches_of};
 ghost use Rattle.act_tree.specs.Faults.{first_fault};
-ghost use Rattle.law_register.specs.Soundness.{IsSound, IsSoundBody};
-ghost use Rattle.law_register.specs.declared.question.Reading.TheVariants.{Force as InForce};
+ghost use Rattle.law_register.specs.Answer.Soundness.{IsSound, IsSoundBody};
+ghost use Rattle.law_register.specs.declared.answer.question.Reading.TheVariants.{Force as InForce};
 
 use crate::FromEnacted;
 use act_tree::{Cause, NodeSpec, Nodes, Refs, Tree};

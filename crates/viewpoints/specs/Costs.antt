@@ -1,11 +1,11 @@
 -- What an answer costs.
 use Rattle.std.specs.Prelude.{ℕ, List, Option, Some, None, length}
-use Rattle.law_register.specs.declared.entry.Entry.{Entry}
-use Rattle.law_register.specs.declared.known.Known.{Known}
-use Rattle.law_register.specs.declared.question.Question.{Question}
-use Rattle.law_register.specs.Answers.{asked_day}
-use Rattle.law_register.specs.Asking.{known_for}
-use Rattle.law_register.specs.Order.{order}
+use Rattle.law_register.specs.declared.register.entry.Entry.{Entry}
+use Rattle.law_register.specs.declared.register.known.Known.{Known}
+use Rattle.law_register.specs.declared.answer.question.Question.{Question}
+use Rattle.law_register.specs.Answer.Answers.{asked_day}
+use Rattle.law_register.specs.Answer.Asking.{known_for}
+use Rattle.law_register.specs.Answer.Order.{order}
 
 -- how many modifications of a work bear on the day that a question asks for
 abbrev pub bearing_by : Question → Option Known → ℕ

@@ -1,10 +1,10 @@
 //! Past: answers at every viewpoint, by what the law entries up to it make known.
 
 ghost use Rattle.std.specs.Prelude.{◌≡◌, ◌+◌, ◌≤◌, length, IfOk, IfSome};
-ghost use Rattle.law_register.specs.Answers.{Answers, answer_on, asked_day};
-ghost use Rattle.law_register.specs.Asking.{answer_at, known_for};
-ghost use Rattle.law_register.specs.Order.{order};
-ghost use Rattle.law_register.specs.Soundness.{IsSound};
+ghost use Rattle.law_register.specs.Answer.Answers.{Answers, answer_on, asked_day};
+ghost use Rattle.law_register.specs.Answer.Asking.{answer_at, known_for};
+ghost use Rattle.law_register.specs.Answer.Order.{order};
+ghost use Rattle.law_register.specs.Answer.Soundness.{IsSound};
 ghost use Rattle.viewpoints.specs.Costs.{bearing_at};
 
 use desk_base::{Day, Memory, Steps};
@@ -71,7 +71,7 @@ impl Past {
 
     /// The answer to a question at its viewpoint, or the first rule that it breaks. It takes one step at most for each modification
     /// that bears.
-    #[tactic(auto, unfolding(law_register::specs::Asking::answer_at, crate::specs::Costs::bearing_at))]
+    #[tactic(auto, unfolding(law_register::specs::Answer::Asking::answer_at, crate::specs::Costs::bearing_at))]
     pub fn answer_past<P: Replayer, L: Ledger>(
         &mut self,
         alloc: Global,

@@ -6,7 +6,7 @@ ghost use Rattle.serde_json.specs.Data.{array};
 ghost use Rattle.serde_json.specs.Written.{outline, items_outline, members_outline};
 ghost use Rattle.act_tree.specs.Branches.{branches_of};
 ghost use Rattle.akn_json.specs.AnswerData.{node_data, nodes_data, wid_data};
-ghost use Rattle.law_register.specs.ShownNodes.{shown_view};
+ghost use Rattle.law_register.specs.Answer.ShownNodes.{shown_view};
 
 use super::lists::put_texts;
 use super::members::{put_flag, put_text};

@@ -6,7 +6,7 @@ ghost use Rattle.std.specs.Str.{bytes_eq};
 ghost use Rattle.serde_json.specs.Data.{array, string, put as with_member};
 ghost use Rattle.serde_json.specs.View.{view, members_view};
 ghost use Rattle.act_tree.specs.Branches.{branches_of};
-ghost use Rattle.law_register.specs.ShownNodes.{shown_view};
+ghost use Rattle.law_register.specs.Answer.ShownNodes.{shown_view};
 ghost use Rattle.akn_json.specs.AnswerData as spec;
 
 use super::expressions::expression;

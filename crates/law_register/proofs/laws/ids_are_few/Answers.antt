@@ -1,8 +1,8 @@
 use Rattle.std.proofs.Common.{◌≤◌, ap, subst, List, length}
-use Rattle.law_register.specs.declared.entry.Entry.{Entry}
-use Rattle.law_register.specs.KnownIds.{ids_of}
-use Rattle.law_register.specs.LawList.{laws}
-use Rattle.law_register.specs.Registers.{Contents}
+use Rattle.law_register.specs.declared.register.entry.Entry.{Entry}
+use Rattle.law_register.specs.Register.KnownIds.{ids_of}
+use Rattle.law_register.specs.Register.LawList.{laws}
+use Rattle.law_register.specs.Register.Registers.{Contents}
 use Rattle.law_register.proofs.Limits.{legal_ids}
 use Rattle.law_register.proofs.laws.ids_are_few.Goals as goal
 

@@ -1,7 +1,7 @@
 use Rattle.std.proofs.Common.{◌≡◌, ap, subst, List}
-use Rattle.law_register.specs.declared.entry.Entry.{Entry}
-use Rattle.law_register.specs.LawList.{front, law_numbers, first_numbers}
-use Rattle.law_register.specs.Registers.{Contents}
+use Rattle.law_register.specs.declared.register.entry.Entry.{Entry}
+use Rattle.law_register.specs.Register.LawList.{front, law_numbers, first_numbers}
+use Rattle.law_register.specs.Register.Registers.{Contents}
 use Rattle.law_register.proofs.Once.{legal_numbers}
 use Rattle.law_register.proofs.laws.laws_are_numbered.Goals as goal
 

@@ -1,6 +1,6 @@
 use Rattle.std.proofs.Common.{ap, subst, List}
-use Rattle.law_register.specs.declared.entry.Entry.{Entry}
-use Rattle.law_register.specs.Registers.{Contents}
+use Rattle.law_register.specs.declared.register.entry.Entry.{Entry}
+use Rattle.law_register.specs.Register.Registers.{Contents}
 use Rattle.law_register.proofs.Once.{Once, legal_once}
 use Rattle.law_register.proofs.laws.requests_are_once.Goals as goal
 

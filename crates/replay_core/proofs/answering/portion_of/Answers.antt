@@ -1,7 +1,7 @@
 use Rattle.std.proofs.Common.{◌∙◌, ap, None}
 use Rattle.std.proofs.lemmas.Result.{IfOk-weaker}
 use Rattle.act_tree.specs.Seen.{tree_view}
-use Rattle.law_register.specs.Answers.{all_shown, portion_among}
+use Rattle.law_register.specs.Answer.Answers.{all_shown, portion_among}
 use Rattle.replay_core.proofs.answering.portion_of.Goals as goal
 
 pub returns : goal.returns

@@ -2,7 +2,7 @@ use Rattle.std.proofs.Common.{◌∙◌, ap, sym, None}
 use Rattle.std.proofs.lemmas.Result.{IfOk-weaker}
 use Rattle.act_tree.specs.Branches.{listed, listed-branches_of}
 use Rattle.act_tree.specs.Seen.{tree_view}
-use Rattle.law_register.specs.Answers.{all_shown}
+use Rattle.law_register.specs.Answer.Answers.{all_shown}
 use Rattle.replay_core.proofs.answering.whole.Goals as goal
 
 pub returns : goal.returns

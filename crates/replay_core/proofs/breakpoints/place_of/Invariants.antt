@@ -1,6 +1,6 @@
 -- Those passed are before the new one.
 use Rattle.std.proofs.Common.{◌≡◌, ◌++◌, take, drop}
-use Rattle.law_register.specs.Breakpoints.{insert_day}
+use Rattle.law_register.specs.Answer.Breakpoints.{insert_day}
 use Rattle.replay_core.proofs.breakpoints.place_of.Given as goal
 
 abbrev pub invariant-loop-index : goal.invariant-loop-index

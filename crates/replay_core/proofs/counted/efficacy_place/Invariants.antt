@@ -1,7 +1,7 @@
 -- None of those passed has the new one before it.
 use Rattle.std.proofs.Common.{◌≡◌, ◌++◌, take, drop}
 use Rattle.bearing_mods.specs.Turns.{efficacy_turn}
-use Rattle.law_register.specs.Counted.{take_turn}
+use Rattle.law_register.specs.Answer.Counted.{take_turn}
 use Rattle.replay_core.proofs.counted.efficacy_place.Given as goal
 
 abbrev pub invariant-loop-index : goal.invariant-loop-index

@@ -1,6 +1,6 @@
 use Rattle.std.proofs.Common.{◌∙◌, ap, Some}
 use Rattle.indexmap.specs.IndexMap.{get_by}
-use Rattle.law_register.specs.Counted.{is_same}
+use Rattle.law_register.specs.Answer.Counted.{is_same}
 use Rattle.replay_core.specs.Groups.{forces_of, efficacies_of}
 use Rattle.replay_core.proofs.Grouping.{forces_chosen, efficacies_chosen}
 use Rattle.replay_core.proofs.counted.put_back.Goals as goal

@@ -1,6 +1,6 @@
 use Rattle.std.proofs.Common.{◌∙◌}
-use Rattle.law_register.specs.declared.modification.Destination.{Destination}
-use Rattle.law_register.specs.declared.modification.Destination.TheVariants as to
+use Rattle.law_register.specs.declared.law.modification.Destination.{Destination}
+use Rattle.law_register.specs.declared.law.modification.Destination.TheVariants as to
 use Rattle.replay_core.proofs.Turning.{forces-ordered}
 use Rattle.replay_core.proofs.on_day.act_force.Goals as goal
 

@@ -1,6 +1,6 @@
 use Rattle.std.proofs.Common.{rules, ◌≡◌, sym, ℕ, ◌+◌, ◌-◌, ◌<◌, length, drop, get_or, List}
-use Rattle.law_register.specs.declared.known.KnownMod.{KnownMod}
-use Rattle.law_register.specs.Order.{due_of}
+use Rattle.law_register.specs.declared.register.known.KnownMod.{KnownMod}
+use Rattle.law_register.specs.Answer.Order.{due_of}
 use Rattle.replay_core.specs.Dues.{StandFor}
 use Rattle.replay_core.proofs.Listing.{listed-more, ascending-listed}
 use Rattle.replay_core.proofs.order.due_list.Goals as goal

@@ -1,6 +1,6 @@
 -- Those passed, from the last on, are listed, and in order.
 use Rattle.std.proofs.Common.{drop}
-use Rattle.law_register.specs.Order.{due_of}
+use Rattle.law_register.specs.Answer.Order.{due_of}
 use Rattle.replay_core.specs.Ascending.{IsAscending}
 use Rattle.replay_core.specs.Dues.{comes_before, StandFor}
 use Rattle.replay_core.proofs.order.due_list.Given as goal

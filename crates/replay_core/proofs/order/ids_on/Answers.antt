@@ -1,6 +1,6 @@
 use Rattle.std.proofs.Common.{◌∙◌, ap, map}
 use Rattle.std.proofs.lemmas.Result.{IfOk-weaker}
-use Rattle.law_register.specs.Order.{due_on}
+use Rattle.law_register.specs.Answer.Order.{due_on}
 use Rattle.replay_core.proofs.Listing.{same_ids}
 use Rattle.replay_core.proofs.order.ids_on.Goals as goal
 

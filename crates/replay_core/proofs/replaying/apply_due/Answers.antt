@@ -1,8 +1,8 @@
 use Rattle.std.proofs.Common.{◌≡◌, ap, sym, subst, refl, length, slice_get, Some, None, option_and_then}
 use Rattle.std.proofs.lemmas.List.Elements.{All-get_or}
 use Rattle.std.proofs.lemmas.Option.{slice_get_read, slice_get_past}
-use Rattle.law_register.specs.declared.known.KnownMod.{KnownMod}
-use Rattle.law_register.specs.Soundness.{IsSoundBody}
+use Rattle.law_register.specs.declared.register.known.KnownMod.{KnownMod}
+use Rattle.law_register.specs.Answer.Soundness.{IsSoundBody}
 use Rattle.replay_core.specs.Dues.{edit_in}
 use Rattle.replay_core.proofs.replaying.apply_due.Goals as goal
 

@@ -1,11 +1,11 @@
 use Rattle.std.proofs.Common.{rules, ◌≡◌, ◌∙◌, ◌<◌, sym, ap, subst, arith, drop, length, List, []}
 use Rattle.std.specs.List.{All}
-use Rattle.law_register.specs.declared.known.KnownMod.{KnownMod}
-use Rattle.law_register.specs.Order.{due_on}
-use Rattle.law_register.specs.Order as order
-use Rattle.law_register.specs.Replay.{VersionValue, replayed}
-use Rattle.law_register.specs.Soundness.{IsSoundBody}
-use Rattle.law_register.specs.Versions.{version_view}
+use Rattle.law_register.specs.declared.register.known.KnownMod.{KnownMod}
+use Rattle.law_register.specs.Answer.Order.{due_on}
+use Rattle.law_register.specs.Answer.Order as order
+use Rattle.law_register.specs.Answer.Replay.{VersionValue, replayed}
+use Rattle.law_register.specs.Answer.Soundness.{IsSoundBody}
+use Rattle.law_register.specs.Answer.Versions.{version_view}
 use Rattle.replay_core.specs.declared.order.Due.{Due}
 use Rattle.replay_core.specs.Dues.{edit_at}
 use Rattle.replay_core.specs.Replaying.{edited_by}

@@ -3,9 +3,9 @@
 use Rattle.std.proofs.Common.{◌≡◌, ◌+◌, ◌≤◌, None, drop, take}
 use Rattle.act_tree.specs.Faults.{first_cause}
 use Rattle.act_tree.specs.Seen.{tree_view}
-use Rattle.law_register.specs.Order.{due_on}
-use Rattle.law_register.specs.Replay.{replayed}
-use Rattle.law_register.specs.Versions.{version_view}
+use Rattle.law_register.specs.Answer.Order.{due_on}
+use Rattle.law_register.specs.Answer.Replay.{replayed}
+use Rattle.law_register.specs.Answer.Versions.{version_view}
 use Rattle.replay_core.specs.Replaying.{IsFreshBut}
 use Rattle.replay_core.proofs.Ids.{listed_ids}
 use Rattle.replay_core.proofs.replaying.replay_dues.Given as goal

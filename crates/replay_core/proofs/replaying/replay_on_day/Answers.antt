@@ -4,9 +4,9 @@ use Rattle.act_tree.specs.Branches.{branches_of}
 use Rattle.act_tree.specs.Brought.{has_brought}
 use Rattle.act_tree.specs.Faults.{first_cause}
 use Rattle.textual_mods.proofs.Starting.{enacted_fits, enacted_brings_none}
-use Rattle.law_register.specs.Order.{due_on}
-use Rattle.law_register.specs.Replay.{VersionValue, as_enacted, replayed}
-use Rattle.law_register.specs.Soundness.{id_twice}
+use Rattle.law_register.specs.Answer.Order.{due_on}
+use Rattle.law_register.specs.Answer.Replay.{VersionValue, as_enacted, replayed}
+use Rattle.law_register.specs.Answer.Soundness.{id_twice}
 use Rattle.replay_core.proofs.Ids.{due_differ}
 use Rattle.replay_core.proofs.Listing.{same_ids}
 use Rattle.replay_core.proofs.Stepping.{IsCounted, replayed_counted, same_length}

@@ -3,7 +3,7 @@ use Rattle.std.specs.Str.{bytes_eq}
 use Rattle.act_tree.specs.Branches.{branches_of}
 use Rattle.act_tree.specs.Seen.{provision_at, branch_at}
 use Rattle.act_tree.proofs.Walking.{children_lower}
-use Rattle.law_register.specs.Flags.{flag_among, or_else}
+use Rattle.law_register.specs.Answer.Flags.{flag_among, or_else}
 use Rattle.replay_core.proofs.ShowingLaws.{flag_from, flag_here, flag_beneath, first_flag, second_flag}
 use Rattle.replay_core.proofs.showing.+find_flag.Goals as goal
 

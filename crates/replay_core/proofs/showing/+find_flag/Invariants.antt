@@ -2,7 +2,7 @@
 use Rattle.std.proofs.Common.{◌≡◌, map, drop}
 use Rattle.act_tree.specs.Branches.{branches_of, heights}
 use Rattle.act_tree.specs.Seen.{branch_at}
-use Rattle.law_register.specs.Flags.{flag_among}
+use Rattle.law_register.specs.Answer.Flags.{flag_among}
 use Rattle.replay_core.proofs.showing.+find_flag.Given as goal
 
 abbrev pub decreases-find_flag : goal.decreases-find_flag

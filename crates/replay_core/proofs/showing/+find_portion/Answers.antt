@@ -3,8 +3,8 @@ use Rattle.std.specs.Str.{bytes_eq}
 use Rattle.act_tree.specs.Branches.{branches_of}
 use Rattle.act_tree.specs.Seen.{tree_view, branch_at}
 use Rattle.act_tree.proofs.Walking.{children_lower}
-use Rattle.law_register.specs.Answers.{all_shown, portion_among, or_else}
-use Rattle.law_register.specs.ShownNodes.{shown_view}
+use Rattle.law_register.specs.Answer.Answers.{all_shown, portion_among, or_else}
+use Rattle.law_register.specs.Answer.ShownNodes.{shown_view}
 use Rattle.replay_core.proofs.ShowingLaws.{shown_one, portion_from, portion_here, portion_beneath, first_portion, second_portion, shown_is_some}
 use Rattle.replay_core.proofs.showing.+find_portion.Goals as goal
 

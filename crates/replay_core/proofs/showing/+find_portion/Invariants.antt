@@ -2,7 +2,7 @@
 use Rattle.std.proofs.Common.{◌≡◌, map, option_map, drop}
 use Rattle.act_tree.specs.Branches.{branches_of, heights}
 use Rattle.act_tree.specs.Seen.{tree_view, branch_at}
-use Rattle.law_register.specs.Answers.{all_shown, portion_among}
+use Rattle.law_register.specs.Answer.Answers.{all_shown, portion_among}
 use Rattle.replay_core.proofs.showing.+find_portion.Given as goal
 
 abbrev pub decreases-find_portion : goal.decreases-find_portion

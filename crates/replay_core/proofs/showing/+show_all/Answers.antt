@@ -3,8 +3,8 @@ use Rattle.std.proofs.lemmas.List.{take_all}
 use Rattle.act_tree.specs.Branches.{branches_of}
 use Rattle.act_tree.specs.Seen.{tree_view, branch_at}
 use Rattle.act_tree.proofs.Walking.{children_lower}
-use Rattle.law_register.specs.ShownNodes.{shown_view}
-use Rattle.law_register.specs.Answers.{shown}
+use Rattle.law_register.specs.Answer.ShownNodes.{shown_view}
+use Rattle.law_register.specs.Answer.Answers.{shown}
 use Rattle.replay_core.proofs.ShowingLaws.{branches_of-shown, shown_one, shown_more}
 use Rattle.replay_core.proofs.showing.+show_all.Goals as goal
 

@@ -2,7 +2,7 @@
 use Rattle.std.proofs.Common.{◌≡◌, map, option_map, take}
 use Rattle.act_tree.specs.Branches.{branches_of, heights}
 use Rattle.act_tree.specs.Seen.{tree_view, branch_at}
-use Rattle.law_register.specs.Answers.{shown}
+use Rattle.law_register.specs.Answer.Answers.{shown}
 use Rattle.replay_core.proofs.showing.+show_all.Given as goal
 
 abbrev pub decreases-show_all : goal.decreases-show_all

@@ -3,9 +3,9 @@ use Rattle.std.specs.List.{All}
 use Rattle.desk_base.specs.declared.id.Id.{Id}
 use Rattle.act_tree.specs.Branches.{branches_of}
 use Rattle.act_tree.specs.Faults.{first_fault}
-use Rattle.law_register.specs.declared.known.Known.{Known}
-use Rattle.law_register.specs.declared.known.KnownMod.{KnownMod}
-use Rattle.law_register.specs.Soundness.{IsSound, IsSoundBody, id_twice}
+use Rattle.law_register.specs.declared.register.known.Known.{Known}
+use Rattle.law_register.specs.declared.register.known.KnownMod.{KnownMod}
+use Rattle.law_register.specs.Answer.Soundness.{IsSound, IsSoundBody, id_twice}
 use Rattle.replay_core.proofs.tests.repealed_twice.Goals as goal
 
 two_hold : {A : Type 0} (P : A → Type 0) (a b : A) → P a → P b → (k : ℕ) (d : A) → k < length (a ∷ b ∷ []) → P (get_or (a ∷ b ∷ []) k d)

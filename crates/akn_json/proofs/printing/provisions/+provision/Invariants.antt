@@ -3,7 +3,7 @@ use Rattle.json.specs.Tree.{items_tokens}
 use Rattle.serde_json.specs.Written.{items_outline}
 use Rattle.act_tree.specs.Branches.{branches_of}
 use Rattle.akn_json.specs.AnswerData.{nodes_data}
-use Rattle.law_register.specs.ShownNodes.{shown_list}
+use Rattle.law_register.specs.Answer.ShownNodes.{shown_list}
 use Rattle.akn_json.proofs.printing.provisions.+provision.Given as goal
 
 abbrev pub invariant-put_nodes-loop-node : goal.invariant-put_nodes-loop-node

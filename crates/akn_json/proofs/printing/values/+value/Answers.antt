@@ -5,7 +5,7 @@ use Rattle.serde_json.specs.View.{items_of, view}
 use Rattle.serde_json.proofs.Views.{view-Array}
 use Rattle.act_tree.specs.Branches.{branches_of}
 use Rattle.akn_json.specs.AnswerData.{nodes_data}
-use Rattle.law_register.specs.ShownNodes.{shown_list}
+use Rattle.law_register.specs.Answer.ShownNodes.{shown_list}
 use Rattle.akn_json.proofs.PrintedValues.{shown_node_data, nodes_data-shown_list, more_values}
 use Rattle.akn_json.proofs.printing.values.+value.Goals as goal
 

@@ -1,0 +1,16 @@
+use Rattle.std.proofs.Common.{◌∙◌, ap, length}
+use Rattle.law_register.specs.Register.Drafts.{draft_of}
+use Rattle.law_register.specs.Register.Indexes.{drafter_mark, items_in, ItemsStand}
+use Rattle.law_register.specs.Register.Registers.{Contents}
+use Rattle.law_register.proofs.Lookups.{items_length}
+use Rattle.law_register.proofs.register.register.Register.draft_len.Goals as goal
+
+pub returns-in-Some : goal.returns-in-Some
+returns-in-Some c =
+    let d = c.args.drafter.now in
+    let E = c.self.inside.entries.items in
+    let ix = c.self.inside.indexes in
+    let marks = items_in (drafter_mark ix d) in
+    let items = draft_of d E in
+    let stands : ItemsStand E marks items = (c.self.invariant.stands.drafts d).items in
+    c.len.ensures.value ∙ ap (λ m. length (items_in m)) c.in-Some.ensures ∙ items_length E marks items stands ∙ ap (λ (s : Contents). length (draft_of d s.entries)) c.self.view_is

@@ -1,0 +1,14 @@
+pub mod Answers
+pub mod Asking
+pub mod Bearing
+pub mod Breakpoints
+pub mod Counted
+pub mod Flags
+pub mod Order
+pub mod Queries
+pub mod Questions
+pub mod Replay
+pub mod Shown
+pub mod ShownNodes
+pub mod Soundness
+pub mod Versions

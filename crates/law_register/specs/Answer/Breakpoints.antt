@@ -1,0 +1,64 @@
+-- The days on which the text of a work may change.
+use Rattle.std.specs.Prelude.{ℕ, ◌==◌, nat_lt, List, [], ◌∷◌, Option, Some, None, if◌then◌else◌}
+use Rattle.desk_base.specs.declared.period.Period.{Period}
+use Rattle.bearing_mods.specs.declared.force.ForceEffect.{ForceEffect}
+use Rattle.bearing_mods.specs.declared.force.ForceEffect.TheVariants as force
+use Rattle.bearing_mods.specs.declared.efficacy.EfficacyEffect.{EfficacyEffect}
+use Rattle.bearing_mods.specs.declared.efficacy.EfficacyEffect.TheVariants as efficacy
+use Rattle.law_register.specs.declared.register.known.Known.{Known}
+use Rattle.law_register.specs.declared.register.known.KnownMod.{KnownMod}
+use Rattle.law_register.specs.declared.law.modification.Modification.{Modification}
+use Rattle.law_register.specs.declared.law.modification.Modification.TheVariants.{Textual, Force, Efficacy}
+
+-- the end, where there is one
+abbrev pub end_days : Option ℕ → List ℕ
+end_days None = []
+end_days (Some day) = day ∷ []
+
+-- the bounds of a period
+abbrev pub period_days : Period → List ℕ
+period_days p = p.start ∷ end_days p.end
+
+-- the date of a force effect
+abbrev pub force_date : ForceEffect → ℕ
+force_date (force.Entry day) = day
+force_date (force.Postponed day) = day
+force_date (force.Ended day) = day
+force_date (force.Prorogued day) = day
+force_date (force.ReEnacted day) = day
+
+-- the days of an efficacy effect
+abbrev pub efficacy_days : EfficacyEffect → List ℕ
+efficacy_days (efficacy.Entry day) = day ∷ []
+efficacy_days (efficacy.Ended day) = day ∷ []
+efficacy_days (efficacy.Retroactive day) = day ∷ []
+efficacy_days (efficacy.Postponed day) = day ∷ []
+efficacy_days (efficacy.Prorogued day) = day ∷ []
+efficacy_days efficacy.Extra = []
+efficacy_days (efficacy.Inapplied days) = period_days days
+
+-- the days of a modification: the bounds of its period, or the day from which it is counted and those of its effect
+abbrev pub days_of : Modification → List ℕ
+days_of (Textual source force edit) = period_days force
+days_of (Force source destination on effect) = on ∷ force_date effect ∷ []
+days_of (Efficacy source destination on effect) = on ∷ efficacy_days effect
+
+-- a day takes its place in an ascending list, once
+abbrev pub insert_day : ℕ → List ℕ → List ℕ
+insert_day new [] = new ∷ []
+insert_day new (day ∷ days) =
+    if nat_lt new day then new ∷ day ∷ days else (if new == day then day ∷ days else day ∷ insert_day new days)
+
+-- these days take their places in an ascending list
+abbrev pub insert_days : List ℕ → List ℕ → List ℕ
+insert_days [] days = days
+insert_days (new ∷ news) days = insert_day new (insert_days news days)
+
+-- the days of the modifications that stand
+abbrev pub live_days : List KnownMod → List ℕ
+live_days [] = []
+live_days (m ∷ ms) = insert_days (if m.live then days_of m.body else []) (live_days ms)
+
+-- the days of the act's force period and of the modifications that stand, ascending, each once
+abbrev pub breakpoints : Known → List ℕ
+breakpoints known = insert_days (period_days known.act.force) (live_days known.mods)

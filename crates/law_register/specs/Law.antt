@@ -1,0 +1,4 @@
+pub mod Bounds
+pub mod Same
+pub mod Sizes
+pub mod Spelling

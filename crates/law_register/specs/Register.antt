@@ -1,0 +1,10 @@
+pub mod Drafters
+pub mod Drafts
+pub mod Indexes
+pub mod KnownIds
+pub mod LawList
+pub mod Listing
+pub mod Noting
+pub mod Registers
+pub mod Verdicts
+pub mod Rules

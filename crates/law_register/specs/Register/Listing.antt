@@ -1,0 +1,60 @@
+-- The law entries that concern a work, and its ids by their marks.
+use Rattle.std.specs.Prelude.{ℕ, ◌+◌, nat_le, List, [], ◌∷◌, ◌++◌, length, Option, Some, None, is_none, if◌then◌else◌}
+use Rattle.desk_base.specs.declared.id.Id.{Id}
+use Rattle.law_register.specs.declared.law.command.Command.{Command}
+use Rattle.law_register.specs.declared.register.entry.Entry.{Entry}
+use Rattle.law_register.specs.declared.register.indexes.BodyMark.{BodyMark}
+use Rattle.law_register.specs.declared.register.indexes.EnactedMark.{EnactedMark}
+use Rattle.law_register.specs.declared.register.indexes.IdMark.{IdMark}
+use Rattle.law_register.specs.declared.register.known.KnownMod.{KnownMod}
+use Rattle.law_register.specs.declared.law.modification.Modification.{Modification}
+use Rattle.law_register.specs.Register.Indexes.{told_at, body_of, id_after}
+use Rattle.law_register.specs.Register.KnownIds.{IdFacts}
+use Rattle.law_register.specs.Register.Verdicts.{is_of, concerns}
+
+-- the numbers of those of these law entries that concern a work, behind others and before those that were found, newest first
+abbrev pub numbers_from : List Command → List ℕ → List ℕ → List Command → List ℕ
+numbers_from before work found [] = found
+numbers_from before work found (law ∷ laws) =
+    numbers_from (before ++ law ∷ []) work (if concerns before work law then (length before + 1) ∷ found else found) laws
+
+-- the numbers of the law entries that concern a work, newest first
+abbrev pub numbers_on : List ℕ → List Command → List ℕ
+numbers_on work law = numbers_from [] work [] law
+
+-- a number that is at most a viewpoint
+abbrev pub number_within : ℕ → ℕ → List ℕ
+number_within viewpoint number = if nat_le number viewpoint then number ∷ [] else []
+
+-- the mark of an act that a law entry up to a viewpoint enacts
+abbrev pub enacted_within : ℕ → Option EnactedMark → Option EnactedMark
+enacted_within viewpoint None = None
+enacted_within viewpoint (Some m) = if nat_le m.number viewpoint then Some m else None
+
+-- what is known of an id, if it is recorded in a work
+abbrev pub own_facts : List ℕ → Option IdFacts → Option IdFacts
+own_facts work f = if is_of work f then f else None
+
+-- the mark of an id after law entry `number`, which stands at this index and records these modifications, if there is an entry
+abbrev pub id_told : ℕ → ℕ → List BodyMark → Id → Option IdMark → Option Entry → Option IdMark
+id_told number at bodies id m None = m
+id_told number at bodies id m (Some e) = id_after number at e.command bodies id m
+
+-- the ids of the modifications that law entry `number` records, of which the first is item `item`
+abbrev pub ids_marked : ℕ → ℕ → List BodyMark → List Id
+ids_marked number item [] = []
+ids_marked number item (b ∷ bodies) = record { law = number; item = item } ∷ ids_marked number (item + 1) bodies
+
+-- an id as it is known, by its mark
+abbrev pub known_told : Id → Option ℕ → Option Modification → List KnownMod
+known_told id withdrawn None = []
+known_told id withdrawn (Some body) = record { id = id; live = is_none withdrawn; body = body } ∷ []
+
+abbrev pub known_mark : List Entry → Id → Option IdMark → List KnownMod
+known_mark entries id None = []
+known_mark entries id (Some m) = known_told id m.withdrawn (told_at entries m.entry (body_of m.place))
+
+-- ids as they are known, by their marks
+abbrev pub known_marks : List Entry → (Id → Option IdMark) → List Id → List KnownMod
+known_marks entries mark [] = []
+known_marks entries mark (id ∷ ids) = known_mark entries id (mark id) ++ known_marks entries mark ids

@@ -1,0 +1,35 @@
+-- A register, as a clause sees it: its entries, and for how many more it has room.
+use Rattle.std.specs.Prelude.{◌≡◌, ℕ, ◌-◌, ◌/◌, min, true, List, vec_len, vec_capacity}
+use Rattle.indexmap.specs.IndexMap.{spare}
+use Rattle.law_register.specs.declared.register.entry.Entry.{Entry}
+use Rattle.law_register.specs.declared.register.indexes.Indexes.{Indexes}
+use Rattle.law_register.specs.Register.Indexes.{StandFor}
+use Rattle.law_register.specs.Register.Verdicts.{is_legal}
+
+-- the entries, and for how many more there is room
+pub record Contents : Type 0 where
+  pub entries : List Entry
+  pub spare : ℕ
+
+-- for how many more entries the indexes have room: an entry records 64 ids at most, and a drafter's mark is taken out and put back
+abbrev pub map_room : Indexes → ℕ
+map_room ix = min (spare ix.requests) (min (spare ix.drafters / 2) (min (spare ix.works) (spare ix.ids / 64)))
+
+abbrev pub index_room : Indexes → ℕ
+index_room ix = min (map_room ix) (min (vec_capacity ix.steps - vec_len ix.steps) ((vec_capacity ix.bodies - vec_len ix.bodies) / 64))
+
+-- indexes with the same entries, in the same order, and the same counts
+pub record IsSame (old new : Indexes) : Type 0 where
+  pub requests : new.requests.entries ≡ old.requests.entries
+  pub drafters : new.drafters.entries ≡ old.drafters.entries
+  pub works : new.works.entries ≡ old.works.entries
+  pub ids : new.ids.entries ≡ old.ids.entries
+  pub steps : new.steps.items ≡ old.steps.items
+  pub bodies : new.bodies.items ≡ old.bodies.items
+  pub front : new.front ≡ old.front
+  pub size : new.size ≡ old.size
+
+-- the indexes tell what the definitions tell of the entries, which are legal
+pub record IsKept (ix : Indexes) (entries : List Entry) : Type 0 where
+  pub legal : is_legal entries ≡ true
+  pub stands : StandFor ix entries

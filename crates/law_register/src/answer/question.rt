@@ -1,0 +1,67 @@
+//! A question: which text of which act is asked for.
+
+ghost use Rattle.std.specs.Prelude.{◌≡◌};
+ghost use Rattle.law_register.specs.Answer.Questions.{reading_name};
+
+use desk_base::{Day, Memory, Text};
+use frbr_names::WorkName;
+
+/// Whether texts in force or texts in effect are read.
+#[derive(Clone, Copy, Debug, PartialEq, Eq)]
+pub enum Reading {
+    /// What is in force bears.
+    Force,
+    /// What has efficacy bears.
+    Efficacy,
+}
+
+impl Reading {
+    /// The word for the reading.
+    pub fn name(self) -> &'static str
+        ensures { result.now ≡ reading_name self }
+    {
+        match self {
+            Reading::Force => "force",
+            Reading::Efficacy => "efficacy",
+        }
+    }
+}
+
+/// What is asked: an expression of a work, as known at a viewpoint, in a reading.
+#[derive(Debug, Drop)]
+pub struct Question {
+    /// The IRI of the work.
+    pub work: WorkName,
+    /// Three lower-case letters.
+    pub language: [u8; 3],
+    /// The day of the version. `None`: the act as enacted.
+    pub version: Option<Day>,
+    /// The eId of the provision asked for. `None`: the whole act.
+    pub portion: Option<Text>,
+    /// The number of law entries that are known.
+    pub viewpoint: u32,
+    /// What counts as bearing.
+    pub reading: Reading,
+}
+
+impl Question {
+    ghost use Rattle.std.specs.Prelude.{IfOk};
+
+    /// The same question; its texts are shared.
+    pub fn copy(&self) -> Result<Question, Memory>
+        ensures { IfOk result (λ question. question ≡ self.now) }
+    {
+        let portion = match &self.portion {
+            Some(eid) => Some(eid.copy()?),
+            None => None,
+        };
+        Ok(Question {
+            work: self.work.copy()?,
+            language: self.language,
+            version: self.version,
+            portion,
+            viewpoint: self.viewpoint,
+            reading: self.reading,
+        })
+    }
+}

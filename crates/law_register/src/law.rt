@@ -1,0 +1,14 @@
+//! The law as it is brought: acts, modifications, and the commands that hold them.
+
+mod act;
+pub(crate) mod bounds;
+mod command;
+pub(crate) mod copying;
+mod modification;
+pub(crate) mod same;
+pub(crate) mod sizes;
+
+pub use act::Act;
+pub use command::Command;
+pub use modification::{Destination, ModSource, Modification, Mods};
+pub use sizes::entry_size;

@@ -1,0 +1,147 @@
+//! Modifications of an act, each with its source.
+
+ghost use Rattle.std.specs.Prelude.{◌≡◌, [], ◌++◌, ◌∷◌, OnOk, OnErr};
+
+use bearing_mods::{EfficacyEffect, ForceEffect};
+use desk_base::{Day, Id, Memory, Period, Text};
+use frbr_names::WorkName;
+use std::alloc::Global;
+use std::marker::Model;
+use textual_mods::TextualMod;
+
+/// The place of the provision that modifies: the act, and the order within it.
+#[derive(Debug, Drop)]
+pub struct ModSource {
+    /// The IRI of the work that modifies.
+    pub href: WorkName,
+    /// The place of the modification among those of its source.
+    pub place: u16,
+}
+
+impl ModSource {
+    ghost use Rattle.std.specs.Prelude.{IfOk};
+
+    /// The same source; its text is shared.
+    pub fn copy(&self) -> Result<ModSource, Memory>
+        ensures { IfOk result (λ source. source ≡ self.now) }
+    {
+        Ok(ModSource {
+            href: self.href.copy()?,
+            place: self.place,
+        })
+    }
+}
+
+/// What a modification of force or efficacy is directed at.
+#[derive(Debug, PartialEq, Eq, Hash, Drop)]
+pub enum Destination {
+    /// A textual modification of the same work.
+    Modification(Id),
+    /// A provision, by its wId; `body` is the act itself.
+    Node(Text),
+}
+
+impl Destination {
+    ghost use Rattle.std.specs.Prelude.{IfOk};
+
+    /// The same destination; its text is shared.
+    pub fn copy(&self) -> Result<Destination, Memory>
+        ensures { IfOk result (λ destination. destination ≡ self.now) }
+    {
+        match self {
+            Destination::Modification(id) => Ok(Destination::Modification(*id)),
+            Destination::Node(wid) => Ok(Destination::Node(wid.copy()?)),
+        }
+    }
+}
+
+/// A modification of an act.
+#[derive(Debug, Drop)]
+pub enum Modification {
+    /// A textual modification: while its force period includes a day, it makes one edit.
+    Textual {
+        /// Where it comes from.
+        source: ModSource,
+        /// When it is in force.
+        force: Period,
+        /// What it makes of the text.
+        edit: TextualMod,
+    },
+    /// A force modification: it changes when its destination is in force.
+    Force {
+        /// Where it comes from.
+        source: ModSource,
+        /// What it is directed at.
+        destination: Destination,
+        /// The day from which it is counted.
+        on: Day,
+        /// What it does to the period.
+        effect: ForceEffect,
+    },
+    /// An efficacy modification: it changes when its destination has efficacy.
+    Efficacy {
+        /// Where it comes from.
+        source: ModSource,
+        /// What it is directed at.
+        destination: Destination,
+        /// The day from which it is counted; of a retroactivity, its date.
+        on: Day,
+        /// What it does to the period, or on which days it takes efficacy away.
+        effect: EfficacyEffect,
+    },
+}
+
+/// Modifications in order. A clause sees them as a list.
+#[derive(Debug, Drop)]
+pub struct Mods {
+    items: Vec<Modification>,
+}
+
+impl Model for Mods {
+    ghost use Rattle.std.specs.Prelude.{List};
+    ghost use Rattle.law_register.specs.declared.law.modification.Modification.{Modification};
+
+    ghost Value = { List Modification };
+
+    ghost use Rattle.act_tree.specs.Codes.{branches_code};
+    ghost use Rattle.act_tree.specs.OwnCode.{own_code};
+    ghost use Rattle.std.specs.Coded.{codes};
+
+    ghost coded = { Prim.hlevel (codes, branches_code own_code) };
+
+    ghost view = { λ m. m.items.items };
+}
+
+impl Mods {
+    /// No modifications. It takes no memory.
+    pub fn new(alloc: Global) -> Mods
+        ensures { result ≡ [] }
+    {
+        Mods {
+            items: Vec::new(alloc),
+        }
+    }
+
+    /// Adds a modification behind the others.
+    pub fn push(&mut self, modification: Modification) -> Result<(), Memory>
+        ensures ok { OnOk result (self.new ≡ self.old ++ modification ∷ []) }
+        ensures err { OnErr result (self.new ≡ self.old) }
+    {
+        self.items.push(modification)?;
+        Ok(())
+    }
+
+    /// The modifications as a slice.
+    pub fn as_slice(&self) -> &[Modification]
+        ensures { result.now ≡ self.now }
+    {
+        self.items.as_slice()
+    }
+
+    /// The vector of the modifications.
+    pub fn into_vec(self) -> Vec<Modification>
+        ensures { result.items ≡ self }
+    {
+        self.items
+    }
+}

@@ -1,0 +1,245 @@
+//! The register: entries, each accepted behind those before it.
+
+ghost use Rattle.std.specs.Prelude.{◌≡◌, ◌+◌, ◌<◌, ◌≤◌, ◌∷◌, ◌++◌, [], true, length, OnOk, IsTrue, map, Some, None, IfOk, option_map, is_some, is_none, slice_index_or};
+ghost use Rattle.law_register.specs.Register.LawList.{front};
+ghost use Rattle.law_register.specs.Register.Verdicts as verdicts;
+
+use crate::register::indexes::Indexes;
+use crate::register::telling;
+use crate::{Command, Drafter, Entry, Reply};
+use desk_base::{Id, Memory};
+use frbr_names::WorkName;
+use std::alloc::Global;
+use std::marker::Model;
+
+/// Entries, each accepted behind those before it. A clause sees them, and for how many more there is room.
+#[derive(Debug, Drop)]
+pub struct Register {
+    pub(crate) entries: Vec<Entry>,
+    pub(crate) indexes: Indexes,
+}
+
+impl Model for Register {
+    ghost use Rattle.std.specs.Prelude.{ℕ, min, ◌-◌, List, refl, length, vec_len, vec_capacity};
+    ghost use Rattle.law_register.specs.declared.register.entry.Entry.{Entry};
+    ghost use Rattle.law_register.specs.Register.Registers.{Contents, index_room, IsKept};
+
+    ghost Value = { Contents };
+
+    ghost use Rattle.std.specs.Coded.{Coded, code_by, coded×, coded_ℕ, coded_list, codes};
+    ghost use Rattle.act_tree.specs.Codes.{branches_code};
+    ghost use Rattle.act_tree.specs.OwnCode.{own_code};
+
+    ghost coded = { Prim.hlevel (codes, branches_code own_code) };
+
+    ghost view = { λ r. record { entries = r.entries.items; spare = min (vec_capacity r.entries - vec_len r.entries) (index_room r.indexes) } };
+
+    ghost invariant = { λ r. IsKept r.indexes r.entries.items };
+}
+
+impl Register {
+    ghost use Rattle.law_register.specs.Register.Drafts.{added, draft_of, items_of};
+    ghost use Rattle.law_register.specs.Register.KnownIds.{facts_of, enacted, ids_of};
+    ghost use Rattle.law_register.specs.Register.LawList.{laws};
+    ghost use Rattle.law_register.specs.Law.Sizes.{entries_size};
+    ghost use Rattle.std.specs.List.{list_any};
+    ghost use Rattle.std.specs.Str.{bytes_eq};
+
+    /// A register with no entries. It takes no memory.
+    pub fn new(alloc: Global) -> Register
+        ensures { result.entries ≡ [] }
+    {
+        Register {
+            entries: Vec::new(alloc),
+            indexes: Indexes::new(alloc),
+        }
+    }
+
+    /// How many law entries there are.
+    pub fn front(&self) -> u32
+        ensures value { result ≡ front self.now.entries }
+        ensures most { result ≤ 65535 }
+    {
+        self.indexes.front
+    }
+
+    /// How many entries there are.
+    pub fn len(&self) -> usize
+        ensures { result ≡ length self.now.entries }
+    {
+        self.entries.len()
+    }
+
+    /// The entry at an index.
+    pub fn entry(&self, index: usize) -> &Entry
+        requires { index < length self.now.entries }
+        ensures { result.now ≡ slice_index_or self.now.entries index result.now }
+    {
+        &self.entries[index]
+    }
+
+    /// Makes room for one more entry, whichever it is.
+    pub fn reserve(&mut self, _entry: &Entry) -> Result<(), Memory>
+        ensures entries { self.new.entries ≡ self.old.entries }
+        ensures room { OnOk result (1 ≤ self.new.spare) }
+    {
+        self.entries.reserve(1)?;
+        self.indexes.reserve()?;
+        Ok(())
+    }
+
+    /// Appends an entry that is accepted behind the others with its law number. It takes no memory.
+    pub fn push(&mut self, entry: Entry)
+        requires room { 1 ≤ self.old.spare }
+        requires accepted { verdicts.is_accepted entry.law (verdicts.verdict self.old.entries entry.drafter entry.request entry.command) ≡ true }
+        ensures { self.new.entries ≡ self.old.entries ++ entry ∷ [] }
+    {
+        let reply = self.reply_to(&entry.drafter, &entry.command);
+        self.indexes.note(&self.entries, &entry, reply);
+        self.entries.push_reserved(entry);
+    }
+
+    // How many bytes all entries take.
+    pub(crate) fn size(&self) -> u64
+        ensures value { result ≡ entries_size self.now.entries }
+        ensures most { result ≤ 536870912 }
+    {
+        self.indexes.size
+    }
+
+    // Whether a drafter has an entry.
+    pub(crate) fn has_drafter(&self, drafter: &Drafter) -> bool
+        ensures { result ≡ list_any (bytes_eq drafter.now) (verdicts.drafters self.now.entries) }
+    {
+        self.indexes.drafter(drafter).is_some()
+    }
+
+    // How many drafters have an entry.
+    pub(crate) fn drafter_count(&self) -> usize
+        ensures { result ≡ length (verdicts.drafters self.now.entries) }
+    {
+        self.indexes.drafters.len()
+    }
+
+    // How many items a drafter has added.
+    pub(crate) fn added(&self, drafter: &Drafter) -> u32
+        ensures value { result ≡ added drafter.now self.now.entries }
+        ensures most { result ≤ 536870912 }
+    {
+        match self.indexes.drafter(drafter) {
+            Some(mark) => mark.added,
+            None => 0,
+        }
+    }
+
+    // How many items a drafter's draft has.
+    pub(crate) fn draft_len(&self, drafter: &Drafter) -> usize
+        ensures { result ≡ length (draft_of drafter.now self.now.entries) }
+    {
+        match self.indexes.drafter(drafter) {
+            Some(mark) => mark.items.len(),
+            None => 0,
+        }
+    }
+
+    // Whether a drafter's draft has an item of a number.
+    pub(crate) fn has_item(&self, drafter: &Drafter, item: u32) -> bool
+        ensures { result ≡ verdicts.has_item item (draft_of drafter.now self.now.entries) }
+    {
+        match self.indexes.drafter(drafter) {
+            Some(mark) => telling::has_item(&mark.items, item),
+            None => false,
+        }
+    }
+
+    // How many items of a drafter's draft modify a work.
+    pub(crate) fn items_of(&self, drafter: &Drafter, work: &WorkName) -> usize
+        ensures { result ≡ length (items_of work.now (draft_of drafter.now self.now.entries)) }
+    {
+        match self.indexes.drafter(drafter) {
+            Some(mark) => telling::items_of(&self.entries, &mark.items, work).len(),
+            None => 0,
+        }
+    }
+
+    /// The number of the law entry that enacts a work. `None`: none does.
+    pub fn enacted(&self, work: &WorkName) -> Option<u32>
+        ensures { result ≡ option_map (λ found. found.0) (enacted work.now (laws self.now.entries)) }
+    {
+        match self.indexes.work(work)?.enacted {
+            Some(mark) => Some(mark.number),
+            None => None,
+        }
+    }
+
+    // The number of the last law entry that concerns a work, or 0.
+    pub(crate) fn last_on(&self, work: &WorkName) -> u32
+        ensures { result ≡ verdicts.last_on work.now (laws self.now.entries) }
+    {
+        match self.indexes.work(work) {
+            Some(mark) => mark.last,
+            None => 0,
+        }
+    }
+
+    // How many ids a work has.
+    pub(crate) fn id_count(&self, work: &WorkName) -> u32
+        ensures { result ≡ length (ids_of work.now (laws self.now.entries)) }
+    {
+        match self.indexes.work(work) {
+            Some(mark) => mark.ids,
+            None => 0,
+        }
+    }
+
+    // The work of an id. `None`: it is not recorded.
+    pub(crate) fn work_of(&self, id: Id) -> Option<&WorkName>
+        ensures { option_map (λ work. work.now) result ≡ option_map (λ f. f.work) (facts_of id (laws self.now.entries)) }
+    {
+        match self.indexes.id(id) {
+            Some(mark) => telling::work_at(&self.entries, mark.recorded),
+            None => None,
+        }
+    }
+
+    // The kind of what an id says. `None`: it is not recorded.
+    pub(crate) fn kind_of(&self, id: Id) -> Option<u8>
+        ensures { result ≡ option_map (λ f. verdicts.kind_of f.body) (facts_of id (laws self.now.entries)) }
+    {
+        let mark = self.indexes.id(id)?;
+        match telling::body_at(&self.entries, mark.entry, mark.place) {
+            Some(body) => Some(telling::kind_of(body)),
+            None => None,
+        }
+    }
+
+    // Whether an id stands, or else the number of the law entry that withdrew it. `None`: it is not recorded.
+    pub(crate) fn withdrawn(&self, id: Id) -> Option<Option<u32>>
+        ensures { result ≡ option_map (λ f. f.withdrawn) (facts_of id (laws self.now.entries)) }
+    {
+        match self.indexes.id(id) {
+            Some(mark) => Some(mark.withdrawn),
+            None => None,
+        }
+    }
+
+    // The entry of a drafter's request.
+    pub(crate) fn request(&self, drafter: &Drafter, request: u64) -> Option<&Entry>
+        ensures { option_map (λ e. e.now) result ≡ option_map (λ found. found.0) (verdicts.request_of self.now.entries drafter.now request) }
+    {
+        match self.indexes.request(drafter, request) {
+            Some(mark) => self.entries.get(mark.entry),
+            None => None,
+        }
+    }
+
+    // The reply to a drafter's request.
+    pub(crate) fn reply(&self, drafter: &Drafter, request: u64) -> Option<Reply>
+        ensures { result ≡ option_map (λ found. found.1) (verdicts.request_of self.now.entries drafter.now request) }
+    {
+        match self.indexes.request(drafter, request) {
+            Some(mark) => Some(mark.reply),
+            None => None,
+        }
+    }
+}

@@ -1,0 +1,146 @@
+//! What the command of an entry tells: the work that it names, the act that it enacts, the modification that it brings.
+
+ghost use Rattle.std.specs.Prelude.{◌≡◌, ◌==◌, ◌&&◌, ℕ, List, [], ◌∷◌, ◌++◌, ◌≤◌, length, filter, not, option_map, slice_get};
+ghost use Rattle.law_register.specs.Register.Indexes.{told_at, work_named, act_of, body_of, marks_work};
+ghost use Rattle.law_register.specs.Register.Verdicts.{kind_of};
+ghost use Rattle.std.specs.List.{list_any};
+
+use crate::register::indexes::{ItemMark, ItemMarks};
+use crate::{Act, Command, Entry, Modification};
+use arrayvec::ArrayVec;
+use frbr_names::WorkName;
+
+/// The work that a command names.
+pub fn work_named(command: &Command) -> Option<&WorkName>
+    ensures { option_map (λ w. w.now) result ≡ work_named command.now }
+{
+    match command {
+        Command::Enact { act } => Some(&act.work),
+        Command::Record { work, .. } => Some(work),
+        Command::DraftAdd { work, .. } => Some(work),
+        Command::File { work, .. } => Some(work),
+        _ => None,
+    }
+}
+
+/// The modification that a command brings: the one at a place of a record, or else its only one.
+pub fn body_of(command: &Command, place: usize) -> Option<&Modification>
+    ensures { option_map (λ m. m.now) result ≡ body_of place command.now }
+{
+    match command {
+        Command::Record { mods, .. } => mods.as_slice().get(place),
+        Command::Correct { body, .. } => Some(body),
+        Command::DraftAdd { body, .. } => Some(body),
+        _ => None,
+    }
+}
+
+/// The act that a command enacts.
+pub fn act_of(command: &Command) -> Option<&Act>
+    ensures { option_map (λ a. a.now) result ≡ act_of command.now }
+{
+    match command {
+        Command::Enact { act } => Some(act),
+        _ => None,
+    }
+}
+
+/// The work that the command of the entry at an index names.
+pub fn work_at(entries: &[Entry], index: usize) -> Option<&WorkName>
+    ensures { option_map (λ w. w.now) result ≡ told_at entries.now index work_named }
+{
+    match entries.get(index) {
+        Some(entry) => work_named(&entry.command),
+        None => None,
+    }
+}
+
+/// The modification that the command of the entry at an index brings.
+pub fn body_at(entries: &[Entry], index: usize, place: usize) -> Option<&Modification>
+    ensures { option_map (λ m. m.now) result ≡ told_at entries.now index (body_of place) }
+{
+    match entries.get(index) {
+        Some(entry) => body_of(&entry.command, place),
+        None => None,
+    }
+}
+
+/// The act that the command of the entry at an index enacts.
+pub fn act_at(entries: &[Entry], index: usize) -> Option<&Act>
+    ensures { option_map (λ a. a.now) result ≡ told_at entries.now index act_of }
+{
+    match entries.get(index) {
+        Some(entry) => act_of(&entry.command),
+        None => None,
+    }
+}
+
+/// The kind of a modification: 0 textual, 1 of force, 2 of efficacy.
+pub fn kind_of(modification: &Modification) -> u8
+    ensures { result ≡ kind_of modification.now }
+{
+    match modification {
+        Modification::Textual { .. } => 0,
+        Modification::Force { .. } => 1,
+        Modification::Efficacy { .. } => 2,
+    }
+}
+
+/// Whether an item of a draft modifies a work.
+pub fn is_item_of(entries: &[Entry], mark: ItemMark, work: &WorkName) -> bool
+    ensures { result ≡ marks_work entries.now work.now mark }
+{
+    match work_at(entries, mark.entry) {
+        Some(own) => own == work,
+        None => false,
+    }
+}
+
+/// The items of a draft that modify a work, in order.
+pub fn items_of(entries: &[Entry], items: &[ItemMark], work: &WorkName) -> ItemMarks
+    requires { length items.now ≤ 64 }
+    ensures { result.items ≡ filter (marks_work entries.now work.now) items.now }
+{
+    let mut kept = ArrayVec::new();
+    for mark in items {
+        if is_item_of(entries, *mark, work) {
+            kept.push(*mark);
+        }
+    }
+    kept
+}
+
+/// The items of a draft that modify other works, in order.
+pub fn items_but(entries: &[Entry], items: &[ItemMark], work: &WorkName) -> ItemMarks
+    requires { length items.now ≤ 64 }
+    ensures { result.items ≡ filter (λ m. not (marks_work entries.now work.now m)) items.now }
+{
+    let mut kept = ArrayVec::new();
+    for mark in items {
+        if !is_item_of(entries, *mark, work) {
+            kept.push(*mark);
+        }
+    }
+    kept
+}
+
+/// The items of a draft without the one of a number.
+pub fn without_item(items: &[ItemMark], item: u32) -> ItemMarks
+    requires { length items.now ≤ 64 }
+    ensures { result.items ≡ filter (λ m. not (m.item == item)) items.now }
+{
+    let mut kept = ArrayVec::new();
+    for mark in items {
+        if mark.item != item {
+            kept.push(*mark);
+        }
+    }
+    kept
+}
+
+/// Whether one of the items of a draft has a number.
+pub fn has_item(items: &[ItemMark], item: u32) -> bool
+    ensures { result ≡ list_any (λ m. m.item == item) items.now }
+{
+    items.iter().any(|mark| mark.item == item)
+}
