@@ -26,8 +26,6 @@ mod rules;
 mod same;
 mod sizes;
 mod telling;
-#[cfg(test)]
-mod tests;
 mod verdict;
 mod version;
 

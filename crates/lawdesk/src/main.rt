@@ -8,8 +8,6 @@ mod report;
 mod reporting;
 mod run;
 mod stop;
-#[cfg(test)]
-mod tests;
 
 ghost use Rattle.std.specs.Prelude.{◌≡◌};
 
