@@ -6,8 +6,6 @@ mod lists;
 mod members;
 mod provisions;
 mod refusals;
-#[cfg(test)]
-mod tests;
 mod values;
 
 pub use answers::put_answer;

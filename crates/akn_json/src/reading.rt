@@ -29,8 +29,6 @@ mod renumbering;
 mod split;
 mod substitution;
 mod targets;
-#[cfg(test)]
-mod tests;
 mod word;
 mod works;
 

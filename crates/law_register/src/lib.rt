@@ -5,8 +5,6 @@ mod answer;
 mod law;
 pub mod laws;
 mod register;
-#[cfg(test)]
-mod tests;
 
 pub use answer::{
     Answer, AnswerNode, AnswerNodes, AskFault, Days, Ids, QueryRule, Question, Reading, Replayer,
