@@ -1,3 +1,4 @@
+pub mod Clocks
 pub mod Days
 pub mod Ids
 pub mod Periods

@@ -126,6 +126,16 @@ impl Day {
         }
     }
 
+    /// The day on which so many seconds have gone by since 1970-01-01 began, by the clock of UTC. After 9999-12-31 it
+    /// is that day still.
+    pub(crate) fn since_1970(seconds: u64) -> Day
+        ensures { result ≡ spec.day_since_1970 seconds }
+    {
+        Day {
+            number: (719_163 + seconds / 86_400).min(3_652_059) as u32,
+        }
+    }
+
     /// The day that a text spells. It has ten bytes, YYYY-MM-DD, a year from 0001, and a month and a
     /// day that the calendar has.
     #[tactic(auto, unfolding(crate::specs::Days::day_of))]
