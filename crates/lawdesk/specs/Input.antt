@@ -1,5 +1,5 @@
 -- What is read of a source.
-use Rattle.std.specs.Prelude.{ℕ, ◌≡◌, ◌<◌, ◌≤◌, List, [], ◌++◌, length, Option, Some, None, ◌⊎◌}
+use Rattle.std.specs.Prelude.{ℕ, ◌≡◌, ◌<◌, List, [], ◌++◌, length, Option, Some, None, ◌⊎◌}
 use Rattle.desk_base.specs.Streams.{Rose}
 use Rattle.lawdesk.specs.declared.stop.Stop.{Stop}
 use Rattle.lawdesk.specs.declared.stop.Stop.TheVariants as stops

@@ -29,8 +29,8 @@ fn perform<S: Source, W: Sink, L: Ledger>(
     ensures sink { result ≡ Err Stop.Sink → Rose (W.faults sink.old) (W.faults sink.new) }
     ensures cut { result ≡ Err Stop.Sink → IsCut job (S.left source.old) (S.left source.new) (W.written sink.old) (W.written sink.new) }
     ensures unwritten { IfErr result (λ stop. stop ≢ Stop.Sink → sink.new ≡ sink.old) }
-    ensures source_rose { result ≢ Err Stop.Source → S.faults source.new ≡ S.faults source.old }
-    ensures sink_rose { result ≢ Err Stop.Sink → W.faults sink.new ≡ W.faults sink.old }
+    ensures source_stays { result ≢ Err Stop.Source → S.faults source.new ≡ S.faults source.old }
+    ensures sink_stays { result ≢ Err Stop.Sink → W.faults sink.new ≡ W.faults sink.old }
     ensures taken { TakesWithinLimit (S.room source.old) (S.room source.new) }
 {
     let input = read_input(alloc, source, MAX_DOSSIER_BYTES)?;
@@ -66,8 +66,8 @@ pub fn run<S: Source, W: Sink, L: Ledger>(
     ensures unwritten { (result ≡ 3) ⊎ (result ≡ 7) → sink.new ≡ sink.old }
 
     // No count rose but that of the stream which the status names, and so in a job that was done none did.
-    ensures source_rose { result ≢ 3 → S.faults source.new ≡ S.faults source.old }
-    ensures sink_rose { result ≢ 4 → W.faults sink.new ≡ W.faults sink.old }
+    ensures source_stays { result ≢ 3 → S.faults source.new ≡ S.faults source.old }
+    ensures sink_stays { result ≢ 4 → W.faults sink.new ≡ W.faults sink.old }
     ensures taken { TakesWithinLimit (S.room source.old) (S.room source.new) }
 {
     match Job::from_words(words) {
