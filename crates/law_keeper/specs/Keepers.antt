@@ -1,11 +1,11 @@
 -- What is known of a keeper, and what its calls do to it.
-use Rattle.std.specs.Prelude.{ℕ, ◌≡◌, ◌⊎◌, ◌↔◌, ◌+◌, ◌<◌, ◌≤◌, List, length, All, slice_get, Option, Some, None, Result, Ok, Err, IsOk, IfOk, IfErr, IsTrue, Vec}
+use Rattle.std.specs.Prelude.{ℕ, ◌≡◌, ◌≢◌, ◌⊎◌, ◌↔◌, ◌+◌, ◌<◌, ◌≤◌, List, [], ◌∷◌, ◌++◌, length, map, All, slice_get, Option, Some, None, Result, Ok, Err, IsOk, IfOk, IfErr, IsTrue, Vec}
 use Rattle.std.specs.declared.alloc.Global.{Global}
 use Rattle.desk_base.specs.Streams.{Rose}
 use Rattle.desk_base.specs.declared.load_fault.LoadFault.{LoadFault}
 use Rattle.desk_base.specs.declared.load_fault.LoadFault.TheVariants as fault
 use Rattle.law_journal.specs.Grammar.{Listing, is_size, with_last}
-use Rattle.law_journal.specs.Journals.{Tells}
+use Rattle.law_journal.specs.Journals.{IsNoDamage, Tells}
 use Rattle.law_keeper.specs.declared.keep_fault.KeepFault.{KeepFault}
 use Rattle.law_keeper.specs.declared.keep_fault.KeepFault.TheVariants as keep
 use Rattle.law_keeper.specs.declared.readiness.Readiness.{Readiness}
@@ -62,7 +62,8 @@ pub record Keeps (old new : Holding) : Type 0 where
 abbrev pub IsWithOrWithout : Listing → List ℕ → Listing → Type 0
 IsWithOrWithout old payload list = (list ≡ old) ⊎ (list ≡ with_last payload old)
 
--- what an append makes of a list: the payload stands behind it; after a failure it may or may not, and for want of memory it does not
+-- what an append makes of a list: the payload stands behind it; after a failure it may or may not, and for want of
+-- memory it does not
 abbrev pub Becomes : Listing → List ℕ → Result ℕ KeepFault → Listing → Type 0
 Becomes old payload (Ok end) list = list ≡ with_last payload old
 Becomes old payload (Err keep.Failed) list = IsWithOrWithout old payload list
@@ -90,7 +91,21 @@ GivesAt payloads n place_of (Err fault.Memory) = Unit {0}
 
 -- what is loaded at a cursor that the keeper gave
 abbrev pub Gives : Holding → ℕ → Holding → Result (Option (Vec ℕ Global × ℕ)) LoadFault → Type 0
-Gives old cursor new result = old.tells → (payloads : List (List ℕ)) (n : ℕ) → old.list ≡ Ok payloads → old.place_of cursor ≡ Some n → GivesAt payloads n new.place_of result
+Gives old cursor new result = old.tells → (payloads : List (List ℕ)) (n : ℕ) → old.list ≡ Ok payloads
+    → old.place_of cursor ≡ Some n → GivesAt payloads n new.place_of result
+
+-- payloads as lists of bytes
+abbrev pub bytes_of : List (Vec ℕ Global) → List (List ℕ)
+bytes_of payloads = map (λ payload. payload.items) payloads
+
+-- where a payload may stand behind the list or not, it is found exactly where it does, with a cursor of the new end
+abbrev pub IsFoundIn : List (List ℕ) → List ℕ → Holding → Option ℕ → Type 0
+IsFoundIn payloads payload h None = h.list ≡ Ok payloads
+IsFoundIn payloads payload h (Some next) = (h.list ≡ Ok (payloads ++ payload ∷ [])) × (h.place_of next ≡ Some (length payloads + 1))
+
+abbrev pub IsFound : Holding → ℕ → List ℕ → Holding → Option ℕ → Type 0
+IsFound old end payload new found = old.tells → (payloads : List (List ℕ)) → old.place_of end ≡ Some (length payloads)
+    → IsWithOrWithout (Ok payloads) payload old.list → IsFoundIn payloads payload new found
 
 -- the next cursor is greater than the one at which a payload is loaded
 abbrev pub MovesOn : ℕ → Option (Vec ℕ Global × ℕ) → Type 0
@@ -119,9 +134,9 @@ abbrev pub after_opening : Readiness → Result Unit LoadFault → Readiness
 after_opening readiness (Ok done) = Ready
 after_opening readiness (Err refusal) = after_refusal readiness
 
--- an opening tells damage exactly as the list has it
-abbrev pub Finds : Holding → Result Unit LoadFault → Type 0
-Finds old result = old.tells → IfErr result (Tells old.list)
+-- an opening tells damage exactly as the list has it, and none of a keeper that was opened before
+abbrev pub Finds : Readiness → Holding → Result Unit LoadFault → Type 0
+Finds readiness old result = old.tells → IfErr result (λ refusal. Tells old.list refusal × (readiness ≢ Unopened → IsNoDamage refusal))
 
 -- damage that an opening finds before any has succeeded is no fault; later damage is one that was counted
 abbrev pub HasDamageCause : Readiness → ℕ → ℕ → Type 0
@@ -158,3 +173,19 @@ pub record LeavesOnly (P : Listing → Type 0) (old new : Holding) : Type 0 wher
   pub tells : new.tells_crash
   pub now : (list : Listing) → new.may_leave list → P list
   pub any_moment : old.tells_moments → LeavesSince P old new
+
+-- where a keeper tells it: a crash at any moment leaves a list that it could leave before the call
+abbrev pub LeavesNoMore : Holding → Holding → Type 0
+LeavesNoMore old new = old.tells_crash → LeavesOnly old.may_leave old new
+
+-- where a keeper tells it: a crash at any moment leaves the list from before an append, or that list with the payload
+abbrev pub LeavesOneOfTwo : List ℕ → Holding → Holding → Type 0
+LeavesOneOfTwo payload old new = old.tells_crash → LeavesOnly (IsWithOrWithout old.list payload) old new
+
+-- where a keeper tells it: a crash at any moment leaves a list that it could leave before the call, or the list itself
+abbrev pub LeavesOldOrSame : Holding → Holding → Type 0
+LeavesOldOrSame old new = old.tells_crash → LeavesOnly (IsOldOrSame old) old new
+
+-- where a keeper tells its list, these payloads are the list
+abbrev pub IsListOf : Holding → Vec (Vec ℕ Global) Global → Type 0
+IsListOf h all = h.tells → h.list ≡ Ok (bytes_of all.items)

@@ -1,6 +1,5 @@
 -- Keepers in memory.
-use Rattle.std.specs.Prelude.{ℕ, List, [], ◌∷◌, ◌++◌, length, map, nat_le, Some, None, Result, Ok, Err, Vec, if◌then◌else◌}
-use Rattle.std.specs.declared.alloc.Global.{Global}
+use Rattle.std.specs.Prelude.{ℕ, List, [], ◌∷◌, ◌++◌, length, nat_le, Some, None, Result, Ok, Err, if◌then◌else◌}
 use Rattle.desk_base.specs.MemoryStreams.{CallPlan, next_fails, after_call}
 use Rattle.law_keeper.specs.Keepers.{Holding, IsHolding}
 use Rattle.law_keeper.specs.declared.keep_fault.KeepFault.{KeepFault}
@@ -17,10 +16,6 @@ pub record HeldKeeper : Type 0 where
 -- one with no payload, before the first call
 abbrev pub new_keeper : List ℕ → HeldKeeper
 new_keeper failing = record { payloads = []; readiness = Unopened; plan = record { failing = failing; made = 0 }; faults = 0 }
-
--- payloads as lists of bytes
-abbrev pub bytes_of : List (Vec ℕ Global) → List (List ℕ)
-bytes_of payloads = map (λ payload. payload.items) payloads
 
 -- what is known of it: its cursors are the places of its list, and of a crash it tells nothing
 abbrev pub holding_of : List (List ℕ) → Holding

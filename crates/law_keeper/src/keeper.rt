@@ -6,7 +6,7 @@ ghost use Rattle.law_journal.specs.Grammar.{is_size};
 ghost use Rattle.law_keeper.specs.declared.readiness.Readiness.{Readiness};
 ghost use Rattle.law_keeper.specs.declared.readiness.Readiness.TheVariants.{Ready};
 ghost use Rattle.law_keeper.specs.Keepers as spec;
-ghost use Rattle.law_keeper.specs.Keepers.{Holding, IsHolding, IsSettled, LeavesOnly};
+ghost use Rattle.law_keeper.specs.Keepers.{Holding, IsHolding, IsSettled};
 
 use crate::KeepFault;
 use desk_base::LoadFault;
@@ -25,16 +25,12 @@ pub trait Keeper {
 
     /// The payload at a cursor, and the next cursor; None at the end of the list. Cursor 0 is the first. After a
     /// failure or damage the keeper has to be opened again.
-    fn load(
-        &mut self,
-        alloc: Global,
-        cursor: u64,
-    ) -> Result<Option<(Vec<u8>, u64)>, LoadFault>
+    fn load(&mut self, alloc: Global, cursor: u64) -> Result<Option<(Vec<u8>, u64)>, LoadFault>
         requires { readiness self.old ≡ Ready }
         ensures given { spec.Gives (holding self.old) cursor (holding self.new) result }
         ensures later { IfOk result (spec.MovesOn cursor) }
         ensures same { spec.Keeps (holding self.old) (holding self.new) }
-        ensures crash { (holding self.old).tells_crash → LeavesOnly (holding self.old).may_leave (holding self.old) (holding self.new) }
+        ensures crash { spec.LeavesNoMore (holding self.old) (holding self.new) }
         ensures settled { readiness self.new ≡ Ready → IsSettled (holding self.new) }
         ensures ready { readiness self.new ≡ spec.after_load result }
         ensures cause { spec.HasReadCause (readiness self.old) (faults self.old) (faults self.new) result };
@@ -45,16 +41,16 @@ pub trait Keeper {
         requires ready { readiness self.old ≡ Ready }
         requires size { IsTrue (is_size (length payload.now)) }
         ensures appended { spec.Appends payload.now (holding self.old) (holding self.new) result }
-        ensures crash { (holding self.old).tells_crash → LeavesOnly (spec.IsWithOrWithout (holding self.old).list payload.now) (holding self.old) (holding self.new) }
+        ensures crash { spec.LeavesOneOfTwo payload.now (holding self.old) (holding self.new) }
         ensures settled { readiness self.new ≡ Ready → IsSettled (holding self.new) }
         ensures ready { readiness self.new ≡ spec.after_append result }
         ensures cause { spec.HasAppendCause (faults self.old) (faults self.new) result };
 
     /// Opens the keeper, or opens it again.
     fn reopen(&mut self, alloc: Global) -> Result<(), LoadFault>
-        ensures found { spec.Finds (holding self.old) result }
+        ensures found { spec.Finds (readiness self.old) (holding self.old) result }
         ensures same { spec.Keeps (holding self.old) (holding self.new) }
-        ensures crash { (holding self.old).tells_crash → LeavesOnly (spec.IsOldOrSame (holding self.old)) (holding self.old) (holding self.new) }
+        ensures crash { spec.LeavesOldOrSame (holding self.old) (holding self.new) }
         ensures settled { readiness self.new ≡ Ready → IsSettled (holding self.new) }
         ensures ready { readiness self.new ≡ spec.after_opening (readiness self.old) result }
         ensures cause { spec.HasReadCause (readiness self.old) (faults self.old) (faults self.new) result };

@@ -3,10 +3,15 @@
 
 mod keep_fault;
 mod keeper;
+pub mod laws;
 mod map_keeper;
 mod readiness;
+#[cfg(test)]
+mod tests;
+mod walking;
 
 pub use keep_fault::KeepFault;
 pub use keeper::Keeper;
 pub use map_keeper::MapKeeper;
 pub use readiness::Readiness;
+pub use walking::{payloads, settle};

@@ -1,7 +1,7 @@
 //! MapKeeper: a keeper in memory. A clause sees its payloads, whether it is ready, its plan and its faults.
 
-ghost use Rattle.std.specs.Prelude.{◌≡◌, ◌↔◌, IfOk, IsTrue, length};
-ghost use Rattle.desk_base.specs.Streams.{Rose};
+ghost use Rattle.std.specs.Prelude.{◌≡◌, ◌↔◌, IfOk, IsErr, IsTrue, OnErr, OnOk, length};
+ghost use Rattle.desk_base.specs.Streams.{HasCause};
 ghost use Rattle.desk_base.specs.MemoryStreams.{next_fails, after_call};
 ghost use Rattle.desk_base.specs.declared.load_fault.LoadFault.TheVariants as load_fault;
 ghost use Rattle.law_journal.specs.Grammar.{is_size};
@@ -28,8 +28,8 @@ pub struct MapKeeper {
 }
 
 impl Model for MapKeeper {
-    ghost use Rattle.law_keeper.specs.Keepers.{HaveSizes};
-    ghost use Rattle.law_keeper.specs.MapKeepers.{HeldKeeper, bytes_of};
+    ghost use Rattle.law_keeper.specs.Keepers.{HaveSizes, bytes_of};
+    ghost use Rattle.law_keeper.specs.MapKeepers.{HeldKeeper};
 
     ghost Value = { HeldKeeper };
 
@@ -38,15 +38,25 @@ impl Model for MapKeeper {
     ghost invariant = { λ k. HaveSizes (bytes_of k.payloads.items) };
 }
 
-// Counts a fault, after which the keeper has to be opened again, if it was open before.
-fn stop(readiness: &mut Readiness, faults: &mut u64) -> Failed
-    ensures readiness { readiness.new ≡ spec.after_refusal readiness.old }
-    ensures faults { Rose faults.old faults.new }
+// Counts a call. One that is listed fails, and a keeper that was ready has to be opened again.
+fn count_call(
+    plan: &mut FailingCalls,
+    readiness: &mut Readiness,
+    faults: &mut u64,
+) -> Result<(), Failed>
+    ensures counted { plan.new ≡ after_call plan.old }
+    ensures fails { IsErr result ↔ IsTrue (next_fails plan.old) }
+    ensures kept { OnOk result (readiness.new ≡ readiness.old) }
+    ensures stopped { OnErr result (readiness.new ≡ spec.after_refusal readiness.old) }
+    ensures cause { HasCause faults.old faults.new result }
 {
+    if !plan.count_call() {
+        return Ok(());
+    }
     if *readiness == Readiness::Ready {
         *readiness = Readiness::Stopped;
     }
-    count_fault(faults)
+    Err(count_fault(faults))
 }
 
 impl MapKeeper {
@@ -71,11 +81,7 @@ impl Keeper for MapKeeper {
     ghost faults = { λ keeper. keeper.faults };
 
     /// Fails exactly where the number of the call is listed.
-    fn load(
-        &mut self,
-        alloc: Global,
-        cursor: u64,
-    ) -> Result<Option<(Vec<u8>, u64)>, LoadFault>
+    fn load(&mut self, alloc: Global, cursor: u64) -> Result<Option<(Vec<u8>, u64)>, LoadFault>
         requires { self.old.readiness ≡ Ready }
         ensures given { spec.Gives (holding_of self.old.payloads) cursor (holding_of self.new.payloads) result }
         ensures later { IfOk result (spec.MovesOn cursor) }
@@ -86,9 +92,7 @@ impl Keeper for MapKeeper {
         ensures counted { self.new.plan ≡ after_call self.old.plan }
         ensures cause { spec.HasReadCause Ready self.old.faults self.new.faults result }
     {
-        if self.plan.count_call() {
-            return Err(stop(&mut self.readiness, &mut self.faults).into());
-        }
+        count_call(&mut self.plan, &mut self.readiness, &mut self.faults)?;
         match self.payloads.get(cursor as usize) {
             Some(payload) => Ok(Some((payload.clone()?, cursor + 1))),
             None => Ok(None),
@@ -107,16 +111,14 @@ impl Keeper for MapKeeper {
         ensures counted { self.new.plan ≡ after_call self.old.plan }
         ensures cause { spec.HasAppendCause self.old.faults self.new.faults result }
     {
-        if self.plan.count_call() {
-            return Err(stop(&mut self.readiness, &mut self.faults).into());
-        }
+        count_call(&mut self.plan, &mut self.readiness, &mut self.faults)?;
         self.payloads.push(Vec::from_slice(alloc, payload)?)?;
         Ok(self.payloads.len() as u64)
     }
 
     /// Fails exactly where the number of the call is listed.
     fn reopen(&mut self, _alloc: Global) -> Result<(), LoadFault>
-        ensures found { spec.Finds (holding_of self.old.payloads) result }
+        ensures found { spec.Finds self.old.readiness (holding_of self.old.payloads) result }
         ensures payloads { self.new.payloads ≡ self.old.payloads }
         ensures ready { self.new.readiness ≡ spec.after_opening self.old.readiness result }
         ensures settled { IsSettled (holding_of self.new.payloads) }
@@ -124,9 +126,7 @@ impl Keeper for MapKeeper {
         ensures counted { self.new.plan ≡ after_call self.old.plan }
         ensures cause { spec.HasReadCause self.old.readiness self.old.faults self.new.faults result }
     {
-        if self.plan.count_call() {
-            return Err(stop(&mut self.readiness, &mut self.faults).into());
-        }
+        count_call(&mut self.plan, &mut self.readiness, &mut self.faults)?;
         self.readiness = Readiness::Ready;
         Ok(())
     }
