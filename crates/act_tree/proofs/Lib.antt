@@ -45,5 +45,6 @@ pub mod FirstFaults
 pub mod Walking
 pub mod GoingUp
 pub mod EidsDiffer
+pub mod Ways
 pub mod EidsOfTree
 pub mod Copying

@@ -22,5 +22,6 @@ pub mod Moved
 pub mod Parted
 pub mod Faults
 pub mod Surveys
+pub mod EidsOfWids
 pub mod EidsOfNodes
 pub mod Brought

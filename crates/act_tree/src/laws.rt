@@ -1,12 +1,13 @@
 //! What holds of every tree and every change. Each law is a function that does nothing, whose clause is the law.
 
-ghost use Rattle.std.specs.Prelude.{◌≡◌, false, true, None, ℕ};
+ghost use Rattle.std.specs.Prelude.{◌≡◌, false, true, None, Some, ℕ, map};
 ghost use Rattle.act_tree.specs.Branches.{listed, branches_of};
 ghost use Rattle.act_tree.specs.Changes.{any_holds, without};
 ghost use Rattle.act_tree.specs.EidsOfNodes.{IsNodeOf};
+ghost use Rattle.act_tree.specs.EidsOfWids.{eid_of_wid};
 ghost use Rattle.act_tree.specs.Faults.{first_cause, all_eids, all_owns};
 ghost use Rattle.act_tree.specs.Seen.{tree_view};
-ghost use Rattle.act_tree.specs.Wids.{is_among};
+ghost use Rattle.act_tree.specs.Wids.{all_wids, is_among};
 
 use crate::{NodeId, Nodes, Tree};
 
@@ -34,6 +35,12 @@ pub fn eids_are_distinct(tree: &Tree, eid: &str, one: NodeId, other: NodeId)
 pub fn eid_of_a_node_is_found(tree: &Tree, eid: &str, id: NodeId)
     requires { IsNodeOf tree.now eid.now id }
     ensures { is_among eid.now (all_eids (tree_view tree.now).numbering None (all_owns (tree_view tree.now).body)) ≡ true }
+{}
+
+/// The eIds of the wIds of a text, one after another, are those of its provisions in the order of the text.
+pub fn eids_are_those_of_wids(tree: &Tree)
+    ensures { map (eid_of_wid (tree_view tree.now)) (all_wids (tree_view tree.now).body)
+        ≡ map (λ eid. Some eid) (all_eids (tree_view tree.now).numbering None (all_owns (tree_view tree.now).body)) }
 {}
 
 /// The provisions of a tree, told as a list, are again its provisions.

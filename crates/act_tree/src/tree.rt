@@ -86,15 +86,16 @@ impl Tree {
     ghost use Rattle.std.specs.Str.{bytes_eq};
     ghost use Rattle.act_tree.specs.Branches.{Branches, branches_of, counts};
     ghost use Rattle.act_tree.specs.Provisions.{Provision};
-    ghost use Rattle.act_tree.specs.Faults.{first_fault, first_cause, all_owns, all_eids, FailsBy};
+    ghost use Rattle.act_tree.specs.Faults.{first_fault, first_cause, all_owns, FailsBy};
     ghost use Rattle.act_tree.specs.Slots.{provision_of};
     ghost use Rattle.act_tree.specs.Brought.{brought, has_brought, second_part};
     ghost use Rattle.act_tree.specs.Changes.{after, before, changed, grafted, is_in, merged, next_of, parted, removed, renumbered, substituted, with_content};
     ghost use Rattle.act_tree.specs.declared.surveying.TheConstants.{NONE_THROUGHOUT};
     ghost use Rattle.act_tree.specs.Eids.{all_enacted};
-    ghost use Rattle.act_tree.specs.EidsOfNodes.{eid_at, IsNodeOf};
+    ghost use Rattle.act_tree.specs.EidsOfNodes.{IsNodeOf};
+    ghost use Rattle.act_tree.specs.EidsOfWids.{eid_of_wid, has_eid};
     ghost use Rattle.act_tree.specs.Trees.{one_more, changed_once};
-    ghost use Rattle.act_tree.specs.Wids.{all_wids, one_twice, is_among};
+    ghost use Rattle.act_tree.specs.Wids.{all_wids, one_twice};
     ghost use Rattle.act_tree.specs.Seen.{tree_view, has_node, provision_at, children_at, branch_at, below_at};
     ghost use Rattle.std.specs.Prelude.{◌↔◌, [], ◌∷◌, drop};
     ghost use Rattle.act_tree.specs.Arena.{above_in};
@@ -267,13 +268,14 @@ impl Tree {
     }
 
     /// The eId of a node that is not the root.
-    #[tactic(auto, unfolding(crate::specs::Seen::has_node, crate::specs::EidsOfNodes::eid_at))]
+    #[tactic(auto, unfolding(crate::specs::Seen::has_node))]
     pub fn eid_of(&self, alloc: Global, id: NodeId) -> Result<Text, Memory>
         requires node { has_node self.now id ≡ true }
         requires provision { id ≡ 0 → ⊥ }
-        ensures { IfOk result (λ eid. Some eid ≡ eid_at self.now id) }
+        ensures { IfOk result (λ eid. eid_of_wid (tree_view self.now) (provision_at self.now id).wid ≡ Some eid) }
     {
-        eid_of_number(alloc, &self.arena, self.numbering, id)
+        let eid = eid_of_number(alloc, &self.arena, self.numbering, id)?;
+        Ok(eid)
     }
 
     // The node whose wId this is, if it is also its eId.
@@ -297,7 +299,7 @@ impl Tree {
     /// The node of an eId; where more have it, one of them. `None`: no node has it. The root has no eId. Where the eId is also
     /// the wId, as in an act as enacted, it is one look-up and the way up from there; else all nodes are searched.
     pub fn find_eid(&self, alloc: Global, eid: &str) -> Result<Option<NodeId>, Memory>
-        ensures found { IfOk result (λ o. is_some o ≡ is_among eid.now (all_eids (tree_view self.now).numbering None (all_owns (tree_view self.now).body))) }
+        ensures found { IfOk result (λ o. is_some o ≡ has_eid eid.now (tree_view self.now)) }
         ensures node { IfOk result (λ o. IfSome o (IsNodeOf self.now eid.now)) }
     {
         let named = self.named(alloc, eid)?;
