@@ -1,6 +1,7 @@
 pub mod EnactedLaws
 pub mod ChangeLaws
 pub mod Texts
+pub mod Nums
 pub mod Index
 pub mod LaidDown
 pub mod Standing

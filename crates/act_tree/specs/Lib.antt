@@ -8,6 +8,7 @@ pub mod Eids
 pub mod Changes
 pub mod Trees
 pub mod Causes
+pub mod Numbered
 pub mod Arena
 pub mod Single
 pub mod Slots

@@ -83,6 +83,7 @@ fn view_of(slot: &Slot, is_root: bool) -> NodeView<'_>
 impl Tree {
     ghost use Rattle.std.specs.Prelude.{◌≡◌, ◌==◌, ◌+◌, ℕ, ◌-◌, ◌^◌, min, true, false, IfOk, OnOk, OnErr, IfErr, IfSome, is_some, map, length, ◌≤◌, ◌<◌, option_map, None, Some, if◌then◌else◌};
     ghost use Rattle.std.specs.List.{All};
+    ghost use Rattle.eid_paths.specs.Nums.{is_num};
     ghost use Rattle.std.specs.Str.{bytes_eq};
     ghost use Rattle.act_tree.specs.Branches.{Branches, branches_of, counts};
     ghost use Rattle.act_tree.specs.Provisions.{Provision};
@@ -431,7 +432,7 @@ impl Tree {
     {
         steps.tick();
         let arena = &self.arena;
-        let second = arena.second_part(alloc, id, first_child, tail, num, heading, by)?;
+        let second = arena.second_part(alloc, id, first_child, tail, &num, heading, by)?;
         self.part(alloc, id, first_child, head, second)?;
         self.count_change();
         Ok(())
@@ -501,6 +502,7 @@ impl Tree {
     fn put_num(&mut self, id: NodeId, num: Num)
         requires node { has_node self.old id ≡ true }
         requires provision { id ≡ 0 → ⊥ }
+        requires num { is_num num ≡ true }
         ensures tree { tree_view self.new ≡ record (tree_view self.old) { body = renumbered (((provision_at self.old id).wid, num) ∷ []) (tree_view self.old).body } }
         ensures nodes { (k : ℕ) → has_node self.new k ≡ has_node self.old k }
         ensures wids { (k : ℕ) → (provision_at self.new k).wid ≡ (provision_at self.old k).wid }
@@ -617,6 +619,7 @@ impl Tree {
         requires provision { id ≡ 0 → ⊥ }
         requires above { second.above ≡ above_in (at self.old.arena id) }
         requires below { second.below.items ≡ drop first_child (children_at self.old id) }
+        requires num { is_num second.num ≡ true }
         requires fresh { is_in second.wid (tree_view self.old).body ≡ false }
         ensures tree { OnOk result (tree_view self.new ≡ record (tree_view self.old) { body = changed (parted first_child head (provision_of second)) (provision_at self.old id).wid (tree_view self.old).body }) }
         ensures kept { OnErr result (tree_view self.new ≡ tree_view self.old) }
