@@ -47,5 +47,6 @@ pub mod Walking
 pub mod GoingUp
 pub mod EidsDiffer
 pub mod Ways
+pub mod LevelsDiffer
 pub mod EidsOfTree
 pub mod Copying

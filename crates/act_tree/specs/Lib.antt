@@ -24,5 +24,6 @@ pub mod Parted
 pub mod Faults
 pub mod Surveys
 pub mod EidsOfWids
+pub mod EidLevels
 pub mod EidsOfNodes
 pub mod Brought
