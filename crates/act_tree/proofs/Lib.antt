@@ -43,6 +43,7 @@ pub mod PartedNodes
 pub mod EidTexts
 pub mod Building
 pub mod FirstFaults
+pub mod StayingNodes
 pub mod Walking
 pub mod GoingUp
 pub mod EidsDiffer

@@ -13,6 +13,7 @@ pub mod Arena
 pub mod Single
 pub mod Slots
 pub mod Seen
+pub mod NodesStay
 pub mod Wids
 pub mod Planted
 pub mod TakenOff

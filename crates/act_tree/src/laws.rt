@@ -1,8 +1,8 @@
 //! What holds of every tree and every change. Each law is a function that does nothing, whose clause is the law.
 
-ghost use Rattle.std.specs.Prelude.{◌≡◌, ◌||◌, false, true, None, Some, ℕ, map};
+ghost use Rattle.std.specs.Prelude.{◌≡◌, ◌||◌, false, true, None, Some, ℕ, List, map};
 ghost use Rattle.act_tree.specs.Branches.{listed, branches_of};
-ghost use Rattle.act_tree.specs.Changes.{any_holds, without};
+ghost use Rattle.act_tree.specs.Changes.{any_holds, changed, renumbered, with_content, without};
 ghost use Rattle.act_tree.specs.EidLevels.{has_beginning_twice, has_siblings_alike};
 ghost use Rattle.act_tree.specs.EidsOfNodes.{IsNodeOf};
 ghost use Rattle.act_tree.specs.EidsOfWids.{eid_of_wid};
@@ -21,6 +21,16 @@ pub fn none_is_left(tree: &Tree, wid: &str)
 pub fn missing_changes_nothing(tree: &Tree, wid: &str)
     requires { any_holds wid.now (tree_view tree.now).body ≡ false }
     ensures { without wid.now (tree_view tree.now).body ≡ (tree_view tree.now).body }
+{}
+
+/// Other nums leave the wIds of a text as they are, in order.
+pub fn nums_keep_wids(tree: &Tree)
+    ensures { (pairs : List (List ℕ × List ℕ)) → all_wids (renumbered pairs (tree_view tree.now).body) ≡ all_wids (tree_view tree.now).body }
+{}
+
+/// So does another content of a provision.
+pub fn contents_keep_wids(tree: &Tree, wid: &str, content: &str)
+    ensures { all_wids (changed (with_content content.now) wid.now (tree_view tree.now).body) ≡ all_wids (tree_view tree.now).body }
 {}
 
 /// The eIds of a well-formed tree are distinct: two nodes of one eId are one node.

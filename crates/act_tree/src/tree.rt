@@ -96,6 +96,7 @@ impl Tree {
     ghost use Rattle.act_tree.specs.EidsOfNodes.{IsNodeOf};
     ghost use Rattle.act_tree.specs.EidsOfWids.{eid_of_wid, has_eid};
     ghost use Rattle.act_tree.specs.Trees.{one_more, changed_once};
+    ghost use Rattle.act_tree.specs.NodesStay.{NodesStay};
     ghost use Rattle.act_tree.specs.Wids.{all_wids, one_twice};
     ghost use Rattle.act_tree.specs.Seen.{tree_view, has_node, provision_at, children_at, branch_at, below_at};
     ghost use Rattle.std.specs.Prelude.{◌↔◌, [], ◌∷◌, drop};
@@ -344,6 +345,7 @@ impl Tree {
         requires { has_node self.old id ≡ true }
         ensures tree { tree_view self.new ≡ record (tree_view self.old) { body = removed (provision_at self.old id).wid (tree_view self.old).body; changes = one_more (tree_view self.old).changes } }
         ensures says { (k : ℕ) → provision_at self.new k ≡ provision_at self.old k }
+        ensures stay { NodesStay self.old self.new }
         ensures step { steps.new ≡ steps.old + 1 }
     {
         steps.tick();
@@ -370,6 +372,7 @@ impl Tree {
         requires fresh { has_brought by (tree_view self.old).body ≡ false }
         ensures tree { OnOk result (tree_view self.new ≡ changed_once (tree_view self.old) (substituted (provision_at self.old id).wid (brought by (branches_of nodes.now)) (tree_view self.old).body)) }
         ensures kept { OnErr result (tree_view self.new ≡ tree_view self.old) }
+        ensures stay { NodesStay self.old self.new }
         ensures step { steps.new ≡ steps.old + 1 }
     {
         steps.tick();
@@ -399,6 +402,7 @@ impl Tree {
         requires fresh { has_brought by (tree_view self.old).body ≡ false }
         ensures tree { OnOk result (tree_view self.new ≡ changed_once (tree_view self.old) (grafted (provision_at self.old parent).wid place (brought by (branches_of nodes.now)) (tree_view self.old).body)) }
         ensures kept { OnErr result (tree_view self.new ≡ tree_view self.old) }
+        ensures stay { NodesStay self.old self.new }
         ensures step { steps.new ≡ steps.old + 1 }
     {
         steps.tick();
@@ -428,6 +432,7 @@ impl Tree {
         requires fresh { has_brought by (tree_view self.old).body ≡ false }
         ensures tree { OnOk result (tree_view self.new ≡ changed_once (tree_view self.old) (changed (parted first_child head (second_part by (provision_at self.old id).own.element num heading tail)) (provision_at self.old id).wid (tree_view self.old).body)) }
         ensures kept { OnErr result (tree_view self.new ≡ tree_view self.old) }
+        ensures stay { NodesStay self.old self.new }
         ensures step { steps.new ≡ steps.old + 1 }
     {
         steps.tick();
@@ -451,6 +456,7 @@ impl Tree {
         requires next { is_some (next_of (provision_at self.old id).wid (tree_view self.old).body) ≡ true }
         ensures tree { OnOk result (tree_view self.new ≡ changed_once (tree_view self.old) (changed (merged content) (provision_at self.old id).wid (tree_view self.old).body)) }
         ensures kept { OnErr result (tree_view self.new ≡ tree_view self.old) }
+        ensures stay { NodesStay self.old self.new }
         ensures step { steps.new ≡ steps.old + 1 }
     {
         steps.tick();
@@ -475,6 +481,7 @@ impl Tree {
         requires provision { id ≡ 0 → ⊥ }
         ensures tree { tree_view self.new ≡ record (tree_view self.old) { body = removed (provision_at self.old id).wid (tree_view self.old).body } }
         ensures says { (k : ℕ) → provision_at self.new k ≡ provision_at self.old k }
+        ensures stay { NodesStay self.old self.new }
     {
         self.arena.take_off(id);
     }
@@ -483,6 +490,7 @@ impl Tree {
     fn clear(&mut self)
         ensures tree { tree_view self.new ≡ record (tree_view self.old) { body = removed (provision_at self.old 0).wid (tree_view self.old).body } }
         ensures says { (k : ℕ) → provision_at self.new k ≡ provision_at self.old k }
+        ensures stay { NodesStay self.old self.new }
     {
         self.arena.take_all();
     }
@@ -555,6 +563,7 @@ impl Tree {
         ensures nodes { OnOk result ((k : ℕ) → has_node self.old k ≡ true → has_node self.new k ≡ true) }
         ensures says { OnOk result ((k : ℕ) → has_node self.old k ≡ true → provision_at self.new k ≡ provision_at self.old k) }
         ensures kept { OnErr result (tree_view self.new ≡ tree_view self.old) }
+        ensures stay { NodesStay self.old self.new }
     {
         let name = bringer(alloc, by)?;
         self.arena.graft(alloc, parent, place, name.as_str(), nodes)
@@ -566,6 +575,7 @@ impl Tree {
         requires next { is_some (next_of (provision_at self.old id).wid (tree_view self.old).body) ≡ true }
         ensures tree { OnOk result (tree_view self.new ≡ record (tree_view self.old) { body = changed (merged content) (provision_at self.old id).wid (tree_view self.old).body }) }
         ensures kept { OnErr result (tree_view self.new ≡ tree_view self.old) }
+        ensures stay { NodesStay self.old self.new }
     {
         let next = self.arena.next(id).unwrap();
         let refs = self.arena.refs_of_both(alloc, id, next)?;
@@ -588,6 +598,7 @@ impl Tree {
         requires fresh { has_brought by (tree_view self.old).body ≡ false }
         ensures tree { OnOk result (tree_view self.new ≡ record (tree_view self.old) { body = substituted (provision_at self.old id).wid (brought by (branches_of nodes.now)) (tree_view self.old).body }) }
         ensures kept { OnErr result (tree_view self.new ≡ tree_view self.old) }
+        ensures stay { NodesStay self.old self.new }
     {
         let (parent, place) = self.place_of(id);
         self.put_nodes(alloc, parent, place, nodes, by)?;
@@ -601,6 +612,7 @@ impl Tree {
         requires fresh { has_brought by (tree_view self.old).body ≡ false }
         ensures tree { OnOk result (tree_view self.new ≡ record (tree_view self.old) { body = substituted (provision_at self.old 0).wid (brought by (branches_of nodes.now)) (tree_view self.old).body }) }
         ensures kept { OnErr result (tree_view self.new ≡ tree_view self.old) }
+        ensures stay { NodesStay self.old self.new }
     {
         let name = bringer(alloc, by)?;
         self.arena.replant(alloc, name.as_str(), nodes)
@@ -623,6 +635,7 @@ impl Tree {
         requires fresh { is_in second.wid (tree_view self.old).body ≡ false }
         ensures tree { OnOk result (tree_view self.new ≡ record (tree_view self.old) { body = changed (parted first_child head (provision_of second)) (provision_at self.old id).wid (tree_view self.old).body }) }
         ensures kept { OnErr result (tree_view self.new ≡ tree_view self.old) }
+        ensures stay { NodesStay self.old self.new }
     {
         self.arena.part(alloc, id, first_child, head, second)
     }
