@@ -83,18 +83,21 @@ fn view_of(slot: &Slot, is_root: bool) -> NodeView<'_>
 impl Tree {
     ghost use Rattle.std.specs.Prelude.{◌≡◌, ◌==◌, ◌+◌, ℕ, ◌-◌, ◌^◌, min, true, false, IfOk, OnOk, OnErr, IfErr, IfSome, is_some, map, length, ◌≤◌, ◌<◌, option_map, None, Some, if◌then◌else◌};
     ghost use Rattle.std.specs.List.{All};
+    ghost use Rattle.eid_paths.specs.Nums.{is_num};
     ghost use Rattle.std.specs.Str.{bytes_eq};
     ghost use Rattle.act_tree.specs.Branches.{Branches, branches_of, counts};
     ghost use Rattle.act_tree.specs.Provisions.{Provision};
-    ghost use Rattle.act_tree.specs.Faults.{first_fault, first_cause, all_owns, all_eids, FailsBy};
+    ghost use Rattle.act_tree.specs.Faults.{first_fault, first_cause, all_owns, FailsBy};
     ghost use Rattle.act_tree.specs.Slots.{provision_of};
     ghost use Rattle.act_tree.specs.Brought.{brought, has_brought, second_part};
     ghost use Rattle.act_tree.specs.Changes.{after, before, changed, grafted, is_in, merged, next_of, parted, removed, renumbered, substituted, with_content};
     ghost use Rattle.act_tree.specs.declared.surveying.TheConstants.{NONE_THROUGHOUT};
     ghost use Rattle.act_tree.specs.Eids.{all_enacted};
-    ghost use Rattle.act_tree.specs.EidsOfNodes.{eid_at, IsNodeOf};
+    ghost use Rattle.act_tree.specs.EidsOfNodes.{IsNodeOf};
+    ghost use Rattle.act_tree.specs.EidsOfWids.{eid_of_wid, has_eid};
     ghost use Rattle.act_tree.specs.Trees.{one_more, changed_once};
-    ghost use Rattle.act_tree.specs.Wids.{all_wids, one_twice, is_among};
+    ghost use Rattle.act_tree.specs.NodesStay.{NodesStay};
+    ghost use Rattle.act_tree.specs.Wids.{all_wids, one_twice};
     ghost use Rattle.act_tree.specs.Seen.{tree_view, has_node, provision_at, children_at, branch_at, below_at};
     ghost use Rattle.std.specs.Prelude.{◌↔◌, [], ◌∷◌, drop};
     ghost use Rattle.act_tree.specs.Arena.{above_in};
@@ -267,13 +270,14 @@ impl Tree {
     }
 
     /// The eId of a node that is not the root.
-    #[tactic(auto, unfolding(crate::specs::Seen::has_node, crate::specs::EidsOfNodes::eid_at))]
+    #[tactic(auto, unfolding(crate::specs::Seen::has_node))]
     pub fn eid_of(&self, alloc: Global, id: NodeId) -> Result<Text, Memory>
         requires node { has_node self.now id ≡ true }
         requires provision { id ≡ 0 → ⊥ }
-        ensures { IfOk result (λ eid. Some eid ≡ eid_at self.now id) }
+        ensures { IfOk result (λ eid. eid_of_wid (tree_view self.now) (provision_at self.now id).wid ≡ Some eid) }
     {
-        eid_of_number(alloc, &self.arena, self.numbering, id)
+        let eid = eid_of_number(alloc, &self.arena, self.numbering, id)?;
+        Ok(eid)
     }
 
     // The node whose wId this is, if it is also its eId.
@@ -297,7 +301,7 @@ impl Tree {
     /// The node of an eId; where more have it, one of them. `None`: no node has it. The root has no eId. Where the eId is also
     /// the wId, as in an act as enacted, it is one look-up and the way up from there; else all nodes are searched.
     pub fn find_eid(&self, alloc: Global, eid: &str) -> Result<Option<NodeId>, Memory>
-        ensures found { IfOk result (λ o. is_some o ≡ is_among eid.now (all_eids (tree_view self.now).numbering None (all_owns (tree_view self.now).body))) }
+        ensures found { IfOk result (λ o. is_some o ≡ has_eid eid.now (tree_view self.now)) }
         ensures node { IfOk result (λ o. IfSome o (IsNodeOf self.now eid.now)) }
     {
         let named = self.named(alloc, eid)?;
@@ -341,6 +345,7 @@ impl Tree {
         requires { has_node self.old id ≡ true }
         ensures tree { tree_view self.new ≡ record (tree_view self.old) { body = removed (provision_at self.old id).wid (tree_view self.old).body; changes = one_more (tree_view self.old).changes } }
         ensures says { (k : ℕ) → provision_at self.new k ≡ provision_at self.old k }
+        ensures stay { NodesStay self.old self.new }
         ensures step { steps.new ≡ steps.old + 1 }
     {
         steps.tick();
@@ -367,6 +372,7 @@ impl Tree {
         requires fresh { has_brought by (tree_view self.old).body ≡ false }
         ensures tree { OnOk result (tree_view self.new ≡ changed_once (tree_view self.old) (substituted (provision_at self.old id).wid (brought by (branches_of nodes.now)) (tree_view self.old).body)) }
         ensures kept { OnErr result (tree_view self.new ≡ tree_view self.old) }
+        ensures stay { NodesStay self.old self.new }
         ensures step { steps.new ≡ steps.old + 1 }
     {
         steps.tick();
@@ -396,6 +402,7 @@ impl Tree {
         requires fresh { has_brought by (tree_view self.old).body ≡ false }
         ensures tree { OnOk result (tree_view self.new ≡ changed_once (tree_view self.old) (grafted (provision_at self.old parent).wid place (brought by (branches_of nodes.now)) (tree_view self.old).body)) }
         ensures kept { OnErr result (tree_view self.new ≡ tree_view self.old) }
+        ensures stay { NodesStay self.old self.new }
         ensures step { steps.new ≡ steps.old + 1 }
     {
         steps.tick();
@@ -425,11 +432,12 @@ impl Tree {
         requires fresh { has_brought by (tree_view self.old).body ≡ false }
         ensures tree { OnOk result (tree_view self.new ≡ changed_once (tree_view self.old) (changed (parted first_child head (second_part by (provision_at self.old id).own.element num heading tail)) (provision_at self.old id).wid (tree_view self.old).body)) }
         ensures kept { OnErr result (tree_view self.new ≡ tree_view self.old) }
+        ensures stay { NodesStay self.old self.new }
         ensures step { steps.new ≡ steps.old + 1 }
     {
         steps.tick();
         let arena = &self.arena;
-        let second = arena.second_part(alloc, id, first_child, tail, num, heading, by)?;
+        let second = arena.second_part(alloc, id, first_child, tail, &num, heading, by)?;
         self.part(alloc, id, first_child, head, second)?;
         self.count_change();
         Ok(())
@@ -448,6 +456,7 @@ impl Tree {
         requires next { is_some (next_of (provision_at self.old id).wid (tree_view self.old).body) ≡ true }
         ensures tree { OnOk result (tree_view self.new ≡ changed_once (tree_view self.old) (changed (merged content) (provision_at self.old id).wid (tree_view self.old).body)) }
         ensures kept { OnErr result (tree_view self.new ≡ tree_view self.old) }
+        ensures stay { NodesStay self.old self.new }
         ensures step { steps.new ≡ steps.old + 1 }
     {
         steps.tick();
@@ -472,6 +481,7 @@ impl Tree {
         requires provision { id ≡ 0 → ⊥ }
         ensures tree { tree_view self.new ≡ record (tree_view self.old) { body = removed (provision_at self.old id).wid (tree_view self.old).body } }
         ensures says { (k : ℕ) → provision_at self.new k ≡ provision_at self.old k }
+        ensures stay { NodesStay self.old self.new }
     {
         self.arena.take_off(id);
     }
@@ -480,6 +490,7 @@ impl Tree {
     fn clear(&mut self)
         ensures tree { tree_view self.new ≡ record (tree_view self.old) { body = removed (provision_at self.old 0).wid (tree_view self.old).body } }
         ensures says { (k : ℕ) → provision_at self.new k ≡ provision_at self.old k }
+        ensures stay { NodesStay self.old self.new }
     {
         self.arena.take_all();
     }
@@ -499,6 +510,7 @@ impl Tree {
     fn put_num(&mut self, id: NodeId, num: Num)
         requires node { has_node self.old id ≡ true }
         requires provision { id ≡ 0 → ⊥ }
+        requires num { is_num num ≡ true }
         ensures tree { tree_view self.new ≡ record (tree_view self.old) { body = renumbered (((provision_at self.old id).wid, num) ∷ []) (tree_view self.old).body } }
         ensures nodes { (k : ℕ) → has_node self.new k ≡ has_node self.old k }
         ensures wids { (k : ℕ) → (provision_at self.new k).wid ≡ (provision_at self.old k).wid }
@@ -551,6 +563,7 @@ impl Tree {
         ensures nodes { OnOk result ((k : ℕ) → has_node self.old k ≡ true → has_node self.new k ≡ true) }
         ensures says { OnOk result ((k : ℕ) → has_node self.old k ≡ true → provision_at self.new k ≡ provision_at self.old k) }
         ensures kept { OnErr result (tree_view self.new ≡ tree_view self.old) }
+        ensures stay { NodesStay self.old self.new }
     {
         let name = bringer(alloc, by)?;
         self.arena.graft(alloc, parent, place, name.as_str(), nodes)
@@ -562,6 +575,7 @@ impl Tree {
         requires next { is_some (next_of (provision_at self.old id).wid (tree_view self.old).body) ≡ true }
         ensures tree { OnOk result (tree_view self.new ≡ record (tree_view self.old) { body = changed (merged content) (provision_at self.old id).wid (tree_view self.old).body }) }
         ensures kept { OnErr result (tree_view self.new ≡ tree_view self.old) }
+        ensures stay { NodesStay self.old self.new }
     {
         let next = self.arena.next(id).unwrap();
         let refs = self.arena.refs_of_both(alloc, id, next)?;
@@ -584,6 +598,7 @@ impl Tree {
         requires fresh { has_brought by (tree_view self.old).body ≡ false }
         ensures tree { OnOk result (tree_view self.new ≡ record (tree_view self.old) { body = substituted (provision_at self.old id).wid (brought by (branches_of nodes.now)) (tree_view self.old).body }) }
         ensures kept { OnErr result (tree_view self.new ≡ tree_view self.old) }
+        ensures stay { NodesStay self.old self.new }
     {
         let (parent, place) = self.place_of(id);
         self.put_nodes(alloc, parent, place, nodes, by)?;
@@ -597,6 +612,7 @@ impl Tree {
         requires fresh { has_brought by (tree_view self.old).body ≡ false }
         ensures tree { OnOk result (tree_view self.new ≡ record (tree_view self.old) { body = substituted (provision_at self.old 0).wid (brought by (branches_of nodes.now)) (tree_view self.old).body }) }
         ensures kept { OnErr result (tree_view self.new ≡ tree_view self.old) }
+        ensures stay { NodesStay self.old self.new }
     {
         let name = bringer(alloc, by)?;
         self.arena.replant(alloc, name.as_str(), nodes)
@@ -615,9 +631,11 @@ impl Tree {
         requires provision { id ≡ 0 → ⊥ }
         requires above { second.above ≡ above_in (at self.old.arena id) }
         requires below { second.below.items ≡ drop first_child (children_at self.old id) }
+        requires num { is_num second.num ≡ true }
         requires fresh { is_in second.wid (tree_view self.old).body ≡ false }
         ensures tree { OnOk result (tree_view self.new ≡ record (tree_view self.old) { body = changed (parted first_child head (provision_of second)) (provision_at self.old id).wid (tree_view self.old).body }) }
         ensures kept { OnErr result (tree_view self.new ≡ tree_view self.old) }
+        ensures stay { NodesStay self.old self.new }
     {
         self.arena.part(alloc, id, first_child, head, second)
     }

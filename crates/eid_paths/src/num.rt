@@ -75,9 +75,10 @@ impl Num {
         str::from_utf8(&self.bytes[..self.len]).unwrap()
     }
 
-    /// The same num.
+    /// The same num, with the rule that nums keep.
     pub fn copy(&self) -> Num
-        ensures { result ≡ self.now }
+        ensures value { result ≡ self.now }
+        ensures rule { IsTrue (spec.is_num result) }
     {
         Num {
             bytes: self.bytes,
