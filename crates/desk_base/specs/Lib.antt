@@ -1,5 +1,6 @@
 pub mod Days
 pub mod Ids
 pub mod Periods
+pub mod Sizes
 pub mod Streams
 pub mod MemoryStreams

@@ -1,4 +1,4 @@
-//! What every layer of the desk stands on: days, periods and ids, shared texts, the streams of the
+//! What every layer of the desk stands on: days, periods and ids, shared texts, their sizes, the streams of the
 //! outside with their counts of faults, and a counter of steps.
 #![tactic(auto)]
 
@@ -13,6 +13,7 @@ mod memory;
 mod period;
 mod reading;
 mod sink;
+mod sizes;
 mod source;
 mod steps;
 #[cfg(test)]
@@ -30,6 +31,7 @@ pub use memory::Memory;
 pub use period::Period;
 pub use reading::Reading;
 pub use sink::Sink;
+pub use sizes::{DAY_SIZE, ID_SIZE, PERIOD_SIZE, plus_name, plus_text};
 pub use source::{Failed, Source, count_fault};
 pub use steps::Steps;
 pub use text::Text;
