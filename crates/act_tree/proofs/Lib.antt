@@ -47,3 +47,4 @@ pub mod GoingUp
 pub mod EidsDiffer
 pub mod EidsOfTree
 pub mod Copying
+pub mod NotAsMany

@@ -24,3 +24,6 @@ pub mod Faults
 pub mod Surveys
 pub mod EidsOfNodes
 pub mod Brought
+pub mod SameNodes
+pub mod NodeSizes
+pub mod Limits

@@ -1,14 +1,15 @@
 //! What holds of every tree and every change. Each law is a function that does nothing, whose clause is the law.
 
-ghost use Rattle.std.specs.Prelude.{◌≡◌, false, true, None, ℕ};
-ghost use Rattle.act_tree.specs.Branches.{listed, branches_of};
+ghost use Rattle.std.specs.Prelude.{◌≡◌, ◌↔◌, IsTrue, false, true, None, ℕ, List};
+ghost use Rattle.act_tree.specs.Branches.{Branch, listed, branches_of};
 ghost use Rattle.act_tree.specs.Changes.{any_holds, without};
 ghost use Rattle.act_tree.specs.EidsOfNodes.{IsNodeOf};
 ghost use Rattle.act_tree.specs.Faults.{first_cause, all_eids, all_owns};
+ghost use Rattle.act_tree.specs.Provisions.{Own};
 ghost use Rattle.act_tree.specs.Seen.{tree_view};
 ghost use Rattle.act_tree.specs.Wids.{is_among};
 
-use crate::{NodeId, Nodes, Tree};
+use crate::{NodeId, Nodes, Refs, Tree};
 
 /// Of a wId that is taken away no provision is left, at any depth.
 pub fn none_is_left(tree: &Tree, wid: &str)
@@ -44,4 +45,11 @@ pub fn listed_is_whole(tree: &Tree)
 /// Nodes, told as branches, are again the nodes.
 pub fn nodes_are_whole(nodes: &Nodes)
     ensures { listed (branches_of nodes.now) ≡ nodes.now }
+{}
+
+/// `==` holds of nodes and of refs exactly where they are equal.
+#[tactic(auto, using(crate::specs::SameNodes::nodes_decide, crate::specs::SameNodes::refs_decide))]
+pub fn equality_is_decided()
+    ensures nodes { (a b : List (Branch Own)) → IsTrue (⟦<Nodes as PartialEq>⟧.eq a b) ↔ (a ≡ b) }
+    ensures refs { (a b : List (List ℕ)) → IsTrue (⟦<Refs as PartialEq>⟧.eq a b) ↔ (a ≡ b) }
 {}
