@@ -2,15 +2,18 @@
 #![tactic(auto)]
 
 mod applying;
+mod copying;
 mod edit;
 mod held_back;
 mod joining;
 pub mod laws;
+mod limits;
 mod occurrences;
 mod outcome;
 mod pairs;
 mod renumbering;
 mod settling;
+mod sizes;
 mod splitting;
 mod structure;
 mod targets;
@@ -18,5 +21,6 @@ mod text;
 
 pub use applying::apply;
 pub use edit::{Pos, SplitAt, Spot, TextPos, TextualMod};
+pub use limits::MAX_ITEMS;
 pub use outcome::Outcome;
 pub use pairs::Pairs;
