@@ -17,7 +17,7 @@ use Rattle.textual_mods.specs.declared.edit.SplitAt.{SplitAt}
 use Rattle.textual_mods.specs.declared.edit.SplitAt.TheVariants as cuts
 use Rattle.textual_mods.specs.declared.edit.TextPos.{TextPos}
 use Rattle.textual_mods.specs.declared.edit.TextPos.TheVariants as stands
-use Rattle.textual_mods.specs.declared.limits.TheConstants.{MAX_ITEMS}
+use Rattle.textual_mods.specs.declared.fitting.TheConstants.{MAX_ITEMS}
 
 -- a text is no longer than an edit may bring or look for
 abbrev pub text_fits : List ℕ → Bool

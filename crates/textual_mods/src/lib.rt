@@ -4,10 +4,10 @@
 mod applying;
 mod copying;
 mod edit;
+mod fitting;
 mod held_back;
 mod joining;
 pub mod laws;
-mod limits;
 mod occurrences;
 mod outcome;
 mod pairs;
@@ -21,6 +21,6 @@ mod text;
 
 pub use applying::apply;
 pub use edit::{Pos, SplitAt, Spot, TextPos, TextualMod};
-pub use limits::MAX_ITEMS;
+pub use fitting::MAX_ITEMS;
 pub use outcome::Outcome;
 pub use pairs::Pairs;

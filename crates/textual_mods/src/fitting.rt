@@ -2,7 +2,7 @@
 
 ghost use Rattle.std.specs.Prelude.{◌≡◌, IfOk, map};
 ghost use Rattle.std.specs.List.{list_all};
-ghost use Rattle.act_tree.specs.Limits.{is_wid};
+ghost use Rattle.act_tree.specs.Limits as limits;
 ghost use Rattle.act_tree.specs.Wids.{is_among, one_twice};
 ghost use Rattle.textual_mods.specs.EditLimits as spec;
 
@@ -28,7 +28,7 @@ fn payload_fits(nodes: &Nodes) -> bool
 }
 
 fn have_wids(pairs: &[(Text, Num)]) -> bool
-    ensures { result ≡ list_all (λ pair. is_wid pair.0) pairs.now }
+    ensures { result ≡ list_all (λ pair. limits.is_wid pair.0) pairs.now }
 {
     for pair in pairs {
         if !is_wid(pair.0.as_str()) {
