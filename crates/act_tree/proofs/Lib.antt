@@ -51,3 +51,4 @@ pub mod Ways
 pub mod LevelsDiffer
 pub mod EidsOfTree
 pub mod Copying
+pub mod NotAsMany

@@ -28,3 +28,6 @@ pub mod EidsOfWids
 pub mod EidLevels
 pub mod EidsOfNodes
 pub mod Brought
+pub mod SameNodes
+pub mod NodeSizes
+pub mod Limits

@@ -1,16 +1,17 @@
 //! What holds of every tree and every change. Each law is a function that does nothing, whose clause is the law.
 
-ghost use Rattle.std.specs.Prelude.{◌≡◌, ◌||◌, false, true, None, Some, ℕ, List, map};
-ghost use Rattle.act_tree.specs.Branches.{listed, branches_of};
+ghost use Rattle.std.specs.Prelude.{◌≡◌, ◌||◌, ◌↔◌, IsTrue, false, true, None, Some, ℕ, List, map};
+ghost use Rattle.act_tree.specs.Branches.{Branch, listed, branches_of};
 ghost use Rattle.act_tree.specs.Changes.{any_holds, changed, renumbered, with_content, without};
 ghost use Rattle.act_tree.specs.EidLevels.{has_beginning_twice, has_siblings_alike};
 ghost use Rattle.act_tree.specs.EidsOfNodes.{IsNodeOf};
 ghost use Rattle.act_tree.specs.EidsOfWids.{eid_of_wid};
 ghost use Rattle.act_tree.specs.Faults.{first_cause, all_eids, all_owns};
+ghost use Rattle.act_tree.specs.Provisions.{Own};
 ghost use Rattle.act_tree.specs.Seen.{tree_view};
 ghost use Rattle.act_tree.specs.Wids.{all_wids, is_among, one_twice};
 
-use crate::{NodeId, Nodes, Tree};
+use crate::{NodeId, Nodes, Refs, Tree};
 
 /// Of a wId that is taken away no provision is left, at any depth.
 pub fn none_is_left(tree: &Tree, wid: &str)
@@ -70,4 +71,11 @@ pub fn listed_is_whole(tree: &Tree)
 /// Nodes, told as branches, are again the nodes.
 pub fn nodes_are_whole(nodes: &Nodes)
     ensures { listed (branches_of nodes.now) ≡ nodes.now }
+{}
+
+/// `==` holds of nodes and of refs exactly where they are equal.
+#[tactic(auto, using(crate::specs::SameNodes::nodes_decide, crate::specs::SameNodes::refs_decide))]
+pub fn equality_is_decided()
+    ensures nodes { (a b : List (Branch Own)) → IsTrue (⟦<Nodes as PartialEq>⟧.eq a b) ↔ (a ≡ b) }
+    ensures refs { (a b : List (List ℕ)) → IsTrue (⟦<Refs as PartialEq>⟧.eq a b) ↔ (a ≡ b) }
 {}

@@ -2,5 +2,6 @@ pub mod Clocks
 pub mod Days
 pub mod Ids
 pub mod Periods
+pub mod Sizes
 pub mod Streams
 pub mod MemoryStreams

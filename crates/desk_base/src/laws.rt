@@ -1,7 +1,11 @@
-//! Laws of days, each as the contract of a function with an empty body.
+//! Laws of days and of equality, each as the contract of a function with an empty body.
 
-ghost use Rattle.std.specs.Prelude.{◌≡◌, Some};
+ghost use Rattle.std.specs.Prelude.{◌≡◌, ◌↔◌, ℕ, List, IsTrue, Some};
 ghost use Rattle.desk_base.specs.Days.{IsDay, number_of, day_of, day_text};
+ghost use Rattle.desk_base.specs.declared.id.Id.{Id as IdValue};
+ghost use Rattle.desk_base.specs.declared.period.Period.{Period as PeriodValue};
+
+use crate::{Id, Period, Text};
 
 /// What a day spells is read as that day.
 pub fn spelled_day_is_read(_number: u32)
@@ -23,4 +27,11 @@ pub fn days_are_counted_from_first()
     ensures first { number_of 1 1 1 ≡ 1 }
     ensures epoch { number_of 1970 1 1 ≡ 719163 }
     ensures last { number_of 9999 12 31 ≡ 3652059 }
+{}
+
+/// `==` holds of texts, ids and periods exactly where they are equal.
+pub fn equality_is_decided()
+    ensures texts { (a b : List ℕ) → IsTrue (⟦<Text as PartialEq>⟧.eq a b) ↔ (a ≡ b) }
+    ensures ids { (a b : IdValue) → IsTrue (⟦<Id as PartialEq>⟧.eq a b) ↔ (a ≡ b) }
+    ensures periods { (a b : PeriodValue) → IsTrue (⟦<Period as PartialEq>⟧.eq a b) ↔ (a ≡ b) }
 {}

@@ -1,5 +1,5 @@
-//! What every layer of the desk stands on: days, periods and ids, shared texts, the streams and clocks
-//! of the outside, with counts of their faults, and a counter of steps.
+//! What every layer of the desk stands on: days, periods and ids, shared texts and their sizes, the streams
+//! and clocks of the outside, with counts of their faults, and a counter of steps.
 #![tactic(auto)]
 
 mod bytes_sink;
@@ -18,6 +18,7 @@ mod pair;
 mod period;
 mod reading;
 mod sink;
+mod sizes;
 mod source;
 mod steps;
 #[cfg(test)]
@@ -41,6 +42,7 @@ pub use pair::Pair;
 pub use period::Period;
 pub use reading::Reading;
 pub use sink::Sink;
+pub use sizes::{DAY_SIZE, ID_SIZE, PERIOD_SIZE, plus_name, plus_text};
 pub use source::{Failed, Source, count_fault};
 pub use steps::Steps;
 pub use text::Text;

@@ -1,7 +1,10 @@
 //! Num: the number of a provision. A clause sees one as the list of its bytes.
 
-ghost use Rattle.std.specs.Prelude.{◌≡◌, IsTrue};
+ghost use Rattle.std.specs.Prelude.{◌≡◌, ◌==◌, IsTrue};
 ghost use Rattle.std.specs.List.{list_all};
+ghost use Rattle.std.specs.Cmp.Lexicographic.{pointwise};
+ghost use Rattle.std.specs.Cmp.Rules.{comparing};
+ghost use Rattle.std.proofs.Common.{rules};
 ghost use Rattle.eid_paths.specs.Nums as spec;
 ghost use Rattle.eid_paths.specs.Nums.{num_of};
 
@@ -85,4 +88,18 @@ impl Num {
             len: self.len,
         }
     }
+}
+
+impl PartialEq for Num {
+    ghost eq = { pointwise ◌==◌ };
+
+    ghost laws = { Prim.search (comparing, rules) };
+
+    fn eq(&self, other: &Num) -> bool {
+        self.as_bytes() == other.as_bytes()
+    }
+}
+
+impl Eq for Num {
+    ghost laws = { Prim.search (comparing, rules) };
 }
