@@ -1,4 +1,5 @@
 pub mod Days
+pub mod Decimals
 pub mod Ids
 pub mod Periods
 pub mod Streams

@@ -5,6 +5,7 @@
 mod bytes_sink;
 mod bytes_source;
 mod day;
+mod decimals;
 mod failing_calls;
 mod id;
 pub mod laws;
@@ -23,6 +24,7 @@ mod writing;
 pub use bytes_sink::BytesSink;
 pub use bytes_source::BytesSource;
 pub use day::Day;
+pub use decimals::decimal_number;
 pub use failing_calls::FailingCalls;
 pub use id::Id;
 pub use load_fault::LoadFault;
