@@ -126,6 +126,16 @@ text_found d n some e =
     let same : number_of (unsigned_abs d.year) d.month d.day ≡ n = omega (arith, found.0) in
     sym (text_of_date (unsigned_abs d.year) d.month d.day year.1 here) ∙ ap day_text same
 
+-- the year that jiff finds for a number is that of the day
+pub year_found : (d : Date) (n : ℕ) → 1 ≤ n → epoch_day d +ℤ pos 4371587 ≡ pos (n + 3652424) → unsigned_abs d.year ≡ year_of n
+year_found d n some e =
+    let low = year_after_0 d (n + 3652424) (omega arith) e in
+    let year = abs_positive d.year low in
+    let here : IsCivilDate (pos (unsigned_abs d.year)) d.month d.day = rw year.0 (civil d) in
+    let found = number_days d (n + 3652424) low e in
+    let same : number_of (unsigned_abs d.year) d.month d.day ≡ n = omega (arith, found.0) in
+    sym (year_is (unsigned_abs d.year) d.month d.day year.1 here) ∙ ap year_of same
+
 AreSmall : List ℕ → Type 0
 AreSmall [] = Unit {0}
 AreSmall (b ∷ bs) = (b < 128) × AreSmall bs

@@ -1,3 +1,4 @@
+pub mod Numerals
 pub mod Calendar
 pub mod Writes
 pub mod Pieces

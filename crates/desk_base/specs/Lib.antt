@@ -1,5 +1,6 @@
 pub mod Clocks
 pub mod Days
+pub mod Decimals
 pub mod Ids
 pub mod Periods
 pub mod Sizes

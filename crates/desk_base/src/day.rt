@@ -106,6 +106,12 @@ fn date_bytes(date: Date) -> [u8; 10]
     ]
 }
 
+fn year_in(date: Date) -> u16
+    ensures { result ≡ unsigned_abs date.year }
+{
+    date.year.unsigned_abs()
+}
+
 impl Day {
     /// The number of the day: 1 for 0001-01-01, and 3652059 for 9999-12-31.
     pub fn number(&self) -> i32
@@ -134,6 +140,13 @@ impl Day {
         Day {
             number: (719_163 + seconds / 86_400).min(3_652_059) as u32,
         }
+    }
+
+    /// The year in which the day lies.
+    pub fn year(&self) -> u16
+        ensures { result ≡ spec.year_of self.now }
+    {
+        year_in(Date::from_days_since_min(self.number + 3_652_424))
     }
 
     /// The day that a text spells. It has ten bytes, YYYY-MM-DD, a year from 0001, and a month and a

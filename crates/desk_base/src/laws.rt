@@ -1,6 +1,8 @@
-//! Laws of days and of equality, each as the contract of a function with an empty body.
+//! Laws of days, of decimals and of equality, each as the contract of a function with an empty body.
 
-ghost use Rattle.std.specs.Prelude.{◌≡◌, ◌↔◌, ℕ, List, IsTrue, Some};
+ghost use Rattle.std.specs.Prelude.{◌≡◌, ◌≤◌, ◌↔◌, ℕ, List, IsTrue, Some};
+ghost use Rattle.std.specs.Fmt.{decimal};
+ghost use Rattle.desk_base.specs.Decimals.{decimal_up_to};
 ghost use Rattle.desk_base.specs.Days.{IsDay, number_of, day_of, day_text};
 ghost use Rattle.desk_base.specs.declared.id.Id.{Id as IdValue};
 ghost use Rattle.desk_base.specs.declared.period.Period.{Period as PeriodValue};
@@ -27,6 +29,16 @@ pub fn days_are_counted_from_first()
     ensures first { number_of 1 1 1 ≡ 1 }
     ensures epoch { number_of 1970 1 1 ≡ 719163 }
     ensures last { number_of 9999 12 31 ≡ 3652059 }
+{}
+
+/// What a number spells in decimal is read as that number, within every limit that it keeps.
+pub fn spelled_number_is_read(_number: u64, _most: u64)
+    ensures { _number ≤ _most → decimal_up_to _most (decimal _number) ≡ Some _number }
+{}
+
+/// What is read as a number is what that number spells, so that a number has one spelling.
+pub fn read_decimal_is_spelled(_text: &[u8], _number: u64, _most: u64)
+    ensures { decimal_up_to _most _text.now ≡ Some _number → _text.now ≡ decimal _number }
 {}
 
 /// `==` holds of texts, ids and periods exactly where they are equal.

@@ -186,7 +186,7 @@ expression_read text e spells =
     (sign_cut e.language (version_text e.version) letters.1) (version_read (place_of text tail + 4) e.version kept.version) cut.1 ends.read work)
 
 pub own_read : (e : Expression) → KeepsRules e → expression_of (expression_text e) ≡ Ok e
-unfolding expression_text
+unfolding expression_text versioned_text
 own_read e kept = expression_read (expression_text e) e (record { kept = kept; ending = portion_text e.portion; is_ending = inl refl; spelled = refl })
 
 -- a name of its front, its number, its language, its version and its ending

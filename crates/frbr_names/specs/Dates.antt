@@ -1,5 +1,6 @@
 -- The dates that stand in names.
-use Rattle.std.specs.Prelude.{ℕ, ◌+◌, ◌*◌, ◌/◌, ◌≤◌, ◌==◌, List, [], ◌∷◌, length, get_or, Option, Some, None, option_and_then, if◌then◌else◌}
+use Rattle.std.specs.Prelude.{ℕ, ◌+◌, ◌*◌, ◌/◌, ◌≤◌, ◌==◌, Bool, List, [], ◌∷◌, length, get_or, Option, Some, None, option_and_then, if◌then◌else◌}
+use Rattle.desk_base.specs.Days as days
 use Rattle.desk_base.specs.Days.{IsDay, number_of, pair_of, day_of, day_text, last_digit}
 use Rattle.frbr_names.specs.declared.date.IriDate.{IriDate}
 use Rattle.frbr_names.specs.declared.date.IriDate.TheVariants.{Year, Full}
@@ -39,3 +40,8 @@ spelled_date (Full day) = day_text day
 abbrev pub first_day : IriDate → ℕ
 first_day (Year year) = number_of year 1 1
 first_day (Full day) = day
+
+-- a day agrees with a date: it lies in the year that the date gives, or is the day
+abbrev pub agrees_with : IriDate → ℕ → Bool
+agrees_with (Year year) day = days.year_of day == year
+agrees_with (Full named) day = day == named

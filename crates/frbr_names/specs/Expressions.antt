@@ -1,5 +1,5 @@
 -- The IRIs of expressions: what they say, and how they are spelled.
-use Rattle.std.specs.Prelude.{◌≡◌, ◌⊎◌, IsTrue, IfSome, ℕ, ◌+◌, ◌-◌, ◌==◌, Bool, true, ◌&&◌, ◌||◌, List, [], ◌∷◌, ◌++◌, length, take, slice_index, codes, Option, Some, None, unwrap_or, Ok, if◌then◌else◌}
+use Rattle.std.specs.Prelude.{◌≡◌, ◌⊎◌, IsTrue, IfSome, ℕ, ◌+◌, ◌-◌, ◌==◌, Bool, true, ◌&&◌, ◌||◌, List, [], ◌∷◌, ◌++◌, length, take, slice_index, codes, Option, Some, None, unwrap_or, Ok, is_ok, if◌then◌else◌}
 use Rattle.std.specs.List.{list_all, after_first}
 use Rattle.std.specs.Char.{is_ascii_lowercase}
 use Rattle.desk_base.specs.Days.{IsDay, day_of, day_text}
@@ -92,6 +92,10 @@ expression_of text = do
   front ← front_of text
   expression_behind text front
 
+-- a text is the IRI of an expression
+abbrev pub is_expression : List ℕ → Bool
+is_expression text = is_ok (expression_of text)
+
 -- a language is three lower-case letters
 unfoldable pub is_language : List ℕ → Bool
 is_language letters = length letters == 3 && list_all is_ascii_lowercase letters
@@ -115,9 +119,15 @@ portion_text (Some portion) = codes "/~" ++ portion
 unfoldable pub versioned_text : Expression → List ℕ
 versioned_text e = e.work.text ++ codes "/" ++ e.language ++ codes "@" ++ version_text e.version
 
--- how the IRI of an expression is spelled: the component `main` is not named
+-- how the IRI of an expression is spelled of the text of its work, the letters of its language, its version and its portion: the
+-- component `main` is not named
+abbrev pub spelled_expression : List ℕ → List ℕ → Option ℕ → Option (List ℕ) → List ℕ
+spelled_expression work language version portion =
+    (work ++ codes "/" ++ language ++ codes "@" ++ version_text version) ++ portion_text portion
+
+-- how the IRI of an expression is spelled
 unfoldable pub expression_text : Expression → List ℕ
-expression_text e = versioned_text e ++ portion_text e.portion
+expression_text e = spelled_expression e.work.text e.language e.version e.portion
 
 -- each part keeps its rule, and the work is what its text says
 pub record KeepsRules (e : Expression) : Type 0 where

@@ -115,3 +115,15 @@ pub(crate) fn first_day(date: IriDate) -> Day
         IriDate::Full(day) => day,
     }
 }
+
+impl IriDate {
+    /// Whether a day agrees with the date: it lies in the year that the date gives, or is the day.
+    pub fn agrees_with(self, day: Day) -> bool
+        ensures { result ≡ spec.agrees_with self day }
+    {
+        match self {
+            IriDate::Year(year) => day.year() == year,
+            IriDate::Full(named) => day == named,
+        }
+    }
+}

@@ -4,7 +4,7 @@ ghost use Rattle.std.specs.Prelude.{IsTrue};
 ghost use Rattle.std.specs.Option.{option_copied};
 ghost use Rattle.frbr_names.specs.Expressions.{is_language, is_portion_or_none};
 
-use crate::expression_spelling::{push_language, push_portion, push_version};
+use crate::expression_spelling::spelled_expression;
 use crate::work_iri::WorkIri;
 use desk_base::{Day, Memory, Text};
 use std::alloc::Global;
@@ -31,16 +31,17 @@ impl ExpressionIri<'_> {
 
     /// The text of the IRI in its shortest form: the component `main` is not named, and a portion stands
     /// behind `/~`.
-    #[tactic(auto, unfolding(crate::specs::Expressions::expression_text, crate::specs::Expressions::versioned_text))]
+    #[tactic(auto, using(crate::proofs::LetterLemmas::letters_encoded), unfolding(crate::specs::Expressions::expression_text))]
     pub fn put(&self, alloc: Global) -> Result<Text, Memory>
         ensures { IfOk result (λ text. text ≡ expression_text (expression_view self.now)) }
     {
-        let mut text = String::from_str(alloc, self.work.text)?;
-        text.push_str("/")?;
-        push_language(&mut text, self.language)?;
-        text.push_str("@")?;
-        push_version(&mut text, alloc, self.version)?;
-        push_portion(&mut text, self.portion)?;
+        let text = spelled_expression(
+            alloc,
+            self.work.text,
+            self.language,
+            self.version,
+            self.portion,
+        )?;
         Text::from_string(text)
     }
 }

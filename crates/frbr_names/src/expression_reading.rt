@@ -189,3 +189,13 @@ pub fn parse_expression(text: &str) -> Result<ExpressionIri<'_>, NameFault>
         Err(fault) => Err(fault),
     }
 }
+
+/// Whether a text is the IRI of an expression.
+pub fn is_expression(text: &str) -> bool
+    ensures { result ≡ spec.is_expression text.now }
+{
+    match parse_expression(text) {
+        Ok(_) => true,
+        Err(_) => false,
+    }
+}

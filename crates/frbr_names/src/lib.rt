@@ -17,7 +17,8 @@ mod work_reading;
 
 pub use date::IriDate;
 pub use expression_iri::ExpressionIri;
-pub use expression_reading::parse_expression;
+pub use expression_reading::{is_expression, parse_expression};
+pub use expression_spelling::{spelled_expression, spelled_language};
 pub use fault::{NameFault, NameRule};
 pub use work_iri::WorkIri;
 pub use work_name::WorkName;
