@@ -1,7 +1,6 @@
 -- Nums keep their rule through changes of the text.
-use Rattle.std.proofs.Common.{◌≡◌, ◌∙◌, ap, refl, ℕ, zero, suc, true, false, Bool, ◌&&◌, List, [], ◌∷◌, ◌++◌, cond}
+use Rattle.std.proofs.Common.{◌≡◌, refl, ℕ, zero, suc, true, false, Bool, ◌&&◌, List, [], ◌∷◌, ◌++◌, cond}
 use Rattle.std.proofs.lemmas.Bool.{and_parts}
-use Rattle.std.specs.Str.{bytes_eq}
 use Rattle.eid_paths.specs.Nums.{is_num}
 use Rattle.act_tree.specs.Branches.{Branch, Branches, branch, no_branches, more_branches, branches_of}
 use Rattle.act_tree.specs.Changes.{Step, has_wid, without, inside_without, changed, inside_changed, joined, first, behind, put_in, among_children, parted, merged, with_content}

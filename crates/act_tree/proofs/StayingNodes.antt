@@ -86,9 +86,9 @@ pub stay_parted : (old new : Arena) (second : List ℕ) → IsWhole (at old) (nu
     → ((w : List ℕ) → number new w ≡ cond (bytes_eq second w) (Some (size old)) (number old w)) → LeadsStill old new
 stay_parted old new second whole fresh numbers =
     index_kept old whole new (λ v found. numbers v ∙ ap (λ t. cond t (Some (size old)) (number old v)) (other_text second v (λ same.
-        let told : is_among second (root_wid ∷ all_wids (body_of old)) ≡ true = ap (λ w. is_among w (root_wid ∷ all_wids (body_of old))) same ∙ found in
-        let never : is_among second (root_wid ∷ all_wids (body_of old)) ≡ false = ap (λ t. bytes_eq second root_wid || t) (all_wids_held second (body_of old)) ∙ fresh in
-        cc)))
+    let told : is_among second (root_wid ∷ all_wids (body_of old)) ≡ true = ap (λ w. is_among w (root_wid ∷ all_wids (body_of old))) same ∙ found in
+    let never : is_among second (root_wid ∷ all_wids (body_of old)) ≡ false = ap (λ t. bytes_eq second root_wid || t) (all_wids_held second (body_of old)) ∙ fresh in
+    cc)))
 
 pub stay_same : (old new : Arena) → IsWhole (at old) (number old) (size old) → ((w : List ℕ) → number new w ≡ number old w) → LeadsStill old new
 stay_same old new whole numbers = index_kept old whole new (λ v found. numbers v)

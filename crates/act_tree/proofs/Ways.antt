@@ -20,7 +20,7 @@ use Rattle.act_tree.specs.Provisions.{Own, Provision}
 use Rattle.act_tree.specs.Seen.{tree_view, has_node, provision_at}
 use Rattle.act_tree.specs.Slots.{at, number, size}
 use Rattle.act_tree.specs.Wids.{wids, all_wids, is_among}
-use Rattle.act_tree.proofs.EidsDiffer.{Lower, LowerAll, own_eid, lower_below, lower_first, lower_rest, not_root, body_lower, node_held}
+use Rattle.act_tree.proofs.EidsDiffer.{Lower, LowerAll, own_eid, lower_below, lower_first, lower_rest, body_lower, node_held}
 use Rattle.act_tree.proofs.Finding.{root_leads}
 use Rattle.act_tree.proofs.Frames.{none_left, none_right}
 use Rattle.act_tree.proofs.GoingUp.{eid_root}
@@ -105,8 +105,7 @@ module _ (at : ℕ → Option Laid) (number : List ℕ → Option ℕ) (size : �
               (p.own ∷ [], (ap (λ t. cond t (Some (p.own ∷ [])) (option_map (λ way. p.own ∷ way) (way_to w below))) it, ap now (sym same) ∙ mine))
           | inr other ↦
               let beneath : any_holds w below ≡ true = sym (ap (λ t. t || any_holds w below) other) ∙ held in
-              let rest = way_among below k i w (levels_with n above p.own) (below_in (at k)) s.1.1 (lower_below at number size whole n p below l) beneath leads (mine ∙ sym (spelled_with n above p.own)) in
-              (
+              let rest = way_among below k i w (levels_with n above p.own) (below_in (at k)) s.1.1 (lower_below at number size whole n p below l) beneath leads (mine ∙ sym (spelled_with n above p.own)) in (
                 p.own ∷ rest.0,
                 (ap (λ t. cond t (Some (p.own ∷ [])) (option_map (λ way. p.own ∷ way) (way_to w below))) other ∙ ap (option_map (λ way. p.own ∷ way)) rest.1.0, rest.1.1),
               )

@@ -1,9 +1,10 @@
 //! Tree: the text of an act. A clause sees one as its numbering, its provisions and the number of its changes.
 
-ghost use Rattle.std.specs.Prelude.{◌≡◌, None, Some, option_map, if◌then◌else◌};
+ghost use Rattle.std.specs.Prelude.{◌≡◌, None, Some, if◌then◌else◌};
 ghost use Rattle.act_tree.specs.Arena.{IsWhole};
 ghost use Rattle.act_tree.specs.Single.{IsWhole-prop};
-ghost use Rattle.act_tree.specs.Slots.{at, number, size};
+ghost use Rattle.act_tree.specs.EidsOfWids.{level_of_own};
+ghost use Rattle.act_tree.specs.Slots.{at, number, provision_of, size};
 
 use crate::arena::{Arena, Slot};
 use crate::eids::eid_of_number;
@@ -14,7 +15,7 @@ use crate::surveying::fault_of;
 use crate::walks::{count, find_eid, survey};
 use crate::{BuildFail, BuildFault, Cause, NodeId, Nodes, Refs};
 use desk_base::{Id, Memory, Steps, Text};
-use eid_paths::{Element, Num, Numbering};
+use eid_paths::{Element, Level, Num, Numbering};
 use std::alloc::Global;
 use std::sync::ledger::Ledger;
 
@@ -28,20 +29,18 @@ pub struct Tree {
 }
 
 /// What a node of a tree says.
-#[derive(Clone, Copy, Debug)]
+#[derive(Debug, Drop)]
 pub struct NodeView<'a> {
-    /// The kind of provision. `None`: it is the root.
-    pub element: Option<Element>,
-    /// Its number. `None`: it is the root.
-    pub num: Option<&'a Num>,
+    /// The element of the provision and its num. `None`: it is the root.
+    pub level: Option<Level>,
     /// Its wId, which never changes.
-    pub wid: &'a Text,
+    pub wid: &'a [u8],
     /// Its heading, empty where it has none.
-    pub heading: &'a Text,
+    pub heading: &'a str,
     /// Its text, empty where it has none.
-    pub content: &'a Text,
+    pub content: &'a str,
     /// The expressions that it refers to.
-    pub refs: &'a Refs,
+    pub refs: &'a [Text],
 }
 
 /// What a provision says of itself, and its wId.
@@ -61,22 +60,28 @@ pub struct ProvisionView<'a> {
     pub refs: &'a Refs,
 }
 
-// What a slot says, of the root without element and num.
+// What a slot says, of the root without a level.
 fn view_of(slot: &Slot, is_root: bool) -> NodeView<'_>
-    ensures element { result.element ≡ (if is_root then None else Some slot.now.element) }
-    ensures num { option_map (λ n. n.now) result.num ≡ (if is_root then None else Some slot.now.num) }
+    ensures level { result.level ≡ (if is_root then None else Some (level_of_own (provision_of slot.now).own)) }
     ensures wid { result.wid.now ≡ slot.now.wid }
     ensures heading { result.heading.now ≡ slot.now.heading }
     ensures content { result.content.now ≡ slot.now.content }
     ensures refs { result.refs.now ≡ slot.now.refs }
 {
+    let level = if is_root {
+        None
+    } else {
+        Some(Level {
+            element: slot.element,
+            num: slot.num.copy(),
+        })
+    };
     NodeView {
-        element: if is_root { None } else { Some(slot.element) },
-        num: if is_root { None } else { Some(&slot.num) },
-        wid: &slot.wid,
-        heading: &slot.heading,
-        content: &slot.content,
-        refs: &slot.refs,
+        level,
+        wid: slot.wid.as_str().as_bytes(),
+        heading: slot.heading.as_str(),
+        content: slot.content.as_str(),
+        refs: slot.refs.as_slice(),
     }
 }
 
@@ -94,7 +99,7 @@ impl Tree {
     ghost use Rattle.act_tree.specs.declared.surveying.TheConstants.{NONE_THROUGHOUT};
     ghost use Rattle.act_tree.specs.Eids.{all_enacted};
     ghost use Rattle.act_tree.specs.EidsOfNodes.{IsNodeOf};
-    ghost use Rattle.act_tree.specs.EidsOfWids.{eid_of_wid, has_eid};
+    ghost use Rattle.act_tree.specs.EidsOfWids.{eid_of_wid, has_eid, level_of_own};
     ghost use Rattle.act_tree.specs.Trees.{one_more, changed_once};
     ghost use Rattle.act_tree.specs.NodesStay.{NodesStay};
     ghost use Rattle.act_tree.specs.Wids.{all_wids, one_twice};
@@ -228,8 +233,7 @@ impl Tree {
     /// What a node says.
     pub fn node(&self, id: NodeId) -> NodeView<'_>
         requires { has_node self.now id ≡ true }
-        ensures element { result.element ≡ (if id == 0 then None else Some (provision_at self.now id).own.element) }
-        ensures num { option_map (λ n. n.now) result.num ≡ (if id == 0 then None else Some (provision_at self.now id).own.num) }
+        ensures level { result.level ≡ (if id == 0 then None else Some (level_of_own (provision_at self.now id).own)) }
         ensures wid { result.wid.now ≡ (provision_at self.now id).wid }
         ensures heading { result.heading.now ≡ (provision_at self.now id).own.heading }
         ensures content { result.content.now ≡ (provision_at self.now id).own.content }
