@@ -4,8 +4,7 @@ pub mod Puts
 pub mod ShortNames
 pub mod Lookups
 pub mod Empty
-pub mod SameLaws
-pub mod SameNodes
+pub mod Equality
 pub mod Legal
 pub mod Steps
 pub mod Marking

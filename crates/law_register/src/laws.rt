@@ -1,6 +1,7 @@
 //! What holds of commands and of registers. Each law is a function that does nothing, whose clause is the law.
 
-ghost use Rattle.std.specs.Prelude.{◌≡◌, ◌≤◌, ◌↔◌, ℕ, true, length, slice_get, Some};
+ghost use Rattle.std.specs.Prelude.{◌≡◌, ◌≤◌, ◌↔◌, ℕ, IsTrue, length, slice_get, Some};
+ghost use Rattle.law_register.specs.declared.law.command.Command.{Command as CommandValue};
 ghost use Rattle.law_register.specs.declared.register.entry.Entry.{Entry};
 ghost use Rattle.law_register.specs.Register.KnownIds.{ids_of};
 ghost use Rattle.law_register.specs.Register.LawList.{laws, front, law_numbers, first_numbers};
@@ -9,9 +10,11 @@ ghost use Rattle.law_register.specs.Law.Same.{same_command};
 use crate::{Command, Register};
 use frbr_names::WorkName;
 
-/// Commands are the same exactly where all their values are equal.
-pub fn same_commands_are_equal(a: &Command, b: &Command)
-    ensures { (same_command a.now b.now ≡ true) ↔ (a.now ≡ b.now) }
+/// `==` holds of commands exactly where they are equal, and so does what verdicts ask of a repeat.
+#[tactic(auto, using(crate::proofs::Equality::commands_decide), unfolding(crate::specs::Law::Same::same_command))]
+pub fn equality_is_decided()
+    ensures commands { (a b : CommandValue) → IsTrue (⟦<Command as PartialEq>⟧.eq a b) ↔ (a ≡ b) }
+    ensures repeats { (a b : CommandValue) → IsTrue (same_command a b) ↔ (a ≡ b) }
 {}
 
 /// Of each request of a drafter a register has one entry at most.
