@@ -57,6 +57,15 @@ module _ {I : Type 0} where
     pub began : 0 < v.share → (v.origin ≡ origin) × (v.start ≡ start)
     pub empty : v.share ≡ 0 → v ≡ spent
 
+module _ {T I : Type 0} where
+  -- the value is out with a pass
+  pub record IsAway (homes : List (maybe.Option (Option T))) (views : List (View I)) : Type 0 where
+    pub home : homes ≡ none ∷ []
+    pub seat : ℕ
+    pub view : View I
+    pub there : get_elem? views seat ≡ some view
+    pub out : IsOut view.stage
+
 module _ {T I : Type 0} (history : T → List I) (origin : T → List ℕ) where
   -- the value is at home, with the history and the origin that it has to have, and out with no pass
   pub record IsAtHome (first : T) (past : List I) (homes : List (maybe.Option (Option T))) (views : List (View I)) : Type 0 where
@@ -65,14 +74,6 @@ module _ {T I : Type 0} (history : T → List I) (origin : T → List ℕ) where
     pub has_history : history value ≡ past
     pub has_origin : origin value ≡ origin first
     pub with_none : (seat : ℕ) (v : View I) → get_elem? views seat ≡ some v → ¬ IsOut v.stage
-
-  -- the value is out with a pass
-  pub record IsAway (homes : List (maybe.Option (Option T))) (views : List (View I)) : Type 0 where
-    pub home : homes ≡ none ∷ []
-    pub seat : ℕ
-    pub view : View I
-    pub there : get_elem? views seat ≡ some view
-    pub out : IsOut view.stage
 
   -- What holds between any two steps. The tickets from the one that is served up to the next are those of the passes, one each; shares add up to the callers, and what was made to what the history has beyond its start
   pub record IsKept (opening : Opening T) (s : State (Option T) (View I)) : Type 0 where

@@ -1,0 +1,5 @@
+mod Sums
+mod Prefixes
+mod Keeping
+mod Ladder
+mod Parting
