@@ -1,6 +1,7 @@
 -- Each kind of step in a turn keeps the rule.
 use Rattle.std.proofs.Common.{◌≡◌, ◌≢◌, ◌⊎◌, ℕ, zero, suc, ◌+◌, ◌-◌, ◌%◌, ◌^◌, ◌<◌, ◌≤◌, List, [], ◌∷◌, ◌++◌, length, get_or, set, refl, sym, ap, ◌∙◌, subst, ⊎_elim, inl, inr, arith, Option, Some, None}
 use Rattle.std.specs.List.{sum_by}
+use Rattle.std.specs.Option.{IsSome}
 use mathlib.Core.List.{IsPrefix}
 use mathlib.Core.Logic.{dite}
 use mathlib.Core.Option.{none, some}
@@ -22,25 +23,34 @@ next_word : (n : ℕ) → (n % 2 ^ 64 + 1) % 2 ^ 64 ≡ (n + 1) % 2 ^ 64
 next_word n = omega arith
 
 module _ {I : Type 0} where
-  abbrev ticket_or : ℕ → Stage I → ℕ
+  abbrev pub ticket_or : ℕ → Stage I → ℕ
   ticket_or d Between = d
   ticket_or d (Joined told) = d
   ticket_or d (Waiting mine) = mine
   ticket_or d (Serving mine past) = mine
   ticket_or d (Holding mine past) = mine
 
-  abbrev past_or : List I → Stage I → List I
+  abbrev pub past_or : List I → Stage I → List I
   past_or d (Joined told) = told
   past_or d (Serving mine past) = past
   past_or d (Holding mine past) = past
   past_or d _ = d
 
-abbrev some_or : {T : Type 0} → T → Option T → T
+abbrev pub some_or : {T : Type 0} → T → Option T → T
 some_or d (Some x) = x
 some_or d None = d
 
+-- what is there is some value
+pub is_there : {T : Type 0} (x : T) (o : Option T) → Some x ≡ o → IsSome o
+is_there x o e = subst IsSome e refl
+
+-- what the slot that was taken last holds
+abbrev pub slot_or : {T : Type 0} → Option T → List (ℕ × Option T) → Option T
+slot_or d [] = d
+slot_or d (x ∷ xs) = x.1
+
 -- the value of the slot that was taken last
-abbrev in_hand : {T : Type 0} → T → List (ℕ × Option T) → T
+abbrev pub in_hand : {T : Type 0} → T → List (ℕ × Option T) → T
 in_hand d [] = d
 in_hand d (x ∷ xs) = some_or d x.1
 
@@ -247,7 +257,7 @@ module _ {T I : Type 0} (history : T → List I) (origin : T → List ℕ) (key 
                   (λ j d other there o. the_served history origin key s r id v at has j d other there (out_has r.past r.served r.next d.stage o (r.known j d there).stands));
             }),
         λ ticket past' is'. let same : mine ≡ ticket = ap (ticket_or 0) (sym is ∙ is') in let like : past ≡ past' = ap (past_or []) (sym is ∙ is') in
-            (λ i. staged v (Serving (same i) (like i))),
+            (λ i. (staged v (Serving (same i) (like i)), rest m.1)),
       )
 
   -- 8 pass on

@@ -3,3 +3,4 @@ mod Prefixes
 mod Keeping
 mod Ladder
 mod Parting
+mod WholeTurn

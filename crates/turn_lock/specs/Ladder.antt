@@ -6,7 +6,7 @@ use mathlib.Core.List.{IsPrefix}
 use mathlib.Core.Option.{none, some}
 use mathlib.Core.Option as maybe
 use lib.ListN.{get_elem?}
-use Rattle.atomic_table.specs.Table.{State, Me, Step}
+use Rattle.atomic_table.specs.Table.{State, Me, Step, rest}
 use Rattle.turn_lock.specs.declared.view.View.{View}
 use Rattle.turn_lock.specs.declared.view.Opening.{Opening}
 use Rattle.turn_lock.specs.declared.view.Stage.{Stage}
@@ -168,7 +168,7 @@ module _ {T I : Type 0} where
 
   -- 7 put home: the value is at home
   abbrev pub puts_home : At T → Sat T I → ℕ → Sat T I → Type 0
-  puts_home st m found m' = (ticket : ℕ) (past : List I) → m.0.stage ≡ Holding ticket past → m'.0 ≡ staged m.0 (Serving ticket past)
+  puts_home st m found m' = (ticket : ℕ) (past : List I) → m.0.stage ≡ Holding ticket past → m' ≡ (staged m.0 (Serving ticket past), rest m.1)
 
   -- 8 pass on: the history has been seen, and the ticket is given up
   abbrev pub passes_on : At T → Sat T I → ℕ → Sat T I → Type 0
