@@ -30,16 +30,16 @@ module _ {T I : Type 0} where
   start_of pass = pass.seat.me.0.start
 
   -- the pass is one of the turns with this name
-  pub record IsOf (turns : TableId) (pass : Pass T I) : Type 0 where
+  pub record IsPassOf (turns : TableId) (pass : Pass T I) : Type 0 where
     pub named : pass.seat.table_id ≡ turns
     pub between : pass.seat.me.0.stage ≡ Between
     pub empty_handed : pass.seat.me.1 ≡ []
     pub share : pass.seat.me.0.share ≡ pass.share
     pub stands_for_some : 0 < pass.share
 
-  -- two passes of turns that began with the same value
-  abbrev pub IsKin : Pass T I → Pass T I → Type 0
-  IsKin one other = (origin_of one ≡ origin_of other) × (start_of one ≡ start_of other)
+  -- both passes' turns began with the same origin and as many entries
+  abbrev pub BeganAs : Pass T I → Pass T I → Type 0
+  BeganAs one other = (origin_of one ≡ origin_of other) × (start_of one ≡ start_of other)
 
 module _ {T I : Type 0} (history : T → List I) (origin : T → List ℕ) where
   -- what is found in a turn begins with all that the pass has seen, and has the origin of the value that the turns began with
@@ -62,5 +62,6 @@ module _ {T I : Type 0} (history : T → List I) (origin : T → List ℕ) where
       pub left : T
       pub finds : Finds before found
       pub acted : FnOnceReturnsAtMut calls act found result left
+      pub only_appended : OnlyAppends found left
       pub has_seen : seen_by after ≡ history left
       pub has_made : made_by after + length (history found) ≡ made_by before + length (history left)

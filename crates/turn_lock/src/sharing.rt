@@ -3,7 +3,7 @@
 ghost use Rattle.std.specs.Prelude.{◌≡◌, ℕ, ◌+◌, ◌<◌, ◌≤◌, [], ◌∷◌, Some, length, IfOk, IfErr, OnErr};
 ghost use mathlib.Core.List.{IsPrefix};
 ghost use Rattle.turn_lock.specs.Ladder.{longer};
-ghost use Rattle.turn_lock.specs.Passes.{seen_by, share_of, made_by, origin_of, start_of, IsOf, IsKin};
+ghost use Rattle.turn_lock.specs.Passes.{seen_by, share_of, made_by, origin_of, start_of, IsPassOf, BeganAs};
 ghost use Rattle.turn_lock.specs.Turned.{id_of, callers_of};
 
 use crate::steps::{Compare, Cut, Merge, Portion};
@@ -24,7 +24,7 @@ impl<T: Held> Turns<T> {
         callers: u16,
     ) -> Result<(Turns<T>, Pass<T>), TurnsRefused<T>>
         requires { (0 < callers) × (callers ≤ 64) }
-        ensures own { IfOk result (λ r. IsOf (id_of r.0) r.1) }
+        ensures own { IfOk result (λ r. IsPassOf (id_of r.0) r.1) }
         ensures share { IfOk result (λ r. (share_of r.1 ≡ callers) × (callers_of r.0 ≡ callers)) }
         ensures seen { IfOk result (λ r. seen_by r.1 ≡ T.history value) }
         ensures made { IfOk result (λ r. made_by r.1 ≡ 0) }
@@ -51,28 +51,28 @@ impl<T: Held> Turns<T> {
 
     /// A pass with a part of the share of this one, which keeps the rest. It has seen the same.
     pub fn split(&self, pass: &mut Pass<T>, share: u16) -> Result<Pass<T>, Memory>
-        requires own { IsOf (id_of self.now) pass.old }
+        requires own { IsPassOf (id_of self.now) pass.old }
         requires share { (0 < share) × (share < share_of pass.old) }
-        ensures own { IsOf (id_of self.now) pass.new }
-        ensures given { IfOk result (λ given. IsOf (id_of self.now) given × IsKin given pass.old) }
+        ensures own { IsPassOf (id_of self.now) pass.new }
+        ensures given { IfOk result (λ given. IsPassOf (id_of self.now) given × BeganAs given pass.old) }
         ensures share { IfOk result (λ given. share_of given ≡ share) }
         ensures rest { IfOk result (λ given. share_of pass.new + share ≡ share_of pass.old) }
         ensures seen { IfOk result (λ given. seen_by given ≡ seen_by pass.old) }
         ensures none_made { IfOk result (λ given. made_by given ≡ 0) }
-        ensures kept { (seen_by pass.new ≡ seen_by pass.old) × (made_by pass.new ≡ made_by pass.old) × IsKin pass.new pass.old }
+        ensures kept { (seen_by pass.new ≡ seen_by pass.old) × (made_by pass.new ≡ made_by pass.old) × BeganAs pass.new pass.old }
         ensures err { OnErr result (pass.new ≡ pass.old) }
     {
         Ok(self.cut::<Brand>(pass, share))
     }
 
     fn cut<P: Portion>(&self, pass: &mut Pass<T>, share: u16) -> Pass<T>
-        requires own { IsOf (id_of self.now) pass.old }
+        requires own { IsPassOf (id_of self.now) pass.old }
         requires share { (0 < share) × (share < share_of pass.old) × (share ≡ P.portion) }
-        ensures own { IsOf (id_of self.now) pass.new × IsOf (id_of self.now) result }
+        ensures own { IsPassOf (id_of self.now) pass.new × IsPassOf (id_of self.now) result }
         ensures share { (share_of pass.new + share ≡ share_of pass.old) × (share_of result ≡ share) }
         ensures seen { (seen_by pass.new ≡ seen_by pass.old) × (seen_by result ≡ seen_by pass.old) }
         ensures made { (made_by pass.new ≡ made_by pass.old) × (made_by result ≡ 0) }
-        ensures kin { IsKin pass.new pass.old × IsKin result pass.old }
+        ensures began { BeganAs pass.new pass.old × BeganAs result pass.old }
     {
         let seat = self.table.shared.split_seat::<Cut<P>>(&mut pass.seat);
         pass.share -= share;
@@ -81,13 +81,14 @@ impl<T: Held> Turns<T> {
 
     /// Takes another pass in: the pass has then seen the longer of what both had, and stands for both.
     pub fn join(&self, pass: &mut Pass<T>, other: Pass<T>)
-        requires own { IsOf (id_of self.now) pass.old × IsOf (id_of self.now) other }
-        ensures own { IsOf (id_of self.now) pass.new }
+        requires own { IsPassOf (id_of self.now) pass.old }
+        requires other { IsPassOf (id_of self.now) other }
+        ensures own { IsPassOf (id_of self.now) pass.new }
         ensures seen { seen_by pass.new ≡ longer (seen_by pass.old) (seen_by other) }
         ensures begins { IsPrefix (seen_by pass.old) (seen_by pass.new) × IsPrefix (seen_by other) (seen_by pass.new) }
         ensures share { share_of pass.new ≡ share_of pass.old + share_of other }
         ensures made { made_by pass.new ≡ made_by pass.old + made_by other }
-        ensures kin { IsKin pass.new pass.old }
+        ensures began { BeganAs pass.new pass.old }
     {
         let Pass { share, seat } = other;
         let shared = &self.table.shared;
@@ -98,7 +99,7 @@ impl<T: Held> Turns<T> {
 
     /// The value, once every other pass was joined into this one.
     pub fn close(self, pass: Pass<T>) -> T
-        requires own { IsOf (id_of self) pass }
+        requires own { IsPassOf (id_of self) pass }
         requires all { share_of pass ≡ callers_of self }
         ensures seen { IsPrefix (seen_by pass) (T.history result) }
         ensures origin { T.origin result ≡ origin_of pass }

@@ -1,5 +1,7 @@
 ghost use Rattle.std.specs.Prelude.{◌≡◌, ◌∷◌, []};
 ghost use mathlib.Core.List.{IsPrefix};
+ghost use Rattle.turn_lock.specs.Passes.{share_of, IsPassOf};
+ghost use Rattle.turn_lock.specs.Turned.{id_of};
 
 use super::*;
 use std::alloc::Global;
@@ -42,7 +44,11 @@ impl Notes {
 }
 
 // Whether an entry of this number is found in the pass's next turn.
-fn finds<H: Wait>(rt: &H, turns: &Turns<Notes>, pass: &mut Pass<Notes>, entry: u64) -> bool {
+fn finds<H: Wait>(rt: &H, turns: &Turns<Notes>, pass: &mut Pass<Notes>, entry: u64) -> bool
+    requires { IsPassOf (id_of turns.now) pass.old }
+    ensures own { IsPassOf (id_of turns.now) pass.new }
+    ensures share { share_of pass.new ≡ share_of pass.old }
+{
     turns.with_turn(rt, pass, |notes| notes.entries.contains(&entry))
 }
 

@@ -1,7 +1,8 @@
 //! A turn: a ticket is drawn and waited for, the value is taken out, used and put home, and the turn is passed on.
 
 ghost use Rattle.std.specs.Prelude.{◌≡◌};
-ghost use Rattle.turn_lock.specs.Passes.{share_of, IsOf, IsKin, MayAct, TookTurn};
+ghost use mathlib.Core.List.{IsPrefix};
+ghost use Rattle.turn_lock.specs.Passes.{seen_by, share_of, IsPassOf, BeganAs, MayAct, TookTurn};
 ghost use Rattle.turn_lock.specs.Turned.{id_of, IsIdle, HasTaken, MayGive, HasGiven};
 
 use crate::steps::{Draw, NoteLength, PassOn, PutHome, Read, TakeOut};
@@ -19,12 +20,13 @@ impl<T: Held> Turns<T> {
         pass: &mut Pass<T>,
         act: F,
     ) -> R
-        requires own { IsOf (id_of self.now) pass.old }
+        requires own { IsPassOf (id_of self.now) pass.old }
         requires act { MayAct T.history T.origin F.FnOnce act pass.old }
-        ensures own { IsOf (id_of self.now) pass.new }
+        ensures own { IsPassOf (id_of self.now) pass.new }
         ensures turn { TookTurn T.history T.origin F.FnOnce act pass.old result pass.new }
+        ensures forward { IsPrefix (seen_by pass.old) (seen_by pass.new) }
         ensures share { share_of pass.new ≡ share_of pass.old }
-        ensures kin { IsKin pass.new pass.old }
+        ensures began { BeganAs pass.new pass.old }
     {
         let mut value = self.take_turn(rt, &mut pass.seat);
         let result = act(&mut value);

@@ -1,15 +1,15 @@
 use Rattle.std.proofs.Common.{rules, ◌≡◌, ℕ, ◌+◌, ◌<◌, ◌≤◌, [], sym, ap, ◌∙◌, subst, arith}
 use mathlib.Core.List.{IsPrefix}
 use Rattle.turn_lock.specs.Ladder.{longer}
-use Rattle.turn_lock.specs.Passes.{IsOf}
+use Rattle.turn_lock.specs.Passes.{IsPassOf}
 use Rattle.turn_lock.proofs.Parting.{join_keeps}
 use Rattle.turn_lock.proofs.Ladder.{compare_keeps}
 use Rattle.turn_lock.proofs.turns.Turns.join.Goals as goal
 
 pub join_seat-requires : goal.join_seat-requires
 join_seat-requires g c =
-    let own = c.requires.own.0 in
-    let other = c.requires.own.1 in
+    let own = c.requires.own in
+    let other = c.requires.other in
     let share : c.args.pass.now.seat.me.0.share ≡ c.args.pass.now.share = own.share in
     let some_share : 0 < c.args.pass.now.share = own.stands_for_some in (
       own.named,
@@ -23,9 +23,9 @@ pub load-requires : goal.load-requires
 load-requires g c =
     let joined = c.join_seat.ensures.2 in
     let both : c.join_seat.new.seat.me.0.share ≡ c.args.pass.now.seat.me.0.share + c.args.other.seat.me.0.share = ap (λ m. m.0.share) joined in
-    let share : c.args.pass.now.seat.me.0.share ≡ c.args.pass.now.share = c.requires.own.0.share in
-    let some_share : 0 < c.args.pass.now.share = c.requires.own.0.stands_for_some in (
-      c.join_seat.ensures.0 ∙ c.requires.own.0.named,
+    let share : c.args.pass.now.seat.me.0.share ≡ c.args.pass.now.share = c.requires.own.share in
+    let some_share : 0 < c.args.pass.now.share = c.requires.own.stands_for_some in (
+      c.join_seat.ensures.0 ∙ c.requires.own.named,
       search rules,
       compare_keeps g.T.Held.history g.T.Held.origin _ _ _ _ _ (ap (λ m. m.0.stage) joined) (omega arith),
     )
@@ -36,8 +36,8 @@ overflow_add-pass g c =
     let compared = c.load.ensures.2 _ (ap (λ m. m.0.stage) joined) in
     let small : c.join_seat.new.seat.me.0.share ≤ 64 = compared.1 in
     let both : c.join_seat.new.seat.me.0.share ≡ c.args.pass.now.seat.me.0.share + c.args.other.seat.me.0.share = ap (λ m. m.0.share) joined in
-    let mine : c.args.pass.now.seat.me.0.share ≡ c.args.pass.now.share = c.requires.own.0.share in
-    let theirs : c.args.other.seat.me.0.share ≡ c.args.other.share = c.requires.own.1.share in
+    let mine : c.args.pass.now.seat.me.0.share ≡ c.args.pass.now.share = c.requires.own.share in
+    let theirs : c.args.other.seat.me.0.share ≡ c.args.other.share = c.requires.other.share in
     omega arith
 
 pub returns-clause-own : goal.returns-clause-own
@@ -46,12 +46,12 @@ returns-clause-own g c =
     let compared = c.load.ensures.2 _ (ap (λ m. m.0.stage) joined) in
     let both : c.join_seat.new.seat.me.0.share ≡ c.args.pass.now.seat.me.0.share + c.args.other.seat.me.0.share = ap (λ m. m.0.share) joined in
     let after : c.load.new.seat.me.0.share ≡ c.join_seat.new.seat.me.0.share = ap (λ m. m.0.share) compared.0 in
-    let mine : c.args.pass.now.seat.me.0.share ≡ c.args.pass.now.share = c.requires.own.0.share in
-    let theirs : c.args.other.seat.me.0.share ≡ c.args.other.share = c.requires.own.1.share in
-    let some_share : 0 < c.args.pass.now.share = c.requires.own.0.stands_for_some in record {
-      named = c.load.ensures.0 ∙ (c.join_seat.ensures.0 ∙ c.requires.own.0.named);
+    let mine : c.args.pass.now.seat.me.0.share ≡ c.args.pass.now.share = c.requires.own.share in
+    let theirs : c.args.other.seat.me.0.share ≡ c.args.other.share = c.requires.other.share in
+    let some_share : 0 < c.args.pass.now.share = c.requires.own.stands_for_some in record {
+      named = c.load.ensures.0 ∙ (c.join_seat.ensures.0 ∙ c.requires.own.named);
       between = ap (λ m. m.0.stage) compared.0;
-      empty_handed = ap (λ m. m.1) compared.0 ∙ (ap (λ m. m.1) joined ∙ c.requires.own.0.empty_handed);
+      empty_handed = ap (λ m. m.1) compared.0 ∙ (ap (λ m. m.1) joined ∙ c.requires.own.empty_handed);
       share = omega arith;
       stands_for_some = omega arith;
     }
@@ -78,8 +78,8 @@ returns-clause-made g c =
     let compared = c.load.ensures.2 _ (ap (λ m. m.0.stage) joined) in
     ap (λ m. m.0.made) compared.0 ∙ ap (λ m. m.0.made) joined
 
-pub returns-clause-kin : goal.returns-clause-kin
-returns-clause-kin g c =
+pub returns-clause-began : goal.returns-clause-began
+returns-clause-began g c =
     let joined = c.join_seat.ensures.2 in
     let compared = c.load.ensures.2 _ (ap (λ m. m.0.stage) joined) in (
       ap (λ m. m.0.origin) compared.0 ∙ ap (λ m. m.0.origin) joined,

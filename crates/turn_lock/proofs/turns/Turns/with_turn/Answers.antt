@@ -1,7 +1,7 @@
 use Rattle.std.proofs.Common.{rules, ◌≡◌, ℕ, ◌+◌, ◌-◌, ◌<◌, ◌≤◌, length, refl, sym, ap, ◌∙◌, subst, arith}
 use mathlib.Core.List.{IsPrefix}
 use Rattle.turn_lock.specs.Passes.{Finds, OnlyAppends}
-use Rattle.turn_lock.proofs.Prefixes.{prefix_length}
+use Rattle.turn_lock.proofs.Prefixes.{prefix_on, prefix_length}
 use Rattle.turn_lock.proofs.turns.Turns.with_turn.Goals as goal
 
 pub give_turn-requires : goal.give_turn-requires
@@ -44,12 +44,21 @@ returns-clause-turn g c =
       left = c.act-result.new.arg2;
       finds = (took.begins, took.has_origin);
       acted = record { shown = _; shows = refl; left = _; met = c.act-result.ensures; leaves = refl };
+      only_appended = left;
       has_seen = ap (λ m. m.0.seen) gave;
       has_made = omega arith;
     }
 
-pub returns-clause-kin : goal.returns-clause-kin
-returns-clause-kin g c =
+pub returns-clause-began : goal.returns-clause-began
+returns-clause-began g c =
     let took = c.take_turn-value.ensures in
     let gave = c.give_turn.ensures.holds took.ticket _ (ap (λ m. m.0.stage) took.holds) in
     (ap (λ m. m.0.origin) gave ∙ ap (λ m. m.0.origin) took.holds, ap (λ m. m.0.start) gave ∙ ap (λ m. m.0.start) took.holds)
+
+pub returns-clause-forward : goal.returns-clause-forward
+returns-clause-forward g c =
+    let took = c.take_turn-value.ensures in
+    let gave = c.give_turn.ensures.holds took.ticket _ (ap (λ m. m.0.stage) took.holds) in
+    let left = (c.requires.act c.take_turn-value.result (took.begins, took.has_origin)).1 c.act-result.result c.act-result.new.arg2
+        record { shown = _; shows = refl; left = _; met = c.act-result.ensures; leaves = refl } in
+    subst (IsPrefix c.args.pass.now.seat.me.0.seen) (sym (ap (λ m. m.0.seen) gave)) (prefix_on _ _ _ took.begins left.0)
