@@ -3,7 +3,7 @@ use Rattle.std.proofs.Common.{◌≡◌, drop}
 use Rattle.act_tree.specs.Branches.{branches_of}
 use Rattle.act_tree.specs.Specs.{specs_view}
 use Rattle.law_register.specs.Law.Bounds.{have_few_refs}
-use Rattle.law_register.proofs.bounds.+refs.Given as goal
+use Rattle.law_register.proofs.law.bounds.+refs.Given as goal
 
 abbrev pub invariant-have_few_refs-loop-node : goal.invariant-have_few_refs-loop-node
 invariant-have_few_refs-loop-node l =

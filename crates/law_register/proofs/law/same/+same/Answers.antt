@@ -1,6 +1,6 @@
 use Rattle.std.proofs.Common.{◌∙◌, sym}
 use Rattle.law_register.proofs.SameNodes.{not_as_many}
-use Rattle.law_register.proofs.same.+same.Goals as goal
+use Rattle.law_register.proofs.law.same.+same.Goals as goal
 
 pub are_same_nodes-returns-then-len : goal.are_same_nodes-returns-then-len
 are_same_nodes-returns-then-len t c =

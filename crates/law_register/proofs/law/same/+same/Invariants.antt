@@ -2,7 +2,7 @@
 use Rattle.std.proofs.Common.{◌≡◌, drop}
 use Rattle.act_tree.specs.Specs.{specs_view}
 use Rattle.law_register.specs.Law.Same.{same_payload}
-use Rattle.law_register.proofs.same.+same.Given as goal
+use Rattle.law_register.proofs.law.same.+same.Given as goal
 
 abbrev pub invariant-are_same_nodes-loop-i : goal.invariant-are_same_nodes-loop-i
 invariant-are_same_nodes-loop-i l =

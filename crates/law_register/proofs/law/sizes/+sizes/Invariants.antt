@@ -3,7 +3,7 @@ use Rattle.std.proofs.Common.{◌≡◌, ◌+◌, ◌≤◌, drop, min}
 use Rattle.act_tree.specs.Branches.{branches_of}
 use Rattle.act_tree.specs.Specs.{specs_view}
 use Rattle.law_register.specs.Law.Sizes.{nodes_size}
-use Rattle.law_register.proofs.sizes.+sizes.Given as goal
+use Rattle.law_register.proofs.law.sizes.+sizes.Given as goal
 
 abbrev pub invariant-plus_nodes-loop-node : goal.invariant-plus_nodes-loop-node
 invariant-plus_nodes-loop-node l = record {
