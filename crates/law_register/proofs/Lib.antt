@@ -21,3 +21,5 @@ pub mod Listed
 pub mod Gathering
 pub mod Ascending
 pub mod Sound
+pub mod Spellable
+pub mod Enacting
