@@ -20,3 +20,5 @@ pub mod Listed
 pub mod Gathering
 pub mod Ascending
 pub mod Sound
+pub mod Spellable
+pub mod Enacting

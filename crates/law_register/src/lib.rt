@@ -12,6 +12,6 @@ pub use answer::{
 };
 pub use law::{Act, Command, Destination, ModSource, Modification, Mods, entry_size};
 pub use register::{
-    Draft, DraftItem, Drafter, Entry, Known, KnownMod, KnownMods, Register, Reply, Rule, Verdict,
-    known_at,
+    Draft, DraftItem, Drafter, EnterFault, Entry, Known, KnownMod, KnownMods, Register, Reply,
+    Rule, Verdict, known_at,
 };
