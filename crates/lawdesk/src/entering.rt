@@ -1,35 +1,16 @@
 //! Entering: the register that a dossier makes. Its act is enacted first, and then each modification is recorded alone.
 
-ghost use Rattle.std.specs.Prelude.{◌≡◌, ◌+◌, ◌++◌, ◌∷◌, ◌<◌, ◌^◌, [], true, length, map, Option, Some, IfOk, OnOk, Ok};
-ghost use Rattle.law_register.specs.Register.Verdicts.{is_accepted, verdict};
+ghost use Rattle.std.specs.Prelude.{◌≡◌, ◌++◌, ◌∷◌, [], true, map, IfOk, OnOk};
+ghost use Rattle.std.specs.List.{list_all};
+ghost use Rattle.law_register.specs.Law.Spelling.{are_spelled_modifications, is_spelled_act, is_well_spelled};
 ghost use Rattle.lawdesk.specs.Entering as spec;
 ghost use Rattle.lawdesk.specs.Entering.{Enters};
 
 use akn_json::Dossier;
 use desk_base::{Day, Memory};
 use frbr_names::WorkName;
-use law_register::{Act, Command, Drafter, Entry, Modification, Mods, Register, Rule, Verdict};
+use law_register::{Act, Command, Drafter, EnterFault, Modification, Mods, Register};
 use std::alloc::Global;
-
-/// Why commands make no register.
-#[derive(Debug, Drop)]
-pub enum EnterFault {
-    /// One of them breaks a rule, and none before it does.
-    Rule(Rule),
-    /// There was not enough memory.
-    Memory,
-}
-
-impl From<Memory> for EnterFault {
-    ghost use Rattle.std.specs.Prelude.{◌≡◌};
-    ghost use Rattle.lawdesk.specs.declared.entering.EnterFault.TheVariants as fails;
-
-    ghost from_gives = { λ _ e. e ≡ fails.Memory };
-
-    fn from(_: Memory) -> Self {
-        EnterFault::Memory
-    }
-}
 
 // Who sends the commands of a dossier.
 #[tactic(auto, unfolding(crate::specs::Entering::sender))]
@@ -90,84 +71,6 @@ fn commands_of(alloc: Global, act: Act, mods: Mods) -> Result<Vec<Command>, Memo
     Ok(commands)
 }
 
-// Appends an entry that is accepted.
-fn append(register: &mut Register, entry: Entry) -> Result<(), EnterFault>
-    requires accepted { is_accepted entry.law (verdict register.old.entries entry.drafter entry.request entry.command) ≡ true }
-    ensures { Enters (λ _. register.new.entries) result (Ok (register.old.entries ++ entry ∷ [])) }
-{
-    match register.reserve(&entry) {
-        Ok(()) => {
-            register.push(entry);
-            Ok(())
-        }
-        Err(Memory) => {
-            drop(entry);
-            Err(EnterFault::Memory)
-        }
-    }
-}
-
-// Enters a command that is accepted with this law number.
-fn enter_accepted(
-    register: &mut Register,
-    drafter: &Drafter,
-    request: u64,
-    law: Option<u32>,
-    command: Command,
-) -> Result<(), EnterFault>
-    requires sent { drafter.now ≡ spec.sender }
-    requires accepted { is_accepted law (verdict register.old.entries spec.sender request command) ≡ true }
-    ensures { Enters (λ _. register.new.entries) result (Ok (register.old.entries ++ spec.entry_of request law command ∷ [])) }
-{
-    match drafter.copy() {
-        Ok(drafter) => append(
-            register,
-            Entry {
-                drafter,
-                request,
-                day: first_day(),
-                law,
-                command,
-            },
-        ),
-        Err(Memory) => {
-            drop(command);
-            Err(EnterFault::Memory)
-        }
-    }
-}
-
-// Enters a command of a request, if it is accepted.
-#[tactic(auto, unfolding(crate::specs::Entering::entered_one))]
-fn enter(
-    alloc: Global,
-    register: &mut Register,
-    drafter: &Drafter,
-    request: u64,
-    command: Command,
-) -> Result<(), EnterFault>
-    requires { drafter.now ≡ spec.sender }
-    ensures { Enters (λ _. register.new.entries) result (spec.entered_one register.old.entries request command) }
-{
-    match register.judge(alloc, drafter, request, &command) {
-        Ok(Verdict::Accepted { law, .. }) => {
-            enter_accepted(register, drafter, request, law, command)
-        }
-        Ok(Verdict::Repeat(_)) => {
-            drop(command);
-            Ok(())
-        }
-        Ok(Verdict::Refused(rule)) => {
-            drop(command);
-            Err(EnterFault::Rule(rule))
-        }
-        Err(Memory) => {
-            drop(command);
-            Err(EnterFault::Memory)
-        }
-    }
-}
-
 // Enters commands one after another, until one is refused.
 fn enter_all(
     alloc: Global,
@@ -175,20 +78,23 @@ fn enter_all(
     drafter: &Drafter,
     commands: Vec<Command>,
 ) -> Result<(), EnterFault>
-    requires { drafter.now ≡ spec.sender }
-    ensures { Enters (λ _. register.new.entries) result (spec.entered register.old.entries 1 commands.items) }
+    requires sent { drafter.now ≡ spec.sender }
+    requires spelled { list_all is_well_spelled commands.items ≡ true }
+    ensures { Enters (λ _. register.new.entries) result (spec.all_entered register.old.entries 1 commands.items) }
 {
     let mut request = 1;
     for command in commands {
-        enter(alloc, register, drafter, request, command)?;
+        register.enter(alloc, drafter, request, first_day(), command)?;
         request += 1;
     }
     Ok(())
 }
 
-/// The register that a dossier makes, or the rule that its first refused command breaks.
+/// The register that a well-spelled dossier makes, or the rule that its first refused command breaks.
 #[tactic(auto, unfolding(crate::specs::Entering::entries_of))]
 pub fn register_of(alloc: Global, dossier: Dossier) -> Result<Register, EnterFault>
+    requires act { is_spelled_act dossier.act ≡ true }
+    requires mods { are_spelled_modifications dossier.mods ≡ true }
     ensures { Enters (λ register. register.entries) result (spec.entries_of dossier) }
 {
     let drafter = sender(alloc)?;

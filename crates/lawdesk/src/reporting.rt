@@ -1,6 +1,7 @@
 //! Reporting: what the program tells of its input, as a status and bytes.
 
-ghost use Rattle.std.specs.Prelude.{◌≡◌, ◌++◌, ◌∷◌, [], IfOk, Result};
+ghost use Rattle.std.specs.Prelude.{◌≡◌, ◌++◌, ◌∷◌, [], true, IfOk, Result};
+ghost use Rattle.law_register.specs.Law.Spelling.{are_spelled_modifications, is_spelled_act};
 ghost use Rattle.law_register.specs.Answer.Answers.{Answers};
 ghost use Rattle.law_register.specs.Answer.Asking.{answer_at};
 ghost use Rattle.law_register.specs.declared.answer.answer.Answer.{Answer};
@@ -8,7 +9,7 @@ ghost use Rattle.law_register.specs.declared.answer.queries.QueryRule.{QueryRule
 ghost use Rattle.lawdesk.specs.Reports.{told, told_answer, told_on, told_rule, told_fault};
 ghost use Rattle.lawdesk.specs.Views.{report_view};
 
-use crate::entering::{EnterFault, register_of};
+use crate::entering::register_of;
 use crate::job::Job;
 use crate::report::Report;
 use akn_json::{
@@ -16,7 +17,9 @@ use akn_json::{
     read_dossier,
 };
 use desk_base::{Day, Memory, Steps};
-use law_register::{Answer, AskFault, Question, Reading, Register, Replayer, Rule};
+use law_register::{
+    Answer, AskFault, EnterFault, Question, Reading, Register, Replayer, Rule,
+};
 use std::alloc::Global;
 use std::sync::ledger::Ledger;
 use viewpoints::Past;
@@ -71,7 +74,7 @@ fn report_rule(alloc: Global, rule: Rule) -> Result<Report, Memory>
     })
 }
 
-// The report that a dossier gives on a day, in a reading.
+// The report that a well-spelled dossier gives on a day, in a reading.
 #[tactic(auto, unfolding(crate::specs::Reports::told_text))]
 fn report_on<L: Ledger, P: Replayer>(
     alloc: Global,
@@ -81,6 +84,8 @@ fn report_on<L: Ledger, P: Replayer>(
     reading: Reading,
     steps: &mut Steps<L>,
 ) -> Result<Report, Memory>
+    requires act { is_spelled_act dossier.act ≡ true }
+    requires mods { are_spelled_modifications dossier.mods ≡ true }
     ensures { IfOk result (λ report. report_view report ≡ told_on day reading dossier) }
 {
     let work = dossier.act.work.copy()?;

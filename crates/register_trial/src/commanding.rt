@@ -1,86 +1,38 @@
-//! The line of a command, which is judged and, where it is accepted, entered.
+//! The line of a command, which becomes an entry where it is accepted.
 
-ghost use Rattle.std.specs.Prelude.{◌≡◌, IfOk, OnOk, OnErr};
+ghost use Rattle.std.specs.Prelude.{◌≡◌, true, IfOk, OnOk, OnErr};
 ghost use Rattle.akn_json.specs.CommandForms.{asked_of};
+ghost use Rattle.law_register.specs.Law.Spelling.{is_well_spelled};
 ghost use Rattle.register_trial.specs.Verdicts as spec;
 
-use crate::entering::enter;
-use crate::replies::verdict_line;
-use akn_json::{Asked, ReadFail, put_form_fault, read_command};
+use crate::replies::reply_line;
+use akn_json::{Asked, ReadFail, put_form_fault, put_rule, read_command};
 use desk_base::{Day, Memory};
-use law_register::{Register, Verdict};
+use law_register::{EnterFault, Register};
 use std::alloc::Global;
 
-/// What a command comes to.
-#[derive(Debug, Drop)]
-struct Judged {
-    // The law number with which it is accepted. `None`: it does not become an entry.
-    law: Option<Option<u32>>,
-    // The line that is told of it.
-    line: Vec<u8>,
-}
-
-// The law number with which a command is accepted. `None`: it is not.
-fn law_given(verdict: &Verdict) -> Option<Option<u32>>
-    ensures { result ≡ spec.law_given verdict.now }
-{
-    match verdict {
-        Verdict::Accepted { law, .. } => Some(*law),
-        Verdict::Repeat(_) => None,
-        Verdict::Refused(_) => None,
-    }
-}
-
-// Judges a command.
-fn judge_asked(alloc: Global, register: &Register, asked: &Asked) -> Result<Judged, Memory>
-    ensures law { IfOk result (λ judged. judged.law ≡ spec.law_given (spec.verdict_on register.now.entries asked.now)) }
-    ensures line { IfOk result (λ judged. judged.line.items ≡ spec.verdict_line (spec.verdict_on register.now.entries asked.now)) }
-{
-    let verdict = register.judge(alloc, &asked.drafter, asked.request, &asked.command)?;
-    let law = law_given(&verdict);
-    let line = verdict_line(alloc, verdict)?;
-    Ok(Judged { law, line })
-}
-
-// Enters a command where it is accepted.
-fn enter_if(
-    register: &mut Register,
-    asked: Asked,
-    day: Day,
-    law: Option<Option<u32>>,
-) -> Result<(), Memory>
-    requires given { law ≡ spec.law_given (spec.verdict_on register.old.entries asked) }
-    ensures ok { OnOk result (register.new.entries ≡ spec.entered register.old.entries asked day law) }
-    ensures err { OnErr result (register.new.entries ≡ register.old.entries) }
-{
-    match law {
-        Some(law) => enter(register, asked, day, law),
-        None => {
-            drop(asked);
-            Ok(())
-        }
-    }
-}
-
-// Judges a command, and enters it where it is accepted.
+#[tactic(auto, using(crate::proofs::Telling::reply_told, crate::proofs::Telling::rule_told))]
 fn settle(alloc: Global, register: &mut Register, day: Day, asked: Asked) -> Result<Vec<u8>, Memory>
+    requires { is_well_spelled asked.command ≡ true }
     ensures line { IfOk result (λ line. line.items ≡ spec.verdict_line (spec.verdict_on register.old.entries asked)) }
-    ensures ok { OnOk result (register.new.entries ≡ spec.entered register.old.entries asked day (spec.law_given (spec.verdict_on register.old.entries asked))) }
-    ensures err { OnErr result (register.new.entries ≡ register.old.entries) }
+    ensures ok { OnOk result (register.new.entries ≡ spec.asked_entered register.old.entries day asked) }
+    ensures err { OnErr result (spec.IsEither register.old.entries (spec.asked_entered register.old.entries day asked) register.new.entries) }
 {
-    match judge_asked(alloc, register, &asked) {
-        Ok(Judged { law, line }) => match enter_if(register, asked, day, law) {
-            Ok(()) => Ok(line),
-            Err(_) => Err(Memory),
-        },
-        Err(_) => {
-            drop(asked);
-            Err(Memory)
-        }
+    let before = register.len();
+    let Asked {
+        drafter,
+        request,
+        command,
+    } = asked;
+    match register.enter(alloc, &drafter, request, day, command) {
+        Ok(reply) => reply_line(alloc, before < register.len(), reply),
+        Err(EnterFault::Rule(rule)) => put_rule(alloc, rule),
+        Err(EnterFault::Memory) => Err(Memory),
     }
 }
 
-/// The line of the command that bytes are, or of their fault. Where the command is accepted, it becomes an entry of this day.
+/// The line of the command that bytes are, or of their fault. Where the command is accepted, it becomes an entry of this day, and stays one
+/// also where memory is wanting for the line.
 pub fn told_of_command(
     alloc: Global,
     register: &mut Register,
@@ -89,7 +41,8 @@ pub fn told_of_command(
 ) -> Result<Vec<u8>, Memory>
     ensures line { IfOk result (λ line. line.items ≡ spec.command_line register.old.entries (asked_of bytes.now)) }
     ensures ok { OnOk result (register.new.entries ≡ spec.entries_after register.old.entries day (asked_of bytes.now)) }
-    ensures err { OnErr result (register.new.entries ≡ register.old.entries) }
+    ensures err { OnErr result (spec.IsEither register.old.entries
+        (spec.entries_after register.old.entries day (asked_of bytes.now)) register.new.entries) }
 {
     match read_command(alloc, bytes) {
         Ok(asked) => settle(alloc, register, day, asked),

@@ -3,7 +3,7 @@
 ghost use Rattle.std.specs.Prelude.{◌≡◌, true, IfOk, OnOk, OnErr};
 ghost use Rattle.akn_json.specs.CommandForms.{asked_of};
 ghost use Rattle.register_trial.specs.Lines as spec;
-ghost use Rattle.register_trial.specs.Verdicts.{command_line};
+ghost use Rattle.register_trial.specs.Verdicts.{command_line, IsEither};
 
 use crate::answering::{told_by_value, told_of_question};
 use crate::bearing::{told_of_days, told_of_flag, told_of_order};
@@ -101,7 +101,7 @@ pub fn told_of_line<L: Ledger>(
 ) -> Result<Vec<u8>, Memory>
     ensures told { spec.is_command line.now ≡ true → IfOk result (λ told. told.items ≡ command_line register.old.entries (asked_of line.now)) }
     ensures ok { OnOk result (register.new.entries ≡ spec.entries_behind register.old.entries day line.now) }
-    ensures err { OnErr result (register.new.entries ≡ register.old.entries) }
+    ensures err { OnErr result (IsEither register.old.entries (spec.entries_behind register.old.entries day line.now) register.new.entries) }
 {
     if is_command(line) {
         return told_of_command(alloc, register, day, line);

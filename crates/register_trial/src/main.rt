@@ -5,7 +5,6 @@
 mod answering;
 mod bearing;
 mod commanding;
-mod entering;
 mod knowing;
 mod lines;
 mod questions;

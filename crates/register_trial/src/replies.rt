@@ -1,14 +1,12 @@
-//! The lines of verdicts, and of the front.
+//! The lines of replies, and of the front.
 
-ghost use Rattle.std.specs.Prelude.{◌≡◌, IfOk, length, string_bytes};
+ghost use Rattle.std.specs.Prelude.{◌≡◌, false, IfOk, length, string_bytes};
 ghost use Rattle.law_register.specs.Register.LawList.{front};
 ghost use Rattle.register_trial.specs.Knowing.{front_line};
-ghost use Rattle.law_register.specs.declared.register.verdict.Verdict.TheVariants.{Repeat};
 ghost use Rattle.register_trial.specs.Verdicts as spec;
 
-use akn_json::put_rule;
 use desk_base::Memory;
-use law_register::{Register, Reply, Verdict};
+use law_register::{Register, Reply};
 use std::alloc::Global;
 
 // The text of a reply.
@@ -23,21 +21,21 @@ fn reply_text(alloc: Global, reply: Reply) -> Result<String, Memory>
 
 // The line of a reply that is given again.
 fn repeat_line(alloc: Global, reply: Reply) -> Result<Vec<u8>, Memory>
-    ensures { IfOk result (λ line. line.items ≡ spec.verdict_line (Repeat reply)) }
+    ensures { IfOk result (λ line. line.items ≡ spec.reply_line false reply) }
 {
     let mut line = String::from_str(alloc, "repeat ")?;
     line.push_str(reply_text(alloc, reply)?.as_str())?;
     Ok(line.into_bytes())
 }
 
-/// The line of a verdict.
-pub fn verdict_line(alloc: Global, verdict: Verdict) -> Result<Vec<u8>, Memory>
-    ensures { IfOk result (λ line. line.items ≡ spec.verdict_line verdict) }
+/// The line of a reply, to a command that is new or to a repeat.
+pub fn reply_line(alloc: Global, is_new: bool, reply: Reply) -> Result<Vec<u8>, Memory>
+    ensures { IfOk result (λ line. line.items ≡ spec.reply_line is_new reply) }
 {
-    match verdict {
-        Verdict::Accepted { reply, .. } => Ok(reply_text(alloc, reply)?.into_bytes()),
-        Verdict::Repeat(reply) => repeat_line(alloc, reply),
-        Verdict::Refused(rule) => put_rule(alloc, rule),
+    if is_new {
+        Ok(reply_text(alloc, reply)?.into_bytes())
+    } else {
+        repeat_line(alloc, reply)
     }
 }
 

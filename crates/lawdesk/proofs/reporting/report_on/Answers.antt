@@ -1,7 +1,8 @@
 -- Where a command is refused, what is told is its rule.
 use Rattle.std.proofs.Common.{rules, ◌≡◌, Err, subst}
-use Rattle.lawdesk.specs.Entering.{Fails, entries_of}
-use Rattle.lawdesk.specs.declared.entering.EnterFault.{EnterFault}
+use Rattle.law_register.specs.Register.Entering.{Fails}
+use Rattle.law_register.specs.declared.register.entering.EnterFault.{EnterFault}
+use Rattle.lawdesk.specs.Entering.{entries_of}
 use Rattle.lawdesk.proofs.reporting.report_on.Goals as goal
 
 pub returns-in-Err-Rule : goal.returns-in-Err-Rule
