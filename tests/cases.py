@@ -139,6 +139,18 @@ def padded(length):
     return text + b" " * (length - len(text))
 
 
+USAGE = b"usage: lawdesk text DATE [force|efficacy] (DATE as 2011-01-01; the dossier on standard input)\n"
+
+# Words that are no form of the command line.
+NO_WORDS = [
+    [], ["text"], ["text", "2010-13-01"], ["text", "2010-05-01", "Force"], ["text", "2010-05-01", "inForce"], ["text", "2010-05-01", ""],
+    ["text", "force"], ["text", "force", "2010-05-01"], ["text", "2010-05-01", "force", "force"], ["Text", "2010-05-01"],
+    ["text", "20100501"], ["text", "2010-05-1"], ["text", "0000-01-01"], ["text", "2010-02-29"], ["text", "1900-02-29"],
+    ["text", "2010-04-31"], ["text", "2010-00-10"], ["text", "2010-10-00"], ["text", "2010-10-32"], ["text", "2010-05-01 "],
+    ["text", "2010-05-01\n"], ["text", "+010-05-01"], ["text", b"2010-05-0\xff"], ["--help"], ["help"], ["text", "--", "2010-05-01"], [""],
+]
+
+
 # Dossiers that are answered, each at a limit or with a part that may be so.
 FITS = [
     ("4,096 sections", dossier(act(body=sections(4096)))),

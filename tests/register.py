@@ -105,8 +105,8 @@ def answer(applied, body, day, viewpoint, reading="force", portion=""):
             f'"reading":"{reading}","unapplied":[],"viewpoint":{viewpoint}}}')
 
 
-def ask(day, viewpoint, reading="force", work=ONE, rest=""):
-    return f"ask {work}/eng@{day}{rest} {viewpoint} {reading}"
+def ask(day, viewpoint, reading="force", work=ONE, rest="", word="ask"):
+    return f"{word} {work}/eng@{day}{rest} {viewpoint} {reading}"
 
 
 # A repeal that begins to have force early, and is withdrawn.
@@ -174,6 +174,58 @@ ASKED = [
     (record("ada", 2, repeal("sec_3", "2010-04-01")), law(2)),
     (ask("", 2), answer("[]", f"{FIRST},{SECOND},{THIRD}", "", 2).replace('"bears":true', '"bears":false')),
     (ask("2010-06-01", 2), answer('["2.1"]', f"{FIRST},{SECOND}", "2010-06-01", 2)),
+]
+
+# Which modifications bear on a day, and in which order: by start, by the day of the source, by the bytes of its IRI (in which 110 stands
+# before 19), by the place in it and by the id. On which days that may change; and whether a provision bears.
+EARLIER_SOURCE, EARLIER_BYTES = "/akn/gb/act/2010-11-01/19", "/akn/gb/act/2010-11-01/110"
+ORDERED = [
+    (enact("ada", 1, body=SECTIONS), law(1)),
+    (record("ada", 2, repeal("sec_3")), law(2)),
+    (record("ada", 3, force("postponementOfEntryIntoForce", destination=to("2.1"), on="2011-02-01", date="2011-04-01")), law(3)),
+    (ask("2011-01-15", 3, word="order"), "order 2.1"),
+    (ask("2011-02-15", 3, word="order"), "order"),
+    (ask("2011-04-01", 3, word="order"), "order 2.1"),
+    (ask("2011-02-15", 2, word="order"), "order 2.1"),
+    (ask("2011-02-15", 3, "efficacy", word="order"), "order"),
+    (ask("2011-02-15", 0, word="order"), "none"),
+    (f"days {ONE} 1", "days 2010-06-01"),
+    (f"days {ONE} 2", "days 2010-06-01 2011-01-01"),
+    (f"days {ONE} 3", "days 2010-06-01 2011-01-01 2011-02-01 2011-04-01"),
+    (f"days {ONE} 0", "none"),
+    (enact("ada", 4, TWO), law(4)),
+    (record("ada", 5, repeal(start="2011-03-01", href=EARLIER_SOURCE), work=TWO), law(5)),
+    (record("ada", 6, repeal(), work=TWO), law(6)),
+    (record("ada", 7, repeal(href=EARLIER_SOURCE, place=2), work=TWO), law(7)),
+    (record("ada", 8, repeal(href=EARLIER_SOURCE), repeal(href=EARLIER_SOURCE), work=TWO), law(8)),
+    (record("ada", 9, repeal(href=EARLIER_BYTES, place=9), work=TWO), law(9)),
+    (ask("2011-03-01", 9, work=TWO, word="order"), "order 9.1 8.1 8.2 7.1 6.1 5.1"),
+    (ask("2011-02-28", 9, work=TWO, word="order"), "order 9.1 8.1 8.2 7.1 6.1"),
+    (record("ada", 10, force("endOfEnactment", destination={"wId": "sec_2"}, on="2011-01-01", date="2011-01-01")), law(10)),
+    (ask("2011-01-01", 10, rest="/~sec_2", word="flag"), "does not bear"),
+    (ask("2010-12-31", 10, rest="/~sec_2", word="flag"), "bears"),
+    (ask("2011-01-01", 9, rest="/~sec_2", word="flag"), "bears"),
+    (ask("2011-01-01", 10, rest="/~sec_1", word="flag"), "bears"),
+    (ask("2011-01-01", 10, word="flag"), "bears"),
+    (ask("2010-05-31", 10, word="flag"), "does not bear"),
+    (ask("2011-01-01", 10, rest="/~sec_9", word="flag"), "none"),
+    (ask("2011-01-01", 0, word="flag"), "none"),
+]
+
+# What JSON has to escape, refs, and a wId that is no longer the eId: an answer as it is written token by token, and by its value.
+REFS = ["/akn/zz/act/2001-01-02/5/eng@", "/akn/zz/act/2003-04-05/6/eng@2004-01-01"]
+ARTICLE = (r'{"bears":true,"children":[],"content":"a \"b\" \\ c/d\te\nf \u0001 é €","eId":"art_3a","element":"article","heading":"",'
+           f'"num":"3a","refs":["{REFS[0]}","{REFS[1]}"],"wId":"art_3"}}')
+WHOLE = f'{{"bears":true,"children":[{ARTICLE}],"content":"","eId":"sec_1","element":"section","heading":"Scope","num":"1","refs":[]}}'
+PRINTED = [
+    (enact("ada", 1, body=[node(heading="Scope", children=[
+        node("article", "3", content='a "b" \\ c/d\te\nf \u0001 é €', refs=REFS)])]), law(1)),
+    (record("ada", 2, textual(type="renumbering", destination=None, renumber=[{"wId": "art_3", "num": "3a"}])), law(2)),
+    *[line for word in ("ask", "value") for line in [
+        (ask("2011-01-01", 2, "efficacy", word=word), answer('["2.1"]', WHOLE, "2011-01-01", 2, "efficacy")),
+        (ask("2011-01-01", 2, rest="/~art_3a", word=word), answer('["2.1"]', ARTICLE, "2011-01-01", 2, portion="/~art_3a")),
+        (ask("2011-01-01", 3, word=word), '{"kept":2,"name":"ViewpointAhead","query":2}'),
+    ]],
 ]
 
 # A number for one command, and one act for a work.
@@ -519,6 +571,9 @@ NO_COMMANDS = [
     (withdraw("Ada", 1, "9.1"), form(3, "BadName", 0)),
     (withdraw("a" * 33, 1, "9.1"), form(3, "BadName", 0)),
     (withdraw("", 1, "9.1"), form(3, "BadName", 0)),
+    (withdraw("a b", 1, "9.1"), form(3, "BadName", 0)),
+    (withdraw("\u00e8", 1, "9.1"), form(3, "BadName", 0)),
+    (withdraw("a-b.c_9", 1, "9.1"), refused(8, "9.1")),
     (withdraw("a" * 32, 1, "9.1"), refused(8, "9.1")),
     (withdraw("ada", -1, "9.1"), form(6, "BadNumber", 0)),
     (withdraw("ada", 18446744073709551616, "9.1"), form(6, "BadNumber", 0)),
@@ -538,6 +593,8 @@ NO_COMMANDS = [
     ("front ", NOTHING),
     ("[]", NOTHING),
     ("ask", NOTHING),
+    (f"asked {ONE}/eng@ 1 force", NOTHING),
+    (f"know {ONE} 1", NOTHING),
     (f"ask {ONE}/eng@ 1", NOTHING),
     (f"ask {ONE}/eng@ 1 Force", NOTHING),
     (f"ask {ONE}/eng@ one force", NOTHING),
@@ -554,6 +611,8 @@ SESSIONS = {
     "a repeal is withdrawn": WITHDRAWN,
     "a repeal is corrected": CORRECTED,
     "an act is asked for": ASKED,
+    "what bears, and when": ORDERED,
+    "an answer is printed": PRINTED,
     "numbers and works": NUMBERS,
     "two drafters": FILED,
     "refusals": BASE + REFUSED + STANDS + ACCEPTED,

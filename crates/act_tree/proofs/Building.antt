@@ -1,6 +1,6 @@
 -- An arena in which the root was laid down, with all below it, is whole.
 use Rattle.std.proofs.Common.{◌≡◌, ◌∙◌, ap, subst, ℕ, ◌+◌, ◌<◌, ◌≤◌, true, false, List, None, inl, inr, arith}
-use Rattle.std.proofs.lemmas.Bool.{cases_eq, cases_lt}
+use Rattle.std.proofs.lemmas.Bool.{and_parts, cases_eq, cases_lt}
 use Rattle.act_tree.specs.declared.arena.Arena.{Arena}
 use Rattle.act_tree.specs.Branches.{Branches, branch, heights}
 use Rattle.act_tree.specs.Provisions.{Provision}
@@ -42,6 +42,6 @@ built old new above id p body empty none up root apart differ laid =
     ] in
     let named : Named (at new) (number new) = laid.grown.named (λ w k leads. let never : number old w ≡ None = none w in absurd cc) in
     record {
-      whole = whole_from (at new) (number new) (size new) p body root s low hung once named laid.fits;
+      whole = whole_from (at new) (number new) (size new) p body root s low hung once named (and_parts _ _ laid.numbered).1 laid.fits;
       reads = reads_from (at new) (number new) (size new) p body s low;
     }

@@ -53,16 +53,16 @@ module _ (at : ℕ → Option Laid) (number : List ℕ → Option ℕ) (size : �
     pub inside : (w : List ℕ) → any_holds w bs ≡ true → holds w (branch_from size at 0) ≡ true
     pub low : heights bs < height (branch_from size at 0)
 
-  lower_below : (p : Provision) (below : Branches Provision) → Lower (branch p below) → LowerAll below
+  pub lower_below : (p : Provision) (below : Branches Provision) → Lower (branch p below) → LowerAll below
   lower_below p below l = record { inside = λ w held. l.inside w (or_right (bytes_eq p.wid w) _ held); low = (let h : heights below + 1 < height (branch_from size at 0) = l.low in omega arith) }
 
-  lower_first : (b : Branch Provision) (bs : Branches Provision) → LowerAll (more_branches b bs) → Lower b
+  pub lower_first : (b : Branch Provision) (bs : Branches Provision) → LowerAll (more_branches b bs) → Lower b
   lower_first b bs l = record { inside = λ w held. l.inside w (or_left _ _ held); low = (let h : max (height b) (heights bs) < height (branch_from size at 0) = l.low in omega arith) }
 
-  lower_rest : (b : Branch Provision) (bs : Branches Provision) → LowerAll (more_branches b bs) → LowerAll bs
+  pub lower_rest : (b : Branch Provision) (bs : Branches Provision) → LowerAll (more_branches b bs) → LowerAll bs
   lower_rest b bs l = record { inside = λ w held. l.inside w (or_right (holds w b) _ held); low = (let h : max (height b) (heights bs) < height (branch_from size at 0) = l.low in omega arith) }
 
-  not_root : (b : Branch Provision) (u k : ℕ) → Stands at number u k b → Lower b → k ≡ 0 → ⊥
+  pub not_root : (b : Branch Provision) (u k : ℕ) → Stands at number u k b → Lower b → k ≡ 0 → ⊥
   not_root b u k s l root =
       let P : ℕ → Type 0 = λ i. Stands at number u i b in
       let same : b ≡ branch_from size at 0 = one_branch at number b (branch_from size at 0) u 0 0 (subst P root s) whole.stands in
@@ -70,7 +70,7 @@ module _ (at : ℕ → Option Laid) (number : List ℕ → Option ℕ) (size : �
       let low : height b < height (branch_from size at 0) = l.low in
       omega arith
 
-  own_eid : (p : Provision) (below : Branches Provision) (u k : ℕ) → Stands at number u k (branch p below) → Lower (branch p below) → eid_now k ≡ Some (eid_below n (eid_now u) p.own.element p.own.num)
+  pub own_eid : (p : Provision) (below : Branches Provision) (u k : ℕ) → Stands at number u k (branch p below) → Lower (branch p below) → eid_now k ≡ Some (eid_below n (eid_now u) p.own.element p.own.num)
   own_eid p below u k s l =
       node_eid k (one_climbs at number size whole (branch p below) u k s l.inside) (not_root (branch p below) u k s l)
       ∙ ap (λ o. Some (eid_below n (eid_now (above_in o)) (provision_in o).own.element (provision_in o).own.num)) s.0

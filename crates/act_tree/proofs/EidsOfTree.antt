@@ -9,6 +9,7 @@ use Rattle.act_tree.specs.declared.tree.Tree.{Tree}
 use Rattle.act_tree.specs.Arena.{provision_in, above_in, below_in, branches_below}
 use Rattle.act_tree.specs.Branches.{Branches, branches_of, heights, counts}
 use Rattle.act_tree.specs.Eids.{eid_below}
+use Rattle.act_tree.specs.EidsOfWids.{has_eid}
 use Rattle.act_tree.specs.EidsOfNodes.{eid_up, eid_at, eid_under, IsNodeOf, AreUnder}
 use Rattle.act_tree.specs.Faults.{all_owns, all_eids, have_long, first_fault, fault_cause, first_cause}
 use Rattle.act_tree.specs.Seen.{tree_view, has_node, provision_at, children_at, branch_at, below_at}
@@ -18,10 +19,11 @@ use Rattle.act_tree.proofs.EidsDiffer.{node_eid, eid_among, one_among, body_lowe
 use Rattle.act_tree.proofs.GoingUp.{eid_root}
 use Rattle.act_tree.proofs.TreeNodes.{children_climb}
 use Rattle.act_tree.proofs.Walking.{nodes_from}
+use Rattle.act_tree.proofs.Ways.{eid_up_is, has_eid_is}
 
 -- the children of a node stand below its eId
 pub children_under : (t : Tree) (i : ℕ) → has_node t i ≡ true → AreUnder t (eid_at t i) (children_at t i)
-unfolding has_node eid_at children_at provision_at tree_view
+unfolding has_node children_at provision_at tree_view
 children_under t i node = λ k d within.
     let id : ℕ = get_or (below_in (at t.arena i)) k d in
     let climbs_too = children_climb (at t.arena) (number t.arena) (size t.arena) t.whole i node k d within in
@@ -29,25 +31,26 @@ children_under t i node = λ k d within.
       climbs_too,
       (
         hang.1,
-        node_eid (at t.arena) (number t.arena) (size t.arena) t.whole t.numbering id climbs_too hang.1
-            ∙ ap (λ u. Some (eid_below t.numbering (eid_up (size t.arena) t.numbering (at t.arena) u) (provision_in (at t.arena id)).own.element (provision_in (at t.arena id)).own.num)) hang.0,
+        eid_up_is t id climbs_too
+            ∙ node_eid (at t.arena) (number t.arena) (size t.arena) t.whole t.numbering id climbs_too hang.1
+            ∙ ap (λ u. Some (eid_below t.numbering (eid_up (size t.arena) t.numbering (at t.arena) u) (provision_in (at t.arena id)).own.element (provision_in (at t.arena id)).own.num)) hang.0
+            ∙ ap (λ a. Some (eid_below t.numbering a (provision_in (at t.arena id)).own.element (provision_in (at t.arena id)).own.num)) (sym (eid_up_is t i node)),
       ),
     )
 
 -- the root has no eId
-pub root_eid : (t : Tree) (i : ℕ) → i ≡ 0 → eid_at t i ≡ None
-unfolding eid_at
-root_eid t i root = eid_root (size t.arena) t.numbering (at t.arena) i root
+pub root_eid : (t : Tree) (i : ℕ) → has_node t i ≡ true → i ≡ 0 → eid_at t i ≡ None
+root_eid t i node root = eid_up_is t i node ∙ eid_root (size t.arena) t.numbering (at t.arena) i root
 
 -- the eId of a node is one of the text
 pub node_among : (t : Tree) (i : ℕ) (e : List ℕ) → IsNodeOf t e i → is_among e (all_eids (tree_view t).numbering None (all_owns (tree_view t).body)) ≡ true
-unfolding has_node eid_at tree_view
+unfolding has_node tree_view
 node_among t i e node =
     let body : Branches _ = branches_below (size t.arena) (at t.arena) (below_in (at t.arena 0)) in
     let held : (w : List ℕ) × _ = node_held (at t.arena) (number t.arena) (size t.arena) t.whole t.numbering i node.0 node.1.0 in
     sym (ap (λ o. is_among e (all_eids t.numbering o (all_owns body))) (eid_root (size t.arena) t.numbering (at t.arena) 0 refl))
     ∙ eid_among (at t.arena) (number t.arena) (size t.arena) t.whole t.numbering body 0 i held.0 e (below_in (at t.arena 0)) t.whole.stands.1.1
-    (body_lower (at t.arena) (number t.arena) (size t.arena) t.whole t.numbering) held.1.0 held.1.1 node.1.1
+    (body_lower (at t.arena) (number t.arena) (size t.arena) t.whole t.numbering) held.1.0 held.1.1 (sym (eid_up_is t i node.0) ∙ node.1.1)
 
 -- in a tree with no fault, the eIds of the text differ
 faultless_once : (n : Numbering) (bs : Branches _) → option_map fault_cause (first_fault n bs) ≡ None → one_twice (all_eids n None bs) ≡ false
@@ -60,7 +63,7 @@ faultless_once n bs none =
 
 -- in a well-formed tree, one node at most has an eId
 pub one_has_eid : (t : Tree) (i j : ℕ) (e : List ℕ) → first_cause (tree_view t) ≡ None → IsNodeOf t e i → IsNodeOf t e j → i ≡ j
-unfolding has_node eid_at tree_view
+unfolding has_node tree_view
 one_has_eid t i j e none one other =
     let body : Branches _ = branches_below (size t.arena) (at t.arena) (below_in (at t.arena 0)) in
     let first : (w : List ℕ) × _ = node_held (at t.arena) (number t.arena) (size t.arena) t.whole t.numbering i one.0 one.1.0 in
@@ -68,7 +71,7 @@ one_has_eid t i j e none one other =
     one_among (at t.arena) (number t.arena) (size t.arena) t.whole t.numbering body 0 i j first.0 second.0 e (below_in (at t.arena 0)) t.whole.stands.1.1
     (body_lower (at t.arena) (number t.arena) (size t.arena) t.whole t.numbering)
     (ap (λ o. one_twice (all_eids t.numbering o (all_owns body))) (eid_root (size t.arena) t.numbering (at t.arena) 0 refl) ∙ faultless_once t.numbering (all_owns body) none)
-    first.1.0 first.1.1 one.1.1 second.1.0 second.1.1 other.1.1
+    first.1.0 first.1.1 (sym (eid_up_is t i one.0) ∙ one.1.1) second.1.0 second.1.1 (sym (eid_up_is t j other.0) ∙ other.1.1)
 
 -- an eId is one of these nodes', or of those below the first, or of the others
 pub among_from : (t : Tree) (above : Option (List ℕ)) (eid own : List ℕ) (ids : List ℕ) (i id : ℕ) → i < length ids → id ≡ get_or ids i id → own ≡ eid_under t above id
@@ -83,11 +86,11 @@ among_from t above eid own ids i id within it is =
     ∙ ap (λ b. bytes_eq eid own || b) (list_any-append (bytes_eq eid) (all_eids n (Some own) (all_owns (below_at t id))) rest)
 
 -- the eId of one of the nodes, where all stand below another
-pub own_under : (t : Tree) (above : Option (List ℕ)) (ids : List ℕ) (i id : ℕ) (own : List ℕ) → AreUnder t above ids → i < length ids → id ≡ get_or ids i id → Some own ≡ eid_at t id → own ≡ eid_under t above id
+pub own_under : (t : Tree) (above : Option (List ℕ)) (ids : List ℕ) (i id : ℕ) (own : List ℕ) → AreUnder t above ids → i < length ids → id ≡ get_or ids i id → eid_at t id ≡ Some own → own ≡ eid_under t above id
 own_under t above ids i id own under within it is =
     let P : ℕ → Type 0 = λ j. IsNodeOf t (eid_under t above j) j in
     let node : IsNodeOf t (eid_under t above id) id = subst P (sym it) (under i id within) in
-    let one : Some own ≡ Some (eid_under t above id) = is ∙ node.1.1 in
+    let one : Some own ≡ Some (eid_under t above id) = sym is ∙ node.1.1 in
     cc
 
 -- the children of a node stand below the eId that it has
@@ -125,6 +128,6 @@ module _ (t : Tree) (above : Option (List ℕ)) (eid own : List ℕ) (ids : List
   among_later found same other none = found_later (bytes_eq eid own) under (from (i + 1)) (from i) (among_from t above eid own ids i id within it is) other (sym same ∙ none)
 
 -- what was found as a node of an eId is there
-pub found_among : (t : Tree) (e : List ℕ) (o : Option ℕ) → IfSome o (IsNodeOf t e) → is_some o ≡ true → is_some o ≡ is_among e (all_eids (tree_view t).numbering None (all_owns (tree_view t).body))
+pub found_among : (t : Tree) (e : List ℕ) (o : Option ℕ) → IfSome o (IsNodeOf t e) → is_some o ≡ true → is_some o ≡ has_eid e (tree_view t)
 found_among t e None node some = absurd (let h : false ≡ true = some in cc)
-found_among t e (Some i) node some = sym (node_among t i e node)
+found_among t e (Some i) node some = sym (has_eid_is t e ∙ node_among t i e node)

@@ -124,7 +124,7 @@ module _ (at next : ℕ → Option Laid) (number : List ℕ → Option ℕ) (siz
     some_size = let low : heights (branches_below size at (below_in (at 0))) < size = whole.low in omega arith
 
     pub whole_after : IsWhole next number size
-    whole_after = whole_from next number size _ no_branches whole.root stands_now some_size still_hung still_once (λ v k to. still_named k ∙ whole.named v k to) whole.fits
+    whole_after = whole_from next number size _ no_branches whole.root stands_now some_size still_hung still_once (λ v k to. still_named k ∙ whole.named v k to) refl whole.fits
 
     pub reads_after : branches_below size next (below_in (next 0)) ≡ no_branches
     reads_after = reads_from next number size _ no_branches stands_now some_size

@@ -9,6 +9,8 @@ use Rattle.act_tree.specs.Provisions.{Provision}
 use Rattle.act_tree.specs.Changes.{changed, put_in, among_children, grafted, root_wid, holds, any_holds}
 use Rattle.act_tree.specs.Arena.{Laid, provision_in, above_in, below_in, name_in, branches_below, climbs, is_hung, Stands, IsWhole}
 use Rattle.act_tree.specs.Grafted.{IsGrafted, IsStopped}
+use Rattle.act_tree.specs.Numbered.{are_numbered}
+use Rattle.act_tree.proofs.Nums.{changed_kept, among_children_keeps, put_in_kept}
 use Rattle.act_tree.specs.Slots.{at, number, size}
 use Rattle.act_tree.specs.Wids.{wids, all_wids, is_among, one_twice}
 use Rattle.act_tree.proofs.Texts.{equal_text, other_text, text_cases}
@@ -108,6 +110,12 @@ regrown old new i place bs whole climbed is differ fresh =
       | false ↦ more
     ] in
     omega arith) in
+    let kept : are_numbered after ≡ true =
+    (let inside : are_numbered (changed (among_children place bs) w body) ≡ true = changed_kept (among_children place bs) w (among_children_keeps place bs is.laid.numbered) body whole.numbered in
+    elim (bytes_eq r.wid w) as (λ t. are_numbered (cond t (put_in place bs (changed (among_children place bs) w body)) (changed (among_children place bs) w body)) ≡ true) [
+      | true ↦ put_in_kept place bs (changed (among_children place bs) w body) is.laid.numbered inside
+      | false ↦ inside
+    ]) in
     let text : after ≡ grafted w place bs body = graft_text (at old) (number old) r body w place bs whole.stands root_is in
     let P : Branches Provision → Type 0 = λ bs. Holds new bs in
     record {
@@ -117,6 +125,7 @@ regrown old new i place bs whole climbed is differ fresh =
             (still_once (at old) (at mid) (at new) (number old) (number mid) (number new) (size old) (size mid) i place w is.ids bs root g whole.once
             (child_low old seat.it (above_in (at old i)) i seat.stands))
             (λ v k to. names (at old) (at mid) (at new) (number old) (number mid) (number new) (size old) (size mid) i place w is.ids bs root g k ∙ is.laid.grown.named whole.named v k (sym (is.numbers v) ∙ to))
+            kept
             (let fits : size mid ≤ 2 ^ 32 = is.laid.fits whole.fits in let same : size new ≡ size mid = is.sizes in omega arith);
         reads = reads_from (at new) (number new) (size new) r after stands low;
       });
@@ -161,6 +170,6 @@ left_whole old new ws whole is fresh =
       | inr behind ↦ is.hung k behind
     ] in
     record {
-      whole = whole_from (at new) (number new) (size new) r body whole.root stands low hung (is.grown.once whole.once) (is.grown.grown.named whole.named) (is.grown.fits whole.fits);
+      whole = whole_from (at new) (number new) (size new) r body whole.root stands low hung (is.grown.once whole.once) (is.grown.grown.named whole.named) whole.numbered (is.grown.fits whole.fits);
       reads = reads_from (at new) (number new) (size new) r body stands low;
     }

@@ -12,6 +12,8 @@ use Rattle.act_tree.specs.Arena.{Laid, provision_in, above_in, below_in, name_in
 use Rattle.act_tree.specs.Planted.{Named, Planted, PlantedAll}
 use Rattle.act_tree.proofs.Texts.{equal_text, other_text, text_cases}
 use Rattle.act_tree.proofs.Frames.{or_left, or_right, none_left, none_right, put_down, Stays, still_stand, still_hung, Apart, twice_apart, neither}
+use Rattle.eid_paths.specs.Nums.{is_num}
+use Rattle.act_tree.proofs.Nums.{both, pushed_kept}
 use Rattle.act_tree.proofs.Once.{once-append}
 
 all_wids-push : (bs : List (Branch Provision)) (b : Branch Provision) → all_wids (branches_of (bs ++ b ∷ [])) ≡ all_wids (branches_of bs) ++ wids b
@@ -47,6 +49,7 @@ planted_none at number first above = record {
   rises = omega arith;
   stands = λ apart. tt;
   tall = omega arith;
+  numbered = refl;
   fits = λ fits. fits;
   hung = λ k from to. absurd (omega arith);
   once = λ k from to. absurd (omega arith);
@@ -82,6 +85,7 @@ module _ (at mid next : ℕ → Option Laid) (number between after : List ℕ �
             } in
             stand_all-push next after above id ids bs b (still_stand mid next between after (branches_of bs) above ids stays (some.stands apart.first)) (one.stands apart.second);
         tall = (let a : heights (branches_of bs) + first ≤ half = some.tall in let h : height b + half ≤ last = one.tall in omega (arith, heights-push bs b));
+        numbered = pushed_kept bs b some.numbered one.numbered;
         fits = λ _. one.fits;
         hung = λ k from to. elim (cases_lt k half) [
           | inl low ↦
@@ -119,6 +123,7 @@ pub record Added (at next : ℕ → Option Laid) (number after : List ℕ → Op
   pub before : (k : ℕ) → k < first → next k ≡ at k
   pub empty : (k : ℕ) → first ≤ k → at k ≡ None
   pub fits : first + 1 ≤ 2 ^ 32
+  pub num : is_num p.own.num ≡ true
   pub noted : (w : List ℕ) → after w ≡ cond (bytes_eq p.wid w) (Some first) (number w)
 
 -- the numbers below one are set
@@ -185,6 +190,7 @@ module _ (at one two next : ℕ → Option Laid) (number noted grown after : Lis
             } in
             put_down next after above first p ids bs here leads (still_stand two next grown after bs first ids stays (some.stands (none_right (is_among p.wid (all_wids bs)) _ told)));
         tall = (let h : heights bs + (first + 1) ≤ last = some.tall in omega arith);
+        numbered = both _ _ added.num some.numbered;
         fits = some.fits added.fits;
         hung = λ k from to other. elim (some.hung k (omega arith) to) [
           | inl hung ↦ still_hung two next grown after k (listed.others k other) (lists k) hung

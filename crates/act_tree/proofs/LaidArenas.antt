@@ -1,9 +1,10 @@
 -- Laying down in the arena itself, with its slots and its index.
-use Rattle.std.proofs.Common.{◌≡◌, ◌∙◌, sym, ap, subst, ℕ, ◌+◌, ◌<◌, ◌≤◌, ◌^◌, cond, List, [], ◌∷◌, ◌++◌, length, get_or, slice_set, Some, arith, length-append, length-set, Vec, Global}
+use Rattle.std.proofs.Common.{◌≡◌, ◌∙◌, sym, ap, subst, true, ℕ, ◌+◌, ◌<◌, ◌≤◌, ◌^◌, cond, List, [], ◌∷◌, ◌++◌, length, get_or, slice_set, Some, arith, length-append, length-set, Vec, Global}
 use Rattle.std.specs.Str.{bytes_eq}
 use Rattle.std.proofs.lemmas.Option.{slice_get-get_or}
 use Rattle.act_tree.specs.declared.arena.Slot.{Slot}
 use Rattle.act_tree.specs.declared.arena.Arena.{Arena}
+use Rattle.eid_paths.specs.Nums.{is_num}
 use Rattle.act_tree.specs.Branches.{Branch, Branches, branch, branches_of}
 use Rattle.act_tree.specs.Provisions.{Provision}
 use Rattle.act_tree.specs.Arena.{provision_in, above_in}
@@ -42,8 +43,8 @@ sizes_listed old new id below s within is =
 -- a slot is added, branches are laid down below it, and their numbers are set there
 pub laid_node : (old one two new : Arena) (s : Slot) (id : ℕ) (below : Vec ℕ Global) (bs : Branches Provision)
     → id ≡ size old → one.slots.items ≡ old.slots.items ++ s ∷ [] → ((w : List ℕ) → number one w ≡ cond (bytes_eq s.wid w) (Some (size old)) (number old w)) → s.below.items ≡ []
-    → AreLaid one two id below.items bs → IsListed two new id below → size one ≤ 2 ^ 32 → IsLaid old new s.above id (branch (provision_of s) bs)
-laid_node old one two new s id below bs place slots noted bare some is fits =
+    → AreLaid one two id below.items bs → IsListed two new id below → size one ≤ 2 ^ 32 → is_num s.num ≡ true → IsLaid old new s.above id (branch (provision_of s) bs)
+laid_node old one two new s id below bs place slots noted bare some is fits num =
     let grown : size one ≡ size old + 1 = ap length slots ∙ length-append old.slots.items (s ∷ []) in
     let rises : size one ≤ size two = some.rises in
     let within : id < size two = omega arith in
@@ -53,6 +54,7 @@ laid_node old one two new s id below bs place slots noted bare some is fits =
       before = λ k low. ap (λ ss. laid ss k) slots ∙ laid_before old.slots.items s k low;
       empty = λ k high. laid_past old.slots.items k high;
       fits = omega arith;
+      num = num;
       noted = noted;
     } in
     let P : ℕ → Type 0 = λ i. PlantedAll (at one) (at two) (number one) (number two) i (size two) id below.items bs in

@@ -1,6 +1,7 @@
 pub mod EnactedLaws
 pub mod ChangeLaws
 pub mod Texts
+pub mod Nums
 pub mod Index
 pub mod LaidDown
 pub mod Standing
@@ -42,8 +43,12 @@ pub mod PartedNodes
 pub mod EidTexts
 pub mod Building
 pub mod FirstFaults
+pub mod StayingNodes
 pub mod Walking
 pub mod GoingUp
 pub mod EidsDiffer
+pub mod Ways
+pub mod LevelsDiffer
 pub mod EidsOfTree
 pub mod Copying
+pub mod NotAsMany

@@ -13,6 +13,7 @@ use Rattle.act_tree.specs.Siblings.{first_number, number_behind}
 use Rattle.act_tree.specs.TakenOff.{with_above, with_below}
 use Rattle.act_tree.proofs.Once.{once-filter, once-append}
 use Rattle.act_tree.proofs.Frames.{or_left, or_right, none_left, none_right, neither, put_down}
+use Rattle.act_tree.proofs.Nums.{changed_kept, merged_keeps}
 use Rattle.act_tree.proofs.Removing.{whole_from, reads_from, still_listed, own_hung, below_kept, name_kept}
 use Rattle.act_tree.proofs.Changing.{EachStands, Touched, Parts, Redone, Rises, each_under, of_number, of_other, plain_stands, all_plain, says_of, stands_changed, heights-changed}
 use Rattle.act_tree.proofs.TreeNodes.{node_laid}
@@ -389,7 +390,8 @@ module _ (at next : ℕ → Option Laid) (number : List ℕ → Option ℕ) (siz
 
   -- the arena is whole again
   pub whole_after : IsWhole next number size
-  whole_after = whole_from next number size _ _ whole.root stands_after lower hung_now once_now (λ v k to. name_now k ∙ whole.named v k to) whole.fits
+  whole_after = whole_from next number size _ _ whole.root stands_after lower hung_now once_now (λ v k to. name_now k ∙ whole.named v k to)
+      (changed_kept (merged content) (provision_in (at i)).wid (merged_keeps content) (branches_below size at (below_in (at 0))) whole.numbered) whole.fits
 
   -- and its text has the two provisions merged
   pub reads_after : branches_below size next (below_in (next 0)) ≡ changed (merged content) (provision_in (at i)).wid (branches_below size at (below_in (at 0)))

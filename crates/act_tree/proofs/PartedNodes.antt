@@ -24,6 +24,7 @@ use Rattle.act_tree.proofs.Copying.{same_at, same_size, copy_whole}
 use Rattle.act_tree.proofs.Frames.{or_left}
 use Rattle.act_tree.proofs.LaidDown.{laid_past, laid_within}
 use Rattle.act_tree.proofs.ListedNumbers.{drop_listed, some_listed}
+use Rattle.eid_paths.specs.Nums.{is_num}
 use Rattle.act_tree.proofs.Partings.{MayPart, may_part, whole_after, reads_after}
 use Rattle.act_tree.proofs.PutIn.{all_wids_held}
 use Rattle.act_tree.proofs.Texts.{equal_text}
@@ -67,11 +68,11 @@ can_part old i place moved whole climbed other same =
 
 -- a node was parted
 pub parted_arena : (old new : Arena) (i place : ℕ) (head : List ℕ) (s : Slot) → IsWhole (at old) (number old) (size old) → climbs (size old) (at old) i ≡ true → (i ≡ 0 → ⊥)
-    → is_in s.wid (branches_below (size old) (at old) (below_in (at old 0))) ≡ false → s.above ≡ above_in (at old i) → s.below.items ≡ drop place (below_in (at old i))
+    → is_in s.wid (branches_below (size old) (at old) (below_in (at old 0))) ≡ false → s.above ≡ above_in (at old i) → s.below.items ≡ drop place (below_in (at old i)) → is_num s.num ≡ true
     → ((w : List ℕ) → number new w ≡ cond (bytes_eq s.wid w) (Some (size old)) (number old w)) → size new ≡ size old + 1 → size new ≤ 2 ^ 32
     → IsParted (at old) (at new) i (size old) (record (provision_in (at old i)).own { content = head }) (laid_of s) place
     → Holds new (changed (parted place head (provision_of s)) (provision_in (at old i)).wid (branches_below (size old) (at old) (below_in (at old 0))))
-parted_arena old new i place head s whole climbed other fresh above below numbers sizes fits j =
+parted_arena old new i place head s whole climbed other fresh above below num numbers sizes fits j =
     let f : MayPart (at old) (number old) (size old) i = may_part (at old) (number old) (size old) i whole climbed other in
     let P : ℕ → Type 0 = λ u. IsParted (at old) (at new) i (size old) (record (provision_in (at old i)).own { content = head }) (record { provision = provision_of s; above = u; below = s.below.items }) place in
     let Q : List ℕ → Type 0 = λ ks. IsParted (at old) (at new) i (size old) (record (provision_in (at old i)).own { content = head }) (record { provision = provision_of s; above = above_in (at old i); below = ks }) place in
@@ -80,9 +81,9 @@ parted_arena old new i place head s whole climbed other fresh above below number
     let empty : (k : ℕ) → size old ≤ k → at old k ≡ None = λ k past. laid_past old.slots.items k past in
     let R : ℕ → Type 0 = λ n. IsWhole (at new) (number new) n in
     record {
-      whole = subst R (sym sizes) (whole_after (at old) (at new) (number old) (number new) (size old) i place head (provision_of s) whole f apart empty numbers now (omega arith));
+      whole = subst R (sym sizes) (whole_after (at old) (at new) (number old) (number new) (size old) i place head (provision_of s) whole f apart empty num numbers now (omega arith));
       reads = ap (λ n. branches_below n (at new) (below_in (at new 0))) sizes
-          ∙ reads_after (at old) (at new) (number old) (number new) (size old) i place head (provision_of s) whole f apart empty numbers now;
+          ∙ reads_after (at old) (at new) (number old) (number new) (size old) i place head (provision_of s) whole f apart empty num numbers now;
     }
 
 -- nothing has changed
@@ -97,13 +98,13 @@ unchanged old new whole slots numbers =
 
 -- in the one case and in the other
 pub part_ends : {X : Type 0} {E : Type 0} (r : Result X E) (old new : Arena) (i place : ℕ) (head : List ℕ) (s : Slot) → IsWhole (at old) (number old) (size old) → climbs (size old) (at old) i ≡ true → (i ≡ 0 → ⊥)
-    → is_in s.wid (branches_below (size old) (at old) (below_in (at old 0))) ≡ false → s.above ≡ above_in (at old i) → s.below.items ≡ drop place (below_in (at old i))
+    → is_in s.wid (branches_below (size old) (at old) (below_in (at old 0))) ≡ false → s.above ≡ above_in (at old i) → s.below.items ≡ drop place (below_in (at old i)) → is_num s.num ≡ true
     → OnOk r (IsParted (at old) (at new) i (size old) (record (provision_in (at old i)).own { content = head }) (laid_of s) place)
     → OnOk r ((w : List ℕ) → number new w ≡ cond (bytes_eq s.wid w) (Some (size old)) (number old w)) → OnOk r (size new ≡ size old + 1) → OnOk r (size new ≤ 2 ^ 32)
     → OnErr r (new.slots.items ≡ old.slots.items) → OnErr r ((w : List ℕ) → number new w ≡ number old w)
     → OnOk r (Holds new (changed (parted place head (provision_of s)) (provision_in (at old i)).wid (branches_below (size old) (at old) (below_in (at old 0)))))
     × OnErr r (Holds new (branches_below (size old) (at old) (below_in (at old 0))))
-part_ends (Ok x) old new i place head s whole climbed other fresh above below is numbers sizes fits slots_kept numbers_kept =
-    (parted_arena old new i place head s whole climbed other fresh above below numbers sizes fits is, tt)
-part_ends (Err e) old new i place head s whole climbed other fresh above below is numbers sizes fits slots_kept numbers_kept =
+part_ends (Ok x) old new i place head s whole climbed other fresh above below num is numbers sizes fits slots_kept numbers_kept =
+    (parted_arena old new i place head s whole climbed other fresh above below num numbers sizes fits is, tt)
+part_ends (Err e) old new i place head s whole climbed other fresh above below num is numbers sizes fits slots_kept numbers_kept =
     (tt, unchanged old new whole slots_kept numbers_kept)

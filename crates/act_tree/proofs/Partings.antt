@@ -13,6 +13,8 @@ use Rattle.act_tree.specs.TakenOff.{with_above, with_below}
 use Rattle.act_tree.proofs.Texts.{equal_text, other_text, text_cases}
 use Rattle.act_tree.proofs.ListedNumbers.{take_listed, drop_listed, take_or_drop, take_not_drop, once_take, once_drop, put_listed, new_listed, once_put}
 use Rattle.act_tree.proofs.Frames.{or_left, or_right, none_right, put_down}
+use Rattle.eid_paths.specs.Nums.{is_num}
+use Rattle.act_tree.proofs.Nums.{changed_kept, parted_keeps}
 use Rattle.act_tree.proofs.Removing.{whole_from, reads_from, below_kept, name_kept}
 use Rattle.act_tree.proofs.Changing.{EachStands, Touched, Parts, Redone, Rises, each_under, of_number, of_other, plain_stands, says_of, stands_changed, heights-changed}
 use Rattle.act_tree.proofs.TreeNodes.{node_laid}
@@ -72,6 +74,7 @@ may_part at number size i whole climbed other =
 
 module _ (at next : ℕ → Option Laid) (number after : List ℕ → Option ℕ) (size i place : ℕ) (head : List ℕ) (second : Provision) (whole : IsWhole at number size) (f : MayPart at number size i)
     (fresh : holds second.wid (branch_from size at 0) ≡ false) (empty : (k : ℕ) → size ≤ k → at k ≡ None)
+    (num : is_num second.own.num ≡ true)
     (noted : (v : List ℕ) → after v ≡ cond (bytes_eq second.wid v) (Some size) (number v))
     (j : IsParted at next i size (record (provision_in (at i)).own { content = head }) (record { provision = second; above = above_in (at i); below = drop place (below_in (at i)) }) place) where
   -- the number of which the step makes something else
@@ -327,7 +330,8 @@ module _ (at next : ℕ → Option Laid) (number after : List ℕ → Option ℕ
 
   -- the arena is whole again
   pub whole_after : size + 1 ≤ 2 ^ 32 → IsWhole next after (size + 1)
-  whole_after fits = whole_from next after (size + 1) _ _ whole.root stands_after lower hung_now once_now named_now fits
+  whole_after fits = whole_from next after (size + 1) _ _ whole.root stands_after lower hung_now once_now named_now
+      (changed_kept (parted place head second) (provision_in (at i)).wid (parted_keeps place head second num) (branches_below size at (below_in (at 0))) whole.numbered) fits
 
   -- and its text has the provision parted
   pub reads_after : branches_below (size + 1) next (below_in (next 0)) ≡ changed (parted place head second) (provision_in (at i)).wid (branches_below size at (below_in (at 0)))

@@ -10,13 +10,15 @@ use Rattle.act_tree.specs.Planted.{Named}
 use Rattle.act_tree.specs.TakenOff.{with_above, with_below, IsTakenOff}
 use Rattle.act_tree.proofs.Texts.{equal_text, other_text}
 use Rattle.act_tree.proofs.Frames.{or_left, or_right, put_down}
+use Rattle.act_tree.specs.Numbered.{are_numbered}
+use Rattle.act_tree.proofs.Nums.{without_kept}
 use Rattle.act_tree.proofs.Once.{once-filter}
 use Rattle.act_tree.proofs.Standing.{branches_are, stands_below}
 
 -- an arena in which this text stands is whole, and this text is what is read from it
 pub whole_from : (at : ℕ → Option Laid) (number : List ℕ → Option ℕ) (size : ℕ) (p : Provision) (body : Branches Provision) → p ≡ root_provision → Stands at number 0 0 (branch p body) → heights body < size
-    → ((k : ℕ) → is_hung at k (at k) ≡ true) → ((k : ℕ) → number_twice (below_in (at k)) ≡ false) → Named at number → size ≤ 2 ^ 32 → IsWhole at number size
-whole_from at number size p body root s low hung once named fits =
+    → ((k : ℕ) → is_hung at k (at k) ≡ true) → ((k : ℕ) → number_twice (below_in (at k)) ≡ false) → Named at number → are_numbered body ≡ true → size ≤ 2 ^ 32 → IsWhole at number size
+whole_from at number size p body root s low hung once named nums fits =
     let same : branches_below size at (below_in (at 0)) ≡ body = branches_are at number body size 0 (below_in (at 0)) s.1.1 (omega arith) in
     let own : provision_in (at 0) ≡ p = ap provision_in s.0 in
     let P : Branches Provision → Type 0 = λ bs. Stands at number 0 0 (branch p bs) in
@@ -27,6 +29,7 @@ whole_from at number size p body root s low hung once named fits =
       hung = hung;
       once = once;
       low = (let equal : heights (branches_below size at (below_in (at 0))) ≡ heights body = ap heights same in omega arith);
+      numbered = ap are_numbered same ∙ nums;
       named = named;
       fits = fits;
     }
@@ -244,7 +247,8 @@ module _ (at next : ℕ → Option Laid) (number : List ℕ → Option ℕ) (i :
 
     -- the arena is whole again
     pub whole_after : IsWhole next number size
-    whole_after = whole_from next number size _ _ whole.root stands_after lower (still_hung whole.hung) (still_once whole.once) (λ v k to. still_named k ∙ whole.named v k to) whole.fits
+    whole_after = whole_from next number size _ _ whole.root stands_after lower (still_hung whole.hung) (still_once whole.once) (λ v k to. still_named k ∙ whole.named v k to)
+        (without_kept w (branches_below size at (below_in (at 0))) whole.numbered) whole.fits
 
     -- and its text is without the provision
     pub reads_after : branches_below size next (below_in (next 0)) ≡ without w (branches_below size at (below_in (at 0)))

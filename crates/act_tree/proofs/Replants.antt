@@ -195,6 +195,7 @@ replanted old new bs whole is differ fresh =
           (still_hung (at old) (at mid) (at new) (number old) (number mid) (number new) (size old) (size mid) is.ids bs body r g whole.hung)
           (still_once (at old) (at mid) (at new) (number old) (number mid) (number new) (size old) (size mid) is.ids bs body r g whole.once)
           (λ v k to. names (at old) (at mid) (at new) (number old) (number mid) (number new) (size old) (size mid) is.ids bs body r g k ∙ is.laid.grown.named whole.named v k (sym (is.numbers v) ∙ to))
+          is.laid.numbered
           (let fits : size mid ≤ 2 ^ 32 = is.laid.fits whole.fits in omega arith);
       reads = reads_from (at new) (number new) (size new) r bs stands low;
     }

@@ -10,6 +10,7 @@ use Rattle.act_tree.specs.Slots.{at, number, size}
 use Rattle.act_tree.proofs.Building.{Holds}
 use Rattle.act_tree.proofs.Changing.{Rises}
 use Rattle.act_tree.proofs.Climbing.{Seated}
+use Rattle.act_tree.proofs.Nums.{KeepsNums, with_content_keeps}
 use Rattle.act_tree.proofs.Restatements.{Restates, climbs_still, wid_still, whole_after, reads_after}
 use Rattle.act_tree.proofs.TakingAway.{same_numbers, leads_there, named_there, may_be_taken}
 use Rattle.act_tree.proofs.TreeNodes.{node_seated, node_laid}
@@ -21,9 +22,9 @@ pub record Restated (old new : Arena) (body : Branches Provision) : Type 0 where
   pub wids : (k : ℕ) → (provision_in (at new k)).wid ≡ (provision_in (at old k)).wid
 
 pub restated : (old new : Arena) (i : ℕ) (own : Own) (step : Step) → IsWhole (at old) (number old) (size old) → climbs (size old) (at old) i ≡ true → (i ≡ 0 → ⊥)
-    → new.numbers ≡ old.numbers → size new ≡ size old → IsRestated (at old) (at new) i own → Restates step (provision_in (at old i)) own → Rises step 0
+    → new.numbers ≡ old.numbers → size new ≡ size old → IsRestated (at old) (at new) i own → Restates step (provision_in (at old i)) own → Rises step 0 → KeepsNums step
     → Restated old new (changed step (provision_in (at old i)).wid (branches_below (size old) (at old) (below_in (at old 0))))
-restated old new i own step whole climbed other numbers sizes r restates rises =
+restated old new i own step whole climbed other numbers sizes r restates rises keeps =
     let w : List ℕ = (provision_in (at old i)).wid in
     let seat : Seated (at old) (number old) (branch_from (size old) (at old) 0) i = node_seated (at old) (number old) (size old) whole i climbed in
     let leads : number old w ≡ Some i = leads_there (at old) (number old) seat.it (above_in (at old i)) i seat.stands in
@@ -34,9 +35,9 @@ restated old new i own step whole climbed other numbers sizes r restates rises =
     record {
       holds = record {
         whole = subst Q (sym sizes) (subst P (same_numbers old new numbers)
-            (whole_after (at old) (at new) i own r (number old) w (branch_from (size old) (at old) 0) leads (named_there (at old i) here.0 here.1) apart step restates rises (size old) whole refl));
+            (whole_after (at old) (at new) i own r (number old) w (branch_from (size old) (at old) 0) leads (named_there (at old i) here.0 here.1) apart step restates rises keeps (size old) whole refl));
         reads = ap (λ n. branches_below n (at new) (below_in (at new 0))) sizes
-            ∙ reads_after (at old) (at new) i own r (number old) w (branch_from (size old) (at old) 0) leads (named_there (at old i) here.0 here.1) apart step restates rises (size old) whole refl;
+            ∙ reads_after (at old) (at new) i own r (number old) w (branch_from (size old) (at old) 0) leads (named_there (at old i) here.0 here.1) apart step restates rises keeps (size old) whole refl;
       };
       nodes = λ k. ap (λ n. climbs n (at new) k) sizes ∙ climbs_still (at old) (at new) i own r (size old) k;
       wids = wid_still (at old) (at new) i own r;
@@ -50,4 +51,4 @@ pub content_given : (old new : Arena) (i : ℕ) (content : List ℕ) → IsWhole
     → new.numbers ≡ old.numbers → size new ≡ size old → IsRestated (at old) (at new) i (record (provision_in (at old i)).own { content = content })
     → Restated old new (changed (with_content content) (provision_in (at old i)).wid (branches_below (size old) (at old) (below_in (at old 0))))
 content_given old new i content whole climbed other numbers sizes r =
-    restated old new i (record (provision_in (at old i)).own { content = content }) (with_content content) whole climbed other numbers sizes r (λ below rest. refl) (rises_content content)
+    restated old new i (record (provision_in (at old i)).own { content = content }) (with_content content) whole climbed other numbers sizes r (λ below rest. refl) (rises_content content) (with_content_keeps content)

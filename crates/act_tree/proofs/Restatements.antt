@@ -9,6 +9,7 @@ use Rattle.act_tree.specs.Arena.{Laid, provision_in, above_in, below_in, name_in
 use Rattle.act_tree.specs.Restated.{with_own, IsRestated}
 use Rattle.act_tree.proofs.Frames.{put_down}
 use Rattle.act_tree.proofs.Standing.{Among, among, stands_below}
+use Rattle.act_tree.proofs.Nums.{KeepsNums, changed_kept}
 use Rattle.act_tree.proofs.Removing.{whole_from, reads_from}
 use Rattle.act_tree.proofs.Changing.{EachStands, Touched, Parts, Redone, Rises, each_under, of_number, plain_stands, of_other, says_of, stands_changed, heights-changed}
 
@@ -128,7 +129,7 @@ module _ (at next : ℕ → Option Laid) (i : ℕ) (own : Own) (r : IsRestated a
                 (plain_stands at next number number i w (λ j. j == i) root touched step p below u k s.0 (ne_eqb k i other) off parts.0, rest)
           ]
 
-    module _ (step : Step) (restates : Restates step (provision_in (at i)) own) (rises : Rises step 0) (size : ℕ) (whole : IsWhole at number size) (is_root : root ≡ branch_from size at 0) where
+    module _ (step : Step) (restates : Restates step (provision_in (at i)) own) (rises : Rises step 0) (keeps : KeepsNums step) (size : ℕ) (whole : IsWhole at number size) (is_root : root ≡ branch_from size at 0) where
       redone : Redone at next number number (λ k. k == i) step w (above_in (at i))
       redone bs s parts =
           let P : List ℕ → Type 0 = λ ks. StandAll next number (above_in (at i)) ks (changed step w bs) in
@@ -148,7 +149,7 @@ module _ (at next : ℕ → Option Laid) (i : ℕ) (own : Own) (r : IsRestated a
       pub whole_after : IsWhole next number size
       whole_after =
           whole_from next number size _ _ whole.root stands_after lower (λ k. hung_still k ∙ whole.hung k) (λ k. ap number_twice (below_still k) ∙ whole.once k)
-          (λ v k to. name_still k ∙ whole.named v k to) whole.fits
+          (λ v k to. name_still k ∙ whole.named v k to) (changed_kept step w keeps (branches_below size at (below_in (at 0))) whole.numbered) whole.fits
 
       -- and its text has the step
       pub reads_after : branches_below size next (below_in (next 0)) ≡ changed step w (branches_below size at (below_in (at 0)))

@@ -12,6 +12,7 @@ use Rattle.act_tree.specs.Provisions.{Own, Provision}
 use Rattle.act_tree.specs.Eids.{eid_below}
 use Rattle.act_tree.specs.Trees.{TreeValue}
 use Rattle.act_tree.specs.Wids.{one_twice}
+use Rattle.act_tree.specs.declared.limits.TheConstants.{MAX_TEXT_BYTES}
 
 -- the number of a fault
 abbrev pub fault_number : BuildFault → ℕ
@@ -53,9 +54,9 @@ abbrev mutual
   all_eids numbering above no_branches = []
   all_eids numbering above (more_branches b bs) = eids numbering above b ++ all_eids numbering above bs
 
--- a heading or a content has more than 16,384 bytes
+-- a heading or a content is longer than a text may be
 abbrev pub is_long : Own → Bool
-is_long own = nat_lt 16384 (length own.heading) || nat_lt 16384 (length own.content)
+is_long own = nat_lt MAX_TEXT_BYTES (length own.heading) || nat_lt MAX_TEXT_BYTES (length own.content)
 
 -- one of the provisions, at any depth, is such a one
 abbrev mutual

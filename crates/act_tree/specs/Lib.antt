@@ -8,10 +8,12 @@ pub mod Eids
 pub mod Changes
 pub mod Trees
 pub mod Causes
+pub mod Numbered
 pub mod Arena
 pub mod Single
 pub mod Slots
 pub mod Seen
+pub mod NodesStay
 pub mod Wids
 pub mod Planted
 pub mod TakenOff
@@ -22,5 +24,10 @@ pub mod Moved
 pub mod Parted
 pub mod Faults
 pub mod Surveys
+pub mod EidsOfWids
+pub mod EidLevels
 pub mod EidsOfNodes
 pub mod Brought
+pub mod SameNodes
+pub mod NodeSizes
+pub mod Limits

@@ -3,6 +3,7 @@ use Rattle.std.specs.Prelude.{ℕ, ◌==◌, ◌+◌, ◌<◌, ◌≤◌, ◌^�
 use Rattle.std.specs.List.{list_any}
 use Rattle.act_tree.specs.declared.arena.Arena.{Arena}
 use Rattle.act_tree.specs.Branches.{Branch, Branches, height, heights}
+use Rattle.act_tree.specs.Numbered.{is_numbered, are_numbered}
 use Rattle.act_tree.specs.Provisions.{Provision}
 use Rattle.act_tree.specs.Wids.{wids, all_wids, is_among, one_twice}
 use Rattle.act_tree.specs.Arena.{Laid, Stands, StandAll, above_in, below_in, name_in, is_hung, number_twice}
@@ -18,8 +19,8 @@ pub record Grown (at next : ℕ → Option Laid) (number after : List ℕ → Op
   pub numbers : (w : List ℕ) → is_among w new ≡ false → after w ≡ number w
   pub named : Named at number → Named next after
 
--- a branch stands at the first new number, below `above`, if its wIds differ, all new numbers but that one are hung, and no list at
--- them names a number twice
+-- a branch stands at the first new number, below `above`, if its wIds differ, its nums keep the rule of nums, all new numbers but that
+-- one are hung, and no list at them names a number twice
 pub record Planted (at next : ℕ → Option Laid) (number after : List ℕ → Option ℕ) (first last above id : ℕ) (b : Branch Provision) : Type 0 where
   pub grown : Grown at next number after first (wids b)
   pub place : id ≡ first
@@ -27,17 +28,19 @@ pub record Planted (at next : ℕ → Option Laid) (number after : List ℕ → 
   pub up : above_in (next id) ≡ above
   pub stands : one_twice (wids b) ≡ false → Stands next after above id b
   pub tall : height b + first ≤ last
+  pub numbered : is_numbered b ≡ true
   pub fits : last ≤ 2 ^ 32
   pub hung : (k : ℕ) → first ≤ k → k < last → (k ≡ id → ⊥) → is_hung next k (next k) ≡ true
   pub once : (k : ℕ) → first ≤ k → k < last → number_twice (below_in (next k)) ≡ false
 
--- branches stand at new numbers below `above`, which differ, if their wIds differ; all new numbers but these are hung, and no list
--- at them names a number twice
+-- branches stand at new numbers below `above`, which differ, if their wIds differ; their nums keep the rule of nums, all new numbers
+-- but these are hung, and no list at them names a number twice
 pub record PlantedAll (at next : ℕ → Option Laid) (number after : List ℕ → Option ℕ) (first last above : ℕ) (ids : List ℕ) (bs : Branches Provision) : Type 0 where
   pub grown : Grown at next number after first (all_wids bs)
   pub rises : first ≤ last
   pub stands : one_twice (all_wids bs) ≡ false → StandAll next after above ids bs
   pub tall : heights bs + first ≤ last
+  pub numbered : are_numbered bs ≡ true
   pub fits : first ≤ 2 ^ 32 → last ≤ 2 ^ 32
   pub hung : (k : ℕ) → first ≤ k → k < last → (is_hung next k (next k) ≡ true) ⊎ ((list_any (λ j. j == k) ids ≡ true) × (above_in (next k) ≡ above))
   pub once : (k : ℕ) → first ≤ k → k < last → number_twice (below_in (next k)) ≡ false

@@ -1,14 +1,17 @@
 //! What holds of every tree and every change. Each law is a function that does nothing, whose clause is the law.
 
-ghost use Rattle.std.specs.Prelude.{◌≡◌, false, true, None, ℕ};
-ghost use Rattle.act_tree.specs.Branches.{listed, branches_of};
-ghost use Rattle.act_tree.specs.Changes.{any_holds, without};
+ghost use Rattle.std.specs.Prelude.{◌≡◌, ◌||◌, ◌↔◌, IsTrue, false, true, None, Some, ℕ, List, map};
+ghost use Rattle.act_tree.specs.Branches.{Branch, listed, branches_of};
+ghost use Rattle.act_tree.specs.Changes.{any_holds, changed, renumbered, with_content, without};
+ghost use Rattle.act_tree.specs.EidLevels.{has_beginning_twice, has_siblings_alike};
 ghost use Rattle.act_tree.specs.EidsOfNodes.{IsNodeOf};
+ghost use Rattle.act_tree.specs.EidsOfWids.{eid_of_wid};
 ghost use Rattle.act_tree.specs.Faults.{first_cause, all_eids, all_owns};
+ghost use Rattle.act_tree.specs.Provisions.{Own};
 ghost use Rattle.act_tree.specs.Seen.{tree_view};
-ghost use Rattle.act_tree.specs.Wids.{is_among};
+ghost use Rattle.act_tree.specs.Wids.{all_wids, is_among, one_twice};
 
-use crate::{NodeId, Nodes, Tree};
+use crate::{NodeId, Nodes, Refs, Tree};
 
 /// Of a wId that is taken away no provision is left, at any depth.
 pub fn none_is_left(tree: &Tree, wid: &str)
@@ -19,6 +22,16 @@ pub fn none_is_left(tree: &Tree, wid: &str)
 pub fn missing_changes_nothing(tree: &Tree, wid: &str)
     requires { any_holds wid.now (tree_view tree.now).body ≡ false }
     ensures { without wid.now (tree_view tree.now).body ≡ (tree_view tree.now).body }
+{}
+
+/// Other nums leave the wIds of a text as they are, in order.
+pub fn nums_keep_wids(tree: &Tree)
+    ensures { (pairs : List (List ℕ × List ℕ)) → all_wids (renumbered pairs (tree_view tree.now).body) ≡ all_wids (tree_view tree.now).body }
+{}
+
+/// So does another content of a provision.
+pub fn contents_keep_wids(tree: &Tree, wid: &str, content: &str)
+    ensures { all_wids (changed (with_content content.now) wid.now (tree_view tree.now).body) ≡ all_wids (tree_view tree.now).body }
 {}
 
 /// The eIds of a well-formed tree are distinct: two nodes of one eId are one node.
@@ -36,6 +49,20 @@ pub fn eid_of_a_node_is_found(tree: &Tree, eid: &str, id: NodeId)
     ensures { is_among eid.now (all_eids (tree_view tree.now).numbering None (all_owns (tree_view tree.now).body)) ≡ true }
 {}
 
+/// The eIds of the wIds of a text, one after another, are those of its provisions in the order of the text.
+pub fn eids_are_those_of_wids(tree: &Tree)
+    ensures { map (eid_of_wid (tree_view tree.now)) (all_wids (tree_view tree.now).body)
+        ≡ map (λ eid. Some eid) (all_eids (tree_view tree.now).numbering None (all_owns (tree_view tree.now).body)) }
+{}
+
+/// The eIds of a text are distinct exactly where the levels that begin one are distinct in the whole text, and those that
+/// begin none among siblings. (An eId is the list of levels from the nearest provision that begins one, and no level has `__`
+/// in it, so equal texts are equal lists.)
+pub fn eids_differ_where_levels_do(tree: &Tree)
+    ensures { one_twice (all_eids (tree_view tree.now).numbering None (all_owns (tree_view tree.now).body))
+        ≡ (has_beginning_twice (tree_view tree.now) || has_siblings_alike (tree_view tree.now)) }
+{}
+
 /// The provisions of a tree, told as a list, are again its provisions.
 pub fn listed_is_whole(tree: &Tree)
     ensures { branches_of (listed (tree_view tree.now).body) ≡ (tree_view tree.now).body }
@@ -44,4 +71,11 @@ pub fn listed_is_whole(tree: &Tree)
 /// Nodes, told as branches, are again the nodes.
 pub fn nodes_are_whole(nodes: &Nodes)
     ensures { listed (branches_of nodes.now) ≡ nodes.now }
+{}
+
+/// `==` holds of nodes and of refs exactly where they are equal.
+#[tactic(auto, using(crate::specs::SameNodes::nodes_decide, crate::specs::SameNodes::refs_decide))]
+pub fn equality_is_decided()
+    ensures nodes { (a b : List (Branch Own)) → IsTrue (⟦<Nodes as PartialEq>⟧.eq a b) ↔ (a ≡ b) }
+    ensures refs { (a b : List (List ℕ)) → IsTrue (⟦<Refs as PartialEq>⟧.eq a b) ↔ (a ≡ b) }
 {}

@@ -1,6 +1,6 @@
 //! Laying down: the nodes that an act brings become provisions, whose wIds are the eIds that they have there.
 
-ghost use Rattle.std.specs.Prelude.{◌≡◌, [], ◌∷◌, IfOk, OnErr, option_map};
+ghost use Rattle.std.specs.Prelude.{◌≡◌, true, [], ◌∷◌, IfOk, OnErr, option_map};
 ghost use Rattle.act_tree.specs.Arena.{root_provision};
 ghost use Rattle.act_tree.specs.Branches.{branch, branches_of};
 ghost use Rattle.act_tree.specs.Eids as spec;
@@ -9,6 +9,7 @@ ghost use Rattle.act_tree.specs.Planted.{HasGrown, IsLaid, AreLaid};
 ghost use Rattle.act_tree.specs.Slots.{provision_of};
 ghost use Rattle.act_tree.specs.Specs.{own_of};
 ghost use Rattle.act_tree.specs.Wids.{wids, all_wids};
+ghost use Rattle.eid_paths.specs.Nums.{is_num};
 
 use crate::arena::{Arena, Slot};
 use crate::{NodeId, NodeSpec, Nodes, Refs, eid_below};
@@ -26,6 +27,7 @@ fn slot_of(
     node: &NodeSpec,
 ) -> Result<Slot, Memory>
     ensures provision { IfOk result (λ s. provision_of s ≡ record { wid = spec.eid_below numbering (option_map (λ s. s.now) wid.entry) node.now.element node.now.num; own = own_of node.now }) }
+    ensures num { IfOk result (λ s. is_num s.num ≡ true) }
     ensures above { IfOk result (λ s. s.above ≡ above) }
     ensures below { IfOk result (λ s. s.below.items ≡ []) }
 {
@@ -51,6 +53,7 @@ fn root_num() -> Num
 /// The root, which says nothing. Nothing is below it yet.
 pub fn root_slot(alloc: Global) -> Result<Slot, Memory>
     ensures provision { IfOk result (λ s. provision_of s ≡ root_provision) }
+    ensures num { IfOk result (λ s. is_num s.num ≡ true) }
     ensures above { IfOk result (λ s. s.above ≡ 0) }
     ensures below { IfOk result (λ s. s.below.items ≡ []) }
 {
@@ -78,7 +81,8 @@ pub fn lay(
     wid: Option<&str>,
     children: &Nodes,
 ) -> Result<NodeId, Memory>
-    requires { slot.below.items ≡ [] }
+    requires below { slot.below.items ≡ [] }
+    requires num { is_num slot.num ≡ true }
     ensures laid { IfOk result (λ id. IsLaid arena.old arena.new slot.above id
         (branch (provision_of slot) (all_enacted numbering (option_map (λ s. s.now) wid.entry) (branches_of children.now)))) }
     ensures kept { OnErr result (HasGrown arena.old arena.new

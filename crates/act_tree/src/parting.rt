@@ -31,7 +31,8 @@ fn put_behind(
 }
 
 impl Arena {
-    ghost use Rattle.std.specs.Prelude.{ℕ, List, ◌≡◌, ◌<◌, ◌≤◌, ◌+◌, ◌^◌, IfOk, OnOk, OnErr, Some, take, drop, length, if◌then◌else◌};
+    ghost use Rattle.eid_paths.specs.Nums.{is_num};
+    ghost use Rattle.std.specs.Prelude.{ℕ, List, ◌≡◌, ◌<◌, ◌≤◌, ◌+◌, ◌^◌, true, IfOk, OnOk, OnErr, Some, take, drop, length, if◌then◌else◌};
     ghost use Rattle.std.specs.Str.{bytes_eq};
     ghost use Rattle.act_tree.specs.Arena.{above_in, below_in, provision_in};
     ghost use Rattle.act_tree.specs.Brought as brought;
@@ -47,13 +48,14 @@ impl Arena {
         id: NodeId,
         first_child: usize,
         tail: Text,
-        num: Num,
+        num: &Num,
         heading: Text,
         by: Id,
     ) -> Result<Slot, Memory>
         requires within { id < size self.now }
         requires place { first_child ≤ length (below_in (at self.now id)) }
-        ensures provision { IfOk result (λ s. provision_of s ≡ brought.second_part by (provision_in (at self.now id)).own.element num heading tail) }
+        ensures provision { IfOk result (λ s. provision_of s ≡ brought.second_part by (provision_in (at self.now id)).own.element num.now heading tail) }
+        ensures num { IfOk result (λ s. is_num s.num ≡ true) }
         ensures above { IfOk result (λ s. s.above ≡ above_in (at self.now id)) }
         ensures below { IfOk result (λ s. s.below.items ≡ drop first_child (below_in (at self.now id))) }
     {
@@ -64,13 +66,13 @@ impl Arena {
             NONE_THROUGHOUT,
             Some(name.as_str()),
             slot.element,
-            &num,
+            num,
         )?;
         let below = slot.below[first_child..].to_vec(alloc)?;
         Ok(Slot {
             wid,
             element: slot.element,
-            num,
+            num: num.copy(),
             heading,
             content: tail,
             refs: Refs::new(alloc),

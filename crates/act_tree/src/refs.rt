@@ -1,6 +1,9 @@
 //! Refs: a clause sees them as the list of their texts.
 
-ghost use Rattle.std.specs.Prelude.{◌≡◌, [], ◌++◌, ◌∷◌, OnOk, OnErr, IfOk};
+ghost use Rattle.std.specs.Prelude.{◌≡◌, ◌==◌, [], ◌++◌, ◌∷◌, OnOk, OnErr, IfOk};
+ghost use Rattle.std.specs.Cmp.Lexicographic.{pointwise};
+ghost use Rattle.std.specs.Cmp.Rules.{comparing};
+ghost use Rattle.std.proofs.Common.{rules};
 
 use desk_base::{Memory, Text};
 use std::alloc::Global;
@@ -67,4 +70,18 @@ impl Refs {
         }
         Ok(refs)
     }
+}
+
+impl PartialEq for Refs {
+    ghost eq = { pointwise (pointwise ◌==◌) };
+
+    ghost laws = { Prim.search (comparing, rules) };
+
+    fn eq(&self, other: &Refs) -> bool {
+        self.as_slice() == other.as_slice()
+    }
+}
+
+impl Eq for Refs {
+    ghost laws = { Prim.search (comparing, rules) };
 }

@@ -3,7 +3,7 @@
 ghost use Rattle.std.specs.Prelude.{◌≡◌, ◌<◌, IfOk, OnOk, option_map, length, nat_lt, ◌||◌};
 ghost use Rattle.act_tree.specs.Branches.{branches_of};
 
-use crate::{BuildFault, Nodes, eid_below};
+use crate::{BuildFault, MAX_TEXT_BYTES, Nodes, eid_below};
 use desk_base::{Memory, Text};
 use eid_paths::Numbering;
 use indexmap::IndexSet;
@@ -21,9 +21,9 @@ pub struct Survey {
 }
 
 fn is_long(text: &Text) -> bool
-    ensures { result ≡ nat_lt 16384 (length text.now) }
+    ensures { result ≡ nat_lt MAX_TEXT_BYTES (length text.now) }
 {
-    text.as_str().len() > 16_384
+    text.as_str().len() > MAX_TEXT_BYTES
 }
 
 impl Survey {
@@ -51,7 +51,7 @@ impl Survey {
         depth: u32,
     ) -> Result<(), Memory>
         ensures { OnOk result (seen self.new
-            ≡ noted (seen self.old) eid (nat_lt 16384 (length heading.now) || nat_lt 16384 (length content.now)) depth) }
+            ≡ noted (seen self.old) eid (nat_lt MAX_TEXT_BYTES (length heading.now) || nat_lt MAX_TEXT_BYTES (length content.now)) depth) }
     {
         let added = self.eids.insert(eid)?;
         self.twice = self.twice || !added;

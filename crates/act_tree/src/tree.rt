@@ -1,9 +1,10 @@
 //! Tree: the text of an act. A clause sees one as its numbering, its provisions and the number of its changes.
 
-ghost use Rattle.std.specs.Prelude.{◌≡◌, None, Some, option_map, if◌then◌else◌};
+ghost use Rattle.std.specs.Prelude.{◌≡◌, None, Some, if◌then◌else◌};
 ghost use Rattle.act_tree.specs.Arena.{IsWhole};
 ghost use Rattle.act_tree.specs.Single.{IsWhole-prop};
-ghost use Rattle.act_tree.specs.Slots.{at, number, size};
+ghost use Rattle.act_tree.specs.EidsOfWids.{level_of_own};
+ghost use Rattle.act_tree.specs.Slots.{at, number, provision_of, size};
 
 use crate::arena::{Arena, Slot};
 use crate::eids::eid_of_number;
@@ -14,7 +15,7 @@ use crate::surveying::fault_of;
 use crate::walks::{count, find_eid, survey};
 use crate::{BuildFail, BuildFault, Cause, NodeId, Nodes, Refs};
 use desk_base::{Id, Memory, Steps, Text};
-use eid_paths::{Element, Num, Numbering};
+use eid_paths::{Element, Level, Num, Numbering};
 use std::alloc::Global;
 use std::sync::ledger::Ledger;
 
@@ -28,20 +29,18 @@ pub struct Tree {
 }
 
 /// What a node of a tree says.
-#[derive(Clone, Copy, Debug)]
+#[derive(Debug, Drop)]
 pub struct NodeView<'a> {
-    /// The kind of provision. `None`: it is the root.
-    pub element: Option<Element>,
-    /// Its number. `None`: it is the root.
-    pub num: Option<&'a Num>,
+    /// The element of the provision and its num. `None`: it is the root.
+    pub level: Option<Level>,
     /// Its wId, which never changes.
-    pub wid: &'a Text,
+    pub wid: &'a [u8],
     /// Its heading, empty where it has none.
-    pub heading: &'a Text,
+    pub heading: &'a str,
     /// Its text, empty where it has none.
-    pub content: &'a Text,
+    pub content: &'a str,
     /// The expressions that it refers to.
-    pub refs: &'a Refs,
+    pub refs: &'a [Text],
 }
 
 /// What a provision says of itself, and its wId.
@@ -61,40 +60,49 @@ pub struct ProvisionView<'a> {
     pub refs: &'a Refs,
 }
 
-// What a slot says, of the root without element and num.
+// What a slot says, of the root without a level.
 fn view_of(slot: &Slot, is_root: bool) -> NodeView<'_>
-    ensures element { result.element ≡ (if is_root then None else Some slot.now.element) }
-    ensures num { option_map (λ n. n.now) result.num ≡ (if is_root then None else Some slot.now.num) }
+    ensures level { result.level ≡ (if is_root then None else Some (level_of_own (provision_of slot.now).own)) }
     ensures wid { result.wid.now ≡ slot.now.wid }
     ensures heading { result.heading.now ≡ slot.now.heading }
     ensures content { result.content.now ≡ slot.now.content }
     ensures refs { result.refs.now ≡ slot.now.refs }
 {
+    let level = if is_root {
+        None
+    } else {
+        Some(Level {
+            element: slot.element,
+            num: slot.num.copy(),
+        })
+    };
     NodeView {
-        element: if is_root { None } else { Some(slot.element) },
-        num: if is_root { None } else { Some(&slot.num) },
-        wid: &slot.wid,
-        heading: &slot.heading,
-        content: &slot.content,
-        refs: &slot.refs,
+        level,
+        wid: slot.wid.as_str().as_bytes(),
+        heading: slot.heading.as_str(),
+        content: slot.content.as_str(),
+        refs: slot.refs.as_slice(),
     }
 }
 
 impl Tree {
     ghost use Rattle.std.specs.Prelude.{◌≡◌, ◌==◌, ◌+◌, ℕ, ◌-◌, ◌^◌, min, true, false, IfOk, OnOk, OnErr, IfErr, IfSome, is_some, map, length, ◌≤◌, ◌<◌, option_map, None, Some, if◌then◌else◌};
     ghost use Rattle.std.specs.List.{All};
+    ghost use Rattle.eid_paths.specs.Nums.{is_num};
     ghost use Rattle.std.specs.Str.{bytes_eq};
     ghost use Rattle.act_tree.specs.Branches.{Branches, branches_of, counts};
     ghost use Rattle.act_tree.specs.Provisions.{Provision};
-    ghost use Rattle.act_tree.specs.Faults.{first_fault, first_cause, all_owns, all_eids, FailsBy};
+    ghost use Rattle.act_tree.specs.Faults.{first_fault, first_cause, all_owns, FailsBy};
     ghost use Rattle.act_tree.specs.Slots.{provision_of};
     ghost use Rattle.act_tree.specs.Brought.{brought, has_brought, second_part};
     ghost use Rattle.act_tree.specs.Changes.{after, before, changed, grafted, is_in, merged, next_of, parted, removed, renumbered, substituted, with_content};
     ghost use Rattle.act_tree.specs.declared.surveying.TheConstants.{NONE_THROUGHOUT};
     ghost use Rattle.act_tree.specs.Eids.{all_enacted};
-    ghost use Rattle.act_tree.specs.EidsOfNodes.{eid_at, IsNodeOf};
+    ghost use Rattle.act_tree.specs.EidsOfNodes.{IsNodeOf};
+    ghost use Rattle.act_tree.specs.EidsOfWids.{eid_of_wid, has_eid, level_of_own};
     ghost use Rattle.act_tree.specs.Trees.{one_more, changed_once};
-    ghost use Rattle.act_tree.specs.Wids.{all_wids, one_twice, is_among};
+    ghost use Rattle.act_tree.specs.NodesStay.{NodesStay};
+    ghost use Rattle.act_tree.specs.Wids.{all_wids, one_twice};
     ghost use Rattle.act_tree.specs.Seen.{tree_view, has_node, provision_at, children_at, branch_at, below_at};
     ghost use Rattle.std.specs.Prelude.{◌↔◌, [], ◌∷◌, drop};
     ghost use Rattle.act_tree.specs.Arena.{above_in};
@@ -225,8 +233,7 @@ impl Tree {
     /// What a node says.
     pub fn node(&self, id: NodeId) -> NodeView<'_>
         requires { has_node self.now id ≡ true }
-        ensures element { result.element ≡ (if id == 0 then None else Some (provision_at self.now id).own.element) }
-        ensures num { option_map (λ n. n.now) result.num ≡ (if id == 0 then None else Some (provision_at self.now id).own.num) }
+        ensures level { result.level ≡ (if id == 0 then None else Some (level_of_own (provision_at self.now id).own)) }
         ensures wid { result.wid.now ≡ (provision_at self.now id).wid }
         ensures heading { result.heading.now ≡ (provision_at self.now id).own.heading }
         ensures content { result.content.now ≡ (provision_at self.now id).own.content }
@@ -267,13 +274,14 @@ impl Tree {
     }
 
     /// The eId of a node that is not the root.
-    #[tactic(auto, unfolding(crate::specs::Seen::has_node, crate::specs::EidsOfNodes::eid_at))]
+    #[tactic(auto, unfolding(crate::specs::Seen::has_node))]
     pub fn eid_of(&self, alloc: Global, id: NodeId) -> Result<Text, Memory>
         requires node { has_node self.now id ≡ true }
         requires provision { id ≡ 0 → ⊥ }
-        ensures { IfOk result (λ eid. Some eid ≡ eid_at self.now id) }
+        ensures { IfOk result (λ eid. eid_of_wid (tree_view self.now) (provision_at self.now id).wid ≡ Some eid) }
     {
-        eid_of_number(alloc, &self.arena, self.numbering, id)
+        let eid = eid_of_number(alloc, &self.arena, self.numbering, id)?;
+        Ok(eid)
     }
 
     // The node whose wId this is, if it is also its eId.
@@ -297,7 +305,7 @@ impl Tree {
     /// The node of an eId; where more have it, one of them. `None`: no node has it. The root has no eId. Where the eId is also
     /// the wId, as in an act as enacted, it is one look-up and the way up from there; else all nodes are searched.
     pub fn find_eid(&self, alloc: Global, eid: &str) -> Result<Option<NodeId>, Memory>
-        ensures found { IfOk result (λ o. is_some o ≡ is_among eid.now (all_eids (tree_view self.now).numbering None (all_owns (tree_view self.now).body))) }
+        ensures found { IfOk result (λ o. is_some o ≡ has_eid eid.now (tree_view self.now)) }
         ensures node { IfOk result (λ o. IfSome o (IsNodeOf self.now eid.now)) }
     {
         let named = self.named(alloc, eid)?;
@@ -341,6 +349,7 @@ impl Tree {
         requires { has_node self.old id ≡ true }
         ensures tree { tree_view self.new ≡ record (tree_view self.old) { body = removed (provision_at self.old id).wid (tree_view self.old).body; changes = one_more (tree_view self.old).changes } }
         ensures says { (k : ℕ) → provision_at self.new k ≡ provision_at self.old k }
+        ensures stay { NodesStay self.old self.new }
         ensures step { steps.new ≡ steps.old + 1 }
     {
         steps.tick();
@@ -367,6 +376,7 @@ impl Tree {
         requires fresh { has_brought by (tree_view self.old).body ≡ false }
         ensures tree { OnOk result (tree_view self.new ≡ changed_once (tree_view self.old) (substituted (provision_at self.old id).wid (brought by (branches_of nodes.now)) (tree_view self.old).body)) }
         ensures kept { OnErr result (tree_view self.new ≡ tree_view self.old) }
+        ensures stay { NodesStay self.old self.new }
         ensures step { steps.new ≡ steps.old + 1 }
     {
         steps.tick();
@@ -396,6 +406,7 @@ impl Tree {
         requires fresh { has_brought by (tree_view self.old).body ≡ false }
         ensures tree { OnOk result (tree_view self.new ≡ changed_once (tree_view self.old) (grafted (provision_at self.old parent).wid place (brought by (branches_of nodes.now)) (tree_view self.old).body)) }
         ensures kept { OnErr result (tree_view self.new ≡ tree_view self.old) }
+        ensures stay { NodesStay self.old self.new }
         ensures step { steps.new ≡ steps.old + 1 }
     {
         steps.tick();
@@ -425,11 +436,12 @@ impl Tree {
         requires fresh { has_brought by (tree_view self.old).body ≡ false }
         ensures tree { OnOk result (tree_view self.new ≡ changed_once (tree_view self.old) (changed (parted first_child head (second_part by (provision_at self.old id).own.element num heading tail)) (provision_at self.old id).wid (tree_view self.old).body)) }
         ensures kept { OnErr result (tree_view self.new ≡ tree_view self.old) }
+        ensures stay { NodesStay self.old self.new }
         ensures step { steps.new ≡ steps.old + 1 }
     {
         steps.tick();
         let arena = &self.arena;
-        let second = arena.second_part(alloc, id, first_child, tail, num, heading, by)?;
+        let second = arena.second_part(alloc, id, first_child, tail, &num, heading, by)?;
         self.part(alloc, id, first_child, head, second)?;
         self.count_change();
         Ok(())
@@ -448,6 +460,7 @@ impl Tree {
         requires next { is_some (next_of (provision_at self.old id).wid (tree_view self.old).body) ≡ true }
         ensures tree { OnOk result (tree_view self.new ≡ changed_once (tree_view self.old) (changed (merged content) (provision_at self.old id).wid (tree_view self.old).body)) }
         ensures kept { OnErr result (tree_view self.new ≡ tree_view self.old) }
+        ensures stay { NodesStay self.old self.new }
         ensures step { steps.new ≡ steps.old + 1 }
     {
         steps.tick();
@@ -472,6 +485,7 @@ impl Tree {
         requires provision { id ≡ 0 → ⊥ }
         ensures tree { tree_view self.new ≡ record (tree_view self.old) { body = removed (provision_at self.old id).wid (tree_view self.old).body } }
         ensures says { (k : ℕ) → provision_at self.new k ≡ provision_at self.old k }
+        ensures stay { NodesStay self.old self.new }
     {
         self.arena.take_off(id);
     }
@@ -480,6 +494,7 @@ impl Tree {
     fn clear(&mut self)
         ensures tree { tree_view self.new ≡ record (tree_view self.old) { body = removed (provision_at self.old 0).wid (tree_view self.old).body } }
         ensures says { (k : ℕ) → provision_at self.new k ≡ provision_at self.old k }
+        ensures stay { NodesStay self.old self.new }
     {
         self.arena.take_all();
     }
@@ -499,6 +514,7 @@ impl Tree {
     fn put_num(&mut self, id: NodeId, num: Num)
         requires node { has_node self.old id ≡ true }
         requires provision { id ≡ 0 → ⊥ }
+        requires num { is_num num ≡ true }
         ensures tree { tree_view self.new ≡ record (tree_view self.old) { body = renumbered (((provision_at self.old id).wid, num) ∷ []) (tree_view self.old).body } }
         ensures nodes { (k : ℕ) → has_node self.new k ≡ has_node self.old k }
         ensures wids { (k : ℕ) → (provision_at self.new k).wid ≡ (provision_at self.old k).wid }
@@ -551,6 +567,7 @@ impl Tree {
         ensures nodes { OnOk result ((k : ℕ) → has_node self.old k ≡ true → has_node self.new k ≡ true) }
         ensures says { OnOk result ((k : ℕ) → has_node self.old k ≡ true → provision_at self.new k ≡ provision_at self.old k) }
         ensures kept { OnErr result (tree_view self.new ≡ tree_view self.old) }
+        ensures stay { NodesStay self.old self.new }
     {
         let name = bringer(alloc, by)?;
         self.arena.graft(alloc, parent, place, name.as_str(), nodes)
@@ -562,6 +579,7 @@ impl Tree {
         requires next { is_some (next_of (provision_at self.old id).wid (tree_view self.old).body) ≡ true }
         ensures tree { OnOk result (tree_view self.new ≡ record (tree_view self.old) { body = changed (merged content) (provision_at self.old id).wid (tree_view self.old).body }) }
         ensures kept { OnErr result (tree_view self.new ≡ tree_view self.old) }
+        ensures stay { NodesStay self.old self.new }
     {
         let next = self.arena.next(id).unwrap();
         let refs = self.arena.refs_of_both(alloc, id, next)?;
@@ -584,6 +602,7 @@ impl Tree {
         requires fresh { has_brought by (tree_view self.old).body ≡ false }
         ensures tree { OnOk result (tree_view self.new ≡ record (tree_view self.old) { body = substituted (provision_at self.old id).wid (brought by (branches_of nodes.now)) (tree_view self.old).body }) }
         ensures kept { OnErr result (tree_view self.new ≡ tree_view self.old) }
+        ensures stay { NodesStay self.old self.new }
     {
         let (parent, place) = self.place_of(id);
         self.put_nodes(alloc, parent, place, nodes, by)?;
@@ -597,6 +616,7 @@ impl Tree {
         requires fresh { has_brought by (tree_view self.old).body ≡ false }
         ensures tree { OnOk result (tree_view self.new ≡ record (tree_view self.old) { body = substituted (provision_at self.old 0).wid (brought by (branches_of nodes.now)) (tree_view self.old).body }) }
         ensures kept { OnErr result (tree_view self.new ≡ tree_view self.old) }
+        ensures stay { NodesStay self.old self.new }
     {
         let name = bringer(alloc, by)?;
         self.arena.replant(alloc, name.as_str(), nodes)
@@ -615,9 +635,11 @@ impl Tree {
         requires provision { id ≡ 0 → ⊥ }
         requires above { second.above ≡ above_in (at self.old.arena id) }
         requires below { second.below.items ≡ drop first_child (children_at self.old id) }
+        requires num { is_num second.num ≡ true }
         requires fresh { is_in second.wid (tree_view self.old).body ≡ false }
         ensures tree { OnOk result (tree_view self.new ≡ record (tree_view self.old) { body = changed (parted first_child head (provision_of second)) (provision_at self.old id).wid (tree_view self.old).body }) }
         ensures kept { OnErr result (tree_view self.new ≡ tree_view self.old) }
+        ensures stay { NodesStay self.old self.new }
     {
         self.arena.part(alloc, id, first_child, head, second)
     }

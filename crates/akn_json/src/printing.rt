@@ -5,8 +5,6 @@ mod lists;
 mod members;
 mod provisions;
 mod refusals;
-#[cfg(test)]
-mod tests;
 mod values;
 
 pub use answers::put_answer;

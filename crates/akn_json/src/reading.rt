@@ -20,8 +20,6 @@ mod modifications;
 mod names;
 mod nodes;
 mod tables;
-#[cfg(test)]
-mod tests;
 mod word;
 
 use crate::{Asked, Dossier, ReadFail};

@@ -1,7 +1,7 @@
 -- How efficacy modifications change the period of efficacy, and on which days there is efficacy.
-use Rattle.std.specs.Prelude.{ℕ, min, max, Bool, false, not, ◌&&◌, ◌||◌, List, [], ◌∷◌, Some, None}
+use Rattle.std.specs.Prelude.{ℕ, min, max, Bool, true, false, not, ◌&&◌, ◌||◌, List, [], ◌∷◌, Some, None}
 use Rattle.desk_base.specs.declared.period.Period.{Period}
-use Rattle.desk_base.specs.Periods.{includes}
+use Rattle.desk_base.specs.Periods.{includes, ends_after_its_start}
 use Rattle.bearing_mods.specs.declared.efficacy.Efficacy.{Efficacy}
 use Rattle.bearing_mods.specs.declared.efficacy.EfficacyEffect.{EfficacyEffect}
 use Rattle.bearing_mods.specs.declared.efficacy.EfficacyEffect.TheVariants.{Entry, Ended, Retroactive, Postponed, Prorogued, Extra, Inapplied}
@@ -34,6 +34,11 @@ inapplies (Postponed date) day = false
 inapplies (Prorogued date) day = false
 inapplies Extra day = false
 inapplies (Inapplied days) day = includes days day
+
+-- the days of an inapplication end after their start
+abbrev pub days_end_after_their_start : EfficacyEffect → Bool
+days_end_after_their_start (Inapplied days) = ends_after_its_start days
+days_end_after_their_start effect = true
 
 -- some counted inapplication includes the day
 abbrev pub is_inapplied : List CountedEfficacy → ℕ → Bool

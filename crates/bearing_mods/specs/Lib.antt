@@ -3,3 +3,4 @@ pub mod Dates
 pub mod Force
 pub mod Efficacy
 pub mod Bearing
+pub mod Sizes

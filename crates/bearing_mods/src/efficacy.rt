@@ -3,8 +3,9 @@
 ghost use Rattle.std.specs.Prelude.{◌≡◌, IsTrue, map};
 ghost use Rattle.bearing_mods.specs.Turns.{is_in_order, efficacy_turn};
 ghost use Rattle.bearing_mods.specs.Efficacy as spec;
+ghost use Rattle.bearing_mods.specs.Sizes.{efficacy_size};
 
-use desk_base::{Day, Id, Period};
+use desk_base::{DAY_SIZE, Day, Id, PERIOD_SIZE, Period};
 
 /// What an efficacy modification does to the period in which a thing has efficacy.
 #[derive(Clone, Copy, Debug, PartialEq, Eq)]
@@ -24,6 +25,29 @@ pub enum EfficacyEffect {
     /// Inapplication: on the days of this period there is no efficacy, whatever else is counted. The period of
     /// efficacy stays as it was.
     Inapplied(Period),
+}
+
+impl EfficacyEffect {
+    /// Whether the days of an inapplication end after their start, if they end.
+    pub fn days_end_after_their_start(self) -> bool
+        ensures { result ≡ spec.days_end_after_their_start self }
+    {
+        match self {
+            EfficacyEffect::Inapplied(days) => days.ends_after_its_start(),
+            _ => true,
+        }
+    }
+
+    /// How many bytes the effect takes where it is kept, but for the day from which it is counted.
+    pub fn size(self) -> u64
+        ensures { result ≡ efficacy_size self }
+    {
+        match self {
+            EfficacyEffect::Retroactive(_) | EfficacyEffect::Extra => 1,
+            EfficacyEffect::Inapplied(_) => 1 + PERIOD_SIZE,
+            _ => 1 + DAY_SIZE,
+        }
+    }
 }
 
 /// An efficacy modification that is counted for a reading.

@@ -3,8 +3,9 @@
 ghost use Rattle.std.specs.Prelude.{◌≡◌, IsTrue, map};
 ghost use Rattle.bearing_mods.specs.Turns.{is_in_order, force_turn};
 ghost use Rattle.bearing_mods.specs.Force as spec;
+ghost use Rattle.bearing_mods.specs.Sizes.{force_size};
 
-use desk_base::{Day, Id, Period};
+use desk_base::{DAY_SIZE, Day, Id, Period};
 
 /// What a force modification does to the period in which a thing is in force.
 #[derive(Clone, Copy, Debug, PartialEq, Eq)]
@@ -19,6 +20,15 @@ pub enum ForceEffect {
     Prorogued(Day),
     /// Re-enactment: the period starts on the date and has no end.
     ReEnacted(Day),
+}
+
+impl ForceEffect {
+    /// How many bytes the effect takes where it is kept, but for the day from which it is counted.
+    pub fn size(self) -> u64
+        ensures { result ≡ force_size self }
+    {
+        1 + DAY_SIZE
+    }
 }
 
 /// A force modification that is counted for a reading.

@@ -1,9 +1,11 @@
-//! Laws of force and efficacy. Each law is a function that does nothing, whose clause is the law.
+//! Laws of force, efficacy and equality. Each law is a function that does nothing, whose clause is the law.
 
-ghost use Rattle.std.specs.Prelude.{◌≡◌, ◌≤◌, ◌++◌, IsTrue, IsFalse, Contains, Some, None};
+ghost use Rattle.std.specs.Prelude.{◌≡◌, ◌≤◌, ◌++◌, ◌↔◌, IsTrue, IsFalse, Contains, Some, None};
 ghost use Rattle.desk_base.specs.Periods.{includes};
 ghost use Rattle.bearing_mods.specs.Force.{force_after, force_at};
 ghost use Rattle.bearing_mods.specs.Efficacy.{efficacy_after, efficacy_period, efficacy_at, inapplies};
+ghost use Rattle.bearing_mods.specs.declared.efficacy.EfficacyEffect.{EfficacyEffect as EfficacyValue};
+ghost use Rattle.bearing_mods.specs.declared.force.ForceEffect.{ForceEffect as ForceValue};
 
 use crate::{CountedEfficacy, CountedForce, EfficacyEffect, ForceEffect};
 use desk_base::{Day, Period};
@@ -57,4 +59,10 @@ pub fn force_goes_on(_base: Period, _first: &[CountedForce], _later: &[CountedFo
 /// What more is counted behind a list changes the period of efficacy that the list made.
 pub fn efficacy_goes_on(_force: Period, _first: &[CountedEfficacy], _later: &[CountedEfficacy])
     ensures { efficacy_period _force (_first.now ++ _later.now) ≡ efficacy_period (efficacy_period _force _first.now) _later.now }
+{}
+
+/// `==` holds of effects exactly where they are equal.
+pub fn equality_is_decided()
+    ensures force { (a b : ForceValue) → IsTrue (⟦<ForceEffect as PartialEq>⟧.eq a b) ↔ (a ≡ b) }
+    ensures efficacy { (a b : EfficacyValue) → IsTrue (⟦<EfficacyEffect as PartialEq>⟧.eq a b) ↔ (a ≡ b) }
 {}

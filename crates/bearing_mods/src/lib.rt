@@ -5,8 +5,6 @@ mod bearing;
 mod efficacy;
 mod force;
 pub mod laws;
-#[cfg(test)]
-mod tests;
 
 pub use bearing::bears;
 pub use efficacy::{CountedEfficacy, Efficacy, EfficacyEffect, efficacy_at};

@@ -1,10 +1,14 @@
 -- Days, their numbers, and how they are spelled.
-use Rattle.std.specs.Prelude.{ℕ, zero, suc, ◌+◌, ◌-◌, ◌*◌, ◌/◌, ◌%◌, ◌≤◌, pos, Bool, ◌&&◌, ◌==◌, nat_le, if◌then◌else◌, List, [], ◌∷◌, length, get_or, Option, Some, None, option_and_then}
+use Rattle.std.specs.Prelude.{ℕ, zero, suc, ◌+◌, ◌-◌, ◌*◌, ◌/◌, ◌%◌, ◌≤◌, min, pos, Bool, ◌&&◌, ◌==◌, nat_le, if◌then◌else◌, List, [], ◌∷◌, length, get_or, Option, Some, None, option_and_then}
 use Rattle.jiff_core.specs.Calendar.{day_count, days_in_month}
 
 -- the number of a day from 0001-01-01 to 9999-12-31
 abbrev pub IsDay : ℕ → Type 0
 IsDay n = (1 ≤ n) × (n ≤ 3652059)
+
+-- the day on which so many seconds have gone by since 1970-01-01 began; after 9999-12-31 it is that day still
+abbrev pub day_since_1970 : ℕ → ℕ
+day_since_1970 seconds = min (719163 + seconds / 86400) 3652059
 
 -- the number of a date: how many days there are from 0001-01-01 to it, both included
 unfoldable pub number_of : ℕ → ℕ → ℕ → ℕ

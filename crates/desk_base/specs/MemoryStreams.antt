@@ -1,5 +1,5 @@
 -- Streams in memory, whose calls fail where they are told to.
-use Rattle.std.specs.Prelude.{ℕ, ◌+◌, ◌-◌, ◌^◌, ◌==◌, ◌||◌, Bool, List, ◌++◌, length, take, min, nat_lt, if◌then◌else◌}
+use Rattle.std.specs.Prelude.{ℕ, ◌+◌, ◌-◌, ◌^◌, ◌==◌, ◌||◌, Bool, List, [], ◌++◌, length, take, min, nat_lt, if◌then◌else◌}
 use Rattle.std.specs.List.{list_any}
 
 -- the calls of an object that are to fail, by their numbers from 1, and how many calls were made
@@ -26,6 +26,10 @@ pub record HeldSource : Type 0 where
   pub plan : CallPlan
   pub faults : ℕ
 
+-- a source of these bytes, before the first read
+abbrev pub new_source : List ℕ → ℕ → List ℕ → HeldSource
+new_source bytes piece failing = record { left = bytes; piece = piece; plan = record { failing = failing; made = 0 }; faults = 0 }
+
 -- how many bytes a read of so many gives, where it does not fail
 abbrev pub given_count : HeldSource → ℕ → ℕ
 given_count s wanted = min (min s.piece wanted) (length s.left)
@@ -36,6 +40,10 @@ pub record HeldSink : Type 0 where
   pub capacity : ℕ
   pub plan : CallPlan
   pub faults : ℕ
+
+-- a sink of this capacity, before the first write
+abbrev pub new_sink : ℕ → List ℕ → HeldSink
+new_sink capacity failing = record { written = []; capacity = capacity; plan = record { failing = failing; made = 0 }; faults = 0 }
 
 -- the write that comes next fails: it is listed, or the capacity would be passed
 abbrev pub write_fails : HeldSink → List ℕ → Bool

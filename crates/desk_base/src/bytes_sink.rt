@@ -33,7 +33,7 @@ impl BytesSink {
     /// An empty sink that takes `capacity` bytes in all. The writes of the numbers in `failing`,
     /// counted from 1, fail.
     pub fn new(alloc: Global, capacity: usize, failing: &[u64]) -> Result<BytesSink, Memory>
-        ensures { IfOk result (λ s. s ≡ record { written = []; capacity = capacity; plan = record { failing = failing.now; made = 0 }; faults = 0 }) }
+        ensures { IfOk result (λ s. s ≡ spec.new_sink capacity failing.now) }
     {
         Ok(BytesSink {
             bytes: Vec::with_capacity(alloc, capacity)?,

@@ -54,7 +54,7 @@ impl BytesSource {
         failing: &[u64],
     ) -> Result<BytesSource, Memory>
         requires { 1 ≤ piece }
-        ensures { IfOk result (λ s. s ≡ record { left = bytes.now; piece = piece; plan = record { failing = failing.now; made = 0 }; faults = 0 }) }
+        ensures { IfOk result (λ s. s ≡ spec.new_source bytes.now piece failing.now) }
     {
         Ok(BytesSource {
             bytes: Vec::from_slice(alloc, bytes)?,

@@ -132,6 +132,16 @@ impl Day {
         }
     }
 
+    /// The day on which so many seconds have gone by since 1970-01-01 began, by the clock of UTC. After 9999-12-31 it
+    /// is that day still.
+    pub(crate) fn since_1970(seconds: u64) -> Day
+        ensures { result ≡ spec.day_since_1970 seconds }
+    {
+        Day {
+            number: (719_163 + seconds / 86_400).min(3_652_059) as u32,
+        }
+    }
+
     /// The year in which the day lies.
     pub fn year(&self) -> u16
         ensures { result ≡ spec.year_of self.now }

@@ -1,9 +1,13 @@
-//! Laws of days and of decimals, each as the contract of a function with an empty body.
+//! Laws of days, of decimals and of equality, each as the contract of a function with an empty body.
 
-ghost use Rattle.std.specs.Prelude.{◌≡◌, ◌≤◌, Some};
+ghost use Rattle.std.specs.Prelude.{◌≡◌, ◌≤◌, ◌↔◌, ℕ, List, IsTrue, Some};
 ghost use Rattle.std.specs.Fmt.{decimal};
 ghost use Rattle.desk_base.specs.Decimals.{decimal_up_to};
 ghost use Rattle.desk_base.specs.Days.{IsDay, number_of, day_of, day_text};
+ghost use Rattle.desk_base.specs.declared.id.Id.{Id as IdValue};
+ghost use Rattle.desk_base.specs.declared.period.Period.{Period as PeriodValue};
+
+use crate::{Id, Period, Text};
 
 /// What a day spells is read as that day.
 pub fn spelled_day_is_read(_number: u32)
@@ -35,4 +39,11 @@ pub fn spelled_number_is_read(_number: u64, _most: u64)
 /// What is read as a number is what that number spells, so that a number has one spelling.
 pub fn read_decimal_is_spelled(_text: &[u8], _number: u64, _most: u64)
     ensures { decimal_up_to _most _text.now ≡ Some _number → _text.now ≡ decimal _number }
+{}
+
+/// `==` holds of texts, ids and periods exactly where they are equal.
+pub fn equality_is_decided()
+    ensures texts { (a b : List ℕ) → IsTrue (⟦<Text as PartialEq>⟧.eq a b) ↔ (a ≡ b) }
+    ensures ids { (a b : IdValue) → IsTrue (⟦<Id as PartialEq>⟧.eq a b) ↔ (a ≡ b) }
+    ensures periods { (a b : PeriodValue) → IsTrue (⟦<Period as PartialEq>⟧.eq a b) ↔ (a ≡ b) }
 {}

@@ -1,7 +1,7 @@
 //! Period: the days on which something holds.
 
 ghost use Rattle.std.specs.Prelude.{◌≡◌};
-ghost use Rattle.desk_base.specs.Periods.{includes};
+ghost use Rattle.desk_base.specs.Periods.{includes, ends_after_its_start};
 
 use crate::Day;
 
@@ -20,5 +20,11 @@ impl Period {
         ensures { result ≡ includes self day }
     {
         self.start <= day && self.end.is_none_or(|end| day < end)
+    }
+    /// Whether the period ends after its start, if it ends.
+    pub fn ends_after_its_start(self) -> bool
+        ensures { result ≡ ends_after_its_start self }
+    {
+        self.end.is_none_or(|end| self.start < end)
     }
 }

@@ -3,6 +3,9 @@
 ghost use Rattle.std.specs.Prelude.{◌≡◌, ◌≤◌, ◌-◌, ◌^◌, min, IfOk, OnErr, OnOk, length};
 ghost use Rattle.desk_base.specs.Streams.{HasCause, Rose};
 
+#[cfg(test)]
+mod tests;
+
 use crate::source::count_fault;
 use crate::{Failed, Source};
 use std::io::Read;

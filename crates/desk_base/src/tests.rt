@@ -1,3 +1,5 @@
+mod outside;
+
 use crate::{BytesSink, BytesSource, Day, Failed, Id, Reading, Sink, Source, Text, Writing};
 use std::collections::HashMap;
 use std::test::Fail;

@@ -2,6 +2,9 @@
 
 ghost use Rattle.std.specs.Prelude.{◌≡◌};
 
+#[cfg(test)]
+mod tests;
+
 use crate::source::count_fault;
 use crate::{Failed, Sink};
 use std::io::Write;

@@ -6,3 +6,4 @@ pub mod NumberingLaws
 pub mod PartLaws
 pub mod SpellingLaws
 pub mod Spellings
+pub mod Equality

@@ -1,8 +1,8 @@
 //! Element: the kinds of provision.
 
-ghost use Rattle.std.specs.Prelude.{◌≡◌, find};
+ghost use Rattle.std.specs.Prelude.{◌≡◌, find, slice_get};
 ghost use Rattle.std.specs.Str.{bytes_eq};
-ghost use Rattle.eid_paths.specs.Elements.{element_name, element_word, element_named, element_of_word, element_place};
+ghost use Rattle.eid_paths.specs.Elements.{all_elements, element_name, element_word, element_named, element_of_word, element_place};
 
 /// One of the fourteen elements that a provision may be, in their order.
 #[derive(Clone, Copy, Debug, PartialEq, Eq)]
@@ -86,11 +86,18 @@ impl Element {
         }
     }
 
-    // The place of the element in their order, from 0.
-    pub(crate) fn place(self) -> usize
+    /// The place of the element in their order, from 0.
+    pub fn place(self) -> usize
         ensures { result ≡ element_place self }
     {
         self as usize
+    }
+
+    /// The element at a place in their order, from 0. `None`: there are fourteen.
+    pub fn at(place: usize) -> Option<Element>
+        ensures { result ≡ slice_get all_elements place }
+    {
+        element_at(&Element::ALL, place)
     }
 
     /// The element of a name. `None`: no element has it.
@@ -105,6 +112,16 @@ impl Element {
         ensures { result ≡ element_of_word word.now }
     {
         with_word(&Element::ALL, word)
+    }
+}
+
+// The element at a place among these.
+fn element_at(elements: &[Element], place: usize) -> Option<Element>
+    ensures { result ≡ slice_get elements.now place }
+{
+    match elements.get(place) {
+        Some(element) => Some(*element),
+        None => None,
     }
 }
 

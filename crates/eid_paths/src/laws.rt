@@ -1,12 +1,14 @@
-//! Laws of eIds and of numberings. Each law is a function that does nothing, whose clause is the law.
+//! Laws of eIds, of numberings and of equality. Each law is a function that does nothing, whose clause is the law.
 
-ghost use Rattle.std.specs.Prelude.{◌≡◌, ◌<◌, ◌↔◌, Ok, IsTrue, Contains, length, [], ◌∷◌};
+ghost use Rattle.std.specs.Prelude.{◌≡◌, ◌<◌, ◌↔◌, ℕ, List, Ok, IsTrue, Contains, length, [], ◌∷◌};
 ghost use Rattle.eid_paths.specs.Eids.{eid_of, eid_text};
 ghost use Rattle.eid_paths.specs.Elements.{is_throughout};
 ghost use Rattle.eid_paths.specs.Levels.{have_nums};
 ghost use Rattle.eid_paths.specs.Numberings.{numbering_of};
+ghost use Rattle.eid_paths.specs.declared.element.Element.{Element as ElementValue};
+ghost use Rattle.eid_paths.specs.declared.numbering.Numbering.{Numbering as NumberingValue};
 
-use crate::{Element, Level, Numbering};
+use crate::{Element, Level, Num, Numbering};
 
 /// What levels spell is read as those levels.
 pub fn spelled_eid_is_read(_levels: &[Level])
@@ -30,4 +32,12 @@ pub fn numbered_are_those_named(_elements: &[Element], _element: Element)
 /// The numbering of an act that states none has articles and sections.
 pub fn articles_and_sections_by_default()
     ensures { Numbering.DEFAULT ≡ numbering_of (Element.Article ∷ Element.Section ∷ []) }
+{}
+
+/// `==` holds of nums, elements and numberings exactly where they are equal.
+#[tactic(auto, using(crate::proofs::Equality::numberings_decide))]
+pub fn equality_is_decided()
+    ensures nums { (a b : List ℕ) → IsTrue (⟦<Num as PartialEq>⟧.eq a b) ↔ (a ≡ b) }
+    ensures elements { (a b : ElementValue) → IsTrue (⟦<Element as PartialEq>⟧.eq a b) ↔ (a ≡ b) }
+    ensures numberings { (a b : NumberingValue) → IsTrue (⟦<Numbering as PartialEq>⟧.eq a b) ↔ (a ≡ b) }
 {}

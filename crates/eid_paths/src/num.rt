@@ -1,7 +1,10 @@
 //! Num: the number of a provision. A clause sees one as the list of its bytes.
 
-ghost use Rattle.std.specs.Prelude.{◌≡◌, IsTrue};
+ghost use Rattle.std.specs.Prelude.{◌≡◌, ◌==◌, IsTrue};
 ghost use Rattle.std.specs.List.{list_all};
+ghost use Rattle.std.specs.Cmp.Lexicographic.{pointwise};
+ghost use Rattle.std.specs.Cmp.Rules.{comparing};
+ghost use Rattle.std.proofs.Common.{rules};
 ghost use Rattle.eid_paths.specs.Nums as spec;
 ghost use Rattle.eid_paths.specs.Nums.{num_of};
 
@@ -75,13 +78,28 @@ impl Num {
         str::from_utf8(&self.bytes[..self.len]).unwrap()
     }
 
-    /// The same num.
+    /// The same num, with the rule that nums keep.
     pub fn copy(&self) -> Num
-        ensures { result ≡ self.now }
+        ensures value { result ≡ self.now }
+        ensures rule { IsTrue (spec.is_num result) }
     {
         Num {
             bytes: self.bytes,
             len: self.len,
         }
     }
+}
+
+impl PartialEq for Num {
+    ghost eq = { pointwise ◌==◌ };
+
+    ghost laws = { Prim.search (comparing, rules) };
+
+    fn eq(&self, other: &Num) -> bool {
+        self.as_bytes() == other.as_bytes()
+    }
+}
+
+impl Eq for Num {
+    ghost laws = { Prim.search (comparing, rules) };
 }

@@ -13,7 +13,8 @@ use Rattle.law_register.specs.declared.register.verdict.Verdict.TheVariants.{Acc
 use Rattle.law_register.specs.Register.Drafts.{additions, added, is_by, draft_of}
 use Rattle.law_register.specs.Register.LawList.{law_command, law_of, laws, front}
 use Rattle.law_register.specs.Law.Same.{same_command, same_number}
-use Rattle.law_register.specs.Law.Sizes.{name_size, command_size, size_of, entry_size, entries_size}
+use Rattle.desk_base.specs.Sizes.{name_size}
+use Rattle.law_register.specs.Law.Sizes.{command_size, size_of, entry_size, entries_size}
 use Rattle.law_register.specs.Register.Verdicts as v
 use Rattle.law_register.specs.Register.Verdicts.{rule_or, broken_where, again, refused_or, reply_to, law_number, request_of, first_rule, verdict_by, verdict, is_accepted, is_legal_from, is_legal}
 use Rattle.law_register.proofs.Puts.{left_true, right_true}

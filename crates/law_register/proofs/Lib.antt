@@ -4,8 +4,7 @@ pub mod Puts
 pub mod ShortNames
 pub mod Lookups
 pub mod Empty
-pub mod SameLaws
-pub mod SameNodes
+pub mod Equality
 pub mod Legal
 pub mod Steps
 pub mod Marking
@@ -21,3 +20,5 @@ pub mod Listed
 pub mod Gathering
 pub mod Ascending
 pub mod Sound
+pub mod Spellable
+pub mod Enacting

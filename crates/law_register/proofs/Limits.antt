@@ -10,7 +10,7 @@ use Rattle.law_register.specs.declared.register.entry.Entry.{Entry}
 use Rattle.law_register.specs.declared.register.indexes.Indexes.{Indexes}
 use Rattle.law_register.specs.declared.law.modification.Modification.{Modification}
 use Rattle.law_register.specs.declared.register.rules.Rule.TheVariants.{BadModification, DraftFull, WorkFull}
-use Rattle.law_register.specs.Law.Bounds.{most_items}
+use Rattle.textual_mods.specs.declared.fitting.TheConstants.{MAX_ITEMS}
 use Rattle.law_register.specs.Register.Drafts.{is_by, additions, added, redrafted, draft_of, items_of}
 use Rattle.law_register.specs.Register.Indexes.{items_in, drafter_mark}
 use Rattle.law_register.specs.Register.KnownIds.{ids_of, ids_recorded}
@@ -123,7 +123,7 @@ legal_ids w es h = legally (IdsFit w) (ids_step w) (omega arith) es h
 
 -- a record that is accepted
 pub few_mods : (c : Command) → v.bad_modification c ≡ None → length (mods_of c) ≤ 64
-few_mods (Record work mods) kept = by (nat_lt 0 (length mods)) (nat_le (length mods) 64) refl (not_broken _ (BadModification 0) (first_kept (broken_where (not (nat_lt 0 (length mods) && nat_le (length mods) most_items)) (BadModification 0)) _ kept))
+few_mods (Record work mods) kept = by (nat_lt 0 (length mods)) (nat_le (length mods) 64) refl (not_broken _ (BadModification 0) (first_kept (broken_where (not (nat_lt 0 (length mods) && nat_le (length mods) MAX_ITEMS)) (BadModification 0)) _ kept))
   where
     by : (a b : Bool) → nat_le (length mods) 64 ≡ b → not (a && b) ≡ false → length mods ≤ 64
     by a true is h = grind (arith, nat_tests)

@@ -1,5 +1,5 @@
 -- What look-ups in the indexes tell, by what the marks stand for.
-use Rattle.std.proofs.Common.{◌≡◌, ◌∙◌, ap, ℕ, ◌==◌, Bool, true, false, cond, ◌||◌, List, [], ◌∷◌, length, filter, Option, Some, None, option_map, slice_get, suc, refl}
+use Rattle.std.proofs.Common.{◌≡◌, ◌∙◌, ap, ℕ, ◌==◌, Bool, true, false, cond, ◌||◌, List, [], ◌∷◌, ◌++◌, length, filter, Option, Some, None, option_map, slice_get, suc, refl}
 use Rattle.std.specs.List.{list_any}
 use Rattle.std.specs.Str.{bytes_eq}
 use Rattle.law_register.specs.declared.law.act.Act.{Act}
@@ -13,6 +13,8 @@ use Rattle.law_register.specs.declared.register.verdict.Reply.{Reply}
 use Rattle.law_register.specs.Register.Drafts.{items_of}
 use Rattle.law_register.specs.Register.Indexes.{told_at, work_named, act_of, body_of, marks_work, is_named, RequestStands, ItemsStand, EnactedStands, IdStands}
 use Rattle.law_register.specs.Register.KnownIds.{IdFacts}
+use Rattle.law_register.specs.Register.Listing.{item_told, items_marked}
+use Rattle.law_register.specs.declared.law.modification.Modification.{Modification}
 use Rattle.law_register.specs.Register.Verdicts.{again, has_item}
 use Rattle.law_register.specs.declared.law.command.Command.{Command}
 
@@ -126,3 +128,17 @@ enacted_told es m (Some found) h =
 pub enacted_none : (es : List Entry) (found : Option (ℕ × Act)) → EnactedStands es None found → None ≡ found
 enacted_none es None h = refl
 enacted_none es (Some found) h = absurd h
+
+-- the items of a draft, by their marks
+pub items_are : (es : List Entry) (ms : List ItemMark) (items : List DraftItem) → ItemsStand es ms items → items_marked es ms ≡ items
+items_are es [] [] h = refl
+items_are es (m ∷ ms) (i ∷ items) h =
+    ap (λ l. l ++ items_marked es ms) (one (told_at es m.entry work_named) (told_at es m.entry (body_of 0)) h.1 h.2)
+    ∙ ap (λ n. record { item = n; work = i.work; body = i.body } ∷ items_marked es ms) h.0
+    ∙ ap (λ l. i ∷ l) (items_are es ms items h.3)
+  where
+    one : (work : Option (List ℕ)) (body : Option Modification) → work ≡ Some i.work → body ≡ Some i.body
+        → item_told m.item work body ≡ record { item = m.item; work = i.work; body = i.body } ∷ []
+    one work body w b = ap (λ x. item_told m.item x body) w ∙ ap (λ x. item_told m.item (Some i.work) x) b
+items_are es [] (i ∷ items) h = absurd h
+items_are es (m ∷ ms) [] h = absurd h

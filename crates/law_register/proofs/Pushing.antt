@@ -1,6 +1,8 @@
 -- The indexes stand for the entries, once an accepted entry is noted and stands behind the others.
 use Rattle.std.proofs.Common.{◌≡◌, ◌∙◌, sym, ap, subst, ℕ, suc, ◌+◌, Bool, true, cond, List, [], ◌∷◌, ◌++◌, length, filter, map, Option, Some, None, is_some, slice_get, refl, arith}
 use Rattle.std.proofs.lemmas.List.{append-nil, length-append, length-map}
+use Rattle.std.proofs.lemmas.List.Folds.{list_all-append}
+use Rattle.std.specs.List.{list_all}
 use Rattle.std.specs.Str.{bytes_eq}
 use Rattle.desk_base.specs.declared.id.Id.{Id}
 use Rattle.law_register.specs.declared.law.command.Command.{Command}
@@ -17,13 +19,15 @@ use Rattle.law_register.specs.declared.law.modification.Modification.{Modificati
 use Rattle.law_register.specs.declared.register.verdict.Reply.{Reply}
 use Rattle.law_register.specs.Answer.Counted.{is_same_id}
 use Rattle.law_register.specs.Register.Drafts.{draft_of, items_of}
-use Rattle.law_register.specs.Register.Indexes.{told_at, work_named, body_of, marks_work, is_named, request_mark, drafter_mark, work_mark, id_mark, items_in, enacted_in, last_in, id_after, touched, work_after, enacted_after, recorded_for, ItemsStand, IdStands, WorkStands, BodiesStand, StepsStand}
+use Rattle.law_register.specs.Register.Indexes.{told_at, work_named, body_of, marks_work, is_named, request_mark, drafter_mark, work_mark, id_mark, items_in, enacted_in, last_in, id_after, touched, work_after, enacted_after, recorded_for, ItemsStand, IdStands, WorkStands, ActsStand, BodiesStand, StepsStand}
 use Rattle.law_register.specs.Register.KnownIds.{facts_of, enacted, ids_of}
-use Rattle.law_register.specs.Register.LawList.{law_command, law_of, laws, front}
+use Rattle.law_register.specs.Register.LawList.{acts_of, law_command, law_of, laws, front}
 use Rattle.law_register.specs.Register.Noting.{law_count, places, item_body, bodies_of, new_bodies, last_before, with_step, new_step, IsNoted}
-use Rattle.law_register.specs.Register.Registers.{IsKept}
+use Rattle.law_register.specs.Register.Registers.{IsKept, are_well_spelled}
+use Rattle.law_register.specs.Law.Spelling.{is_well_spelled}
 use Rattle.law_register.specs.Law.Sizes.{entry_size}
 use Rattle.law_register.specs.Register.Verdicts.{reply_to, last_on, is_accepted, verdict, is_legal}
+use Rattle.law_register.proofs.Enacting.{act_case}
 use Rattle.law_register.proofs.IdSteps.{fresh, record_stands, correct_stands, withdraw_stands, of_work, enact_step, keep_step, not_enacting, recorded_count, work_case, either}
 use Rattle.law_register.proofs.Legal.{accepted_new}
 use Rattle.law_register.proofs.Lookups.{items_filed, items_counted}
@@ -195,8 +199,9 @@ step_case es e ls draft items marks works bodies steps s (Restore id) is drafted
 
 -- all indexes
 pub noted : (old new : Indexes) (es : List Entry) (e : Entry) (reply : Reply) → IsKept old es → is_accepted e.law (verdict es e.drafter e.request e.command) ≡ true
+    → is_well_spelled e.command ≡ true
     → reply ≡ reply_to es e.drafter e.command → IsNoted old new es e reply → IsKept new (es ++ e ∷ [])
-noted old new es e reply kept accepted replied note =
+noted old new es e reply kept accepted spelled replied note =
     let entry = accepted_new es e.drafter e.request e.command e.law accepted in
     let draft = (kept.stands.drafts e.drafter).items in
     let items = draft_of e.drafter es in
@@ -205,6 +210,8 @@ noted old new es e reply kept accepted replied note =
     let I : Id → List Command → Type 0 = λ i l. IdStands (es ++ e ∷ []) (id_mark new i) (facts_of i l) in
     record {
       legal = legal_more es e ∙ and_true (is_legal es) (is_accepted e.law (verdict es e.drafter e.request e.command)) kept.legal accepted;
+      spelled = list_all-append (λ x. is_well_spelled x.command) es (e ∷ [])
+          ∙ and_true (are_well_spelled es) (list_all (λ x. is_well_spelled x.command) (e ∷ [])) kept.spelled (and_true (is_well_spelled e.command) true spelled refl);
       stands = record {
         requests = request_step es e (record { entry = length es; reply = reply }) (request_mark old) (request_mark new) kept.stands.requests entry.new refl replied note.requests;
         drafts = λ d. draft_step es e d (drafter_mark old d) (drafter_mark new d) (kept.stands.drafts d) (note.added d) (note.items d);
@@ -226,6 +233,10 @@ noted old new es e reply kept accepted replied note =
             (subst (λ steps. S steps (old.bodies.items ++ new_bodies old es e) (laws es ++ law_of es e)) (sym note.steps)
             (step_case es e (laws es) marks items (id_mark old) (work_mark old) old.bodies.items old.steps.items (new_step old es e) e.command refl draft kept.stands.ids
             (λ w. (kept.stands.works w).last) refl refl refl refl kept.stands.steps)));
+        acts =
+            let P : List ℕ → List Command → Type 0 = λ ats l. ActsStand (es ++ e ∷ []) ats (acts_of l) in
+            subst (P new.acts.items) (sym (laws_more es e))
+            (subst (λ ats. P ats (laws es ++ law_of es e)) (sym note.acts) (act_case es e (laws es) items old.acts.items e.command refl kept.stands.acts));
         front = note.front ∙ ap (λ n. n + law_count e.command) kept.stands.front ∙ sym (front_is es e);
         size = note.size ∙ ap (λ n. n + entry_size e) kept.stands.size ∙ sym (size_more es e);
       };

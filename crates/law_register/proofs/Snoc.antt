@@ -12,7 +12,7 @@ use Rattle.law_register.specs.declared.register.verdict.Reply.{Reply}
 use Rattle.law_register.specs.Register.Drafts.{is_by, additions, added, redrafted, drafted_from, draft_of}
 use Rattle.law_register.specs.Register.KnownIds.{IdFacts, facts_after, facts_from, facts_of, enacted_by, enacted_or, enacted_from, enacted, ids_recorded, ids_from, ids_of}
 use Rattle.law_register.specs.Register.Listing.{numbers_from, numbers_on}
-use Rattle.law_register.specs.Register.LawList.{law_of, laws_from, laws}
+use Rattle.law_register.specs.Register.LawList.{acts_by, acts_of, law_of, laws_from, laws}
 use Rattle.law_register.specs.Law.Sizes.{entry_size, entries_size}
 use Rattle.law_register.specs.Register.Verdicts.{reply_to, first_found, request_from, request_of, drafters_from, drafters, concerns, last_from, last_on, is_accepted, verdict, is_legal_from, is_legal}
 
@@ -77,6 +77,11 @@ draft_more drafter es e =
   where
     nothing_plus : (n : ℕ) → 0 + n ≡ n
     nothing_plus n = omega arith
+
+-- the acts of the law
+pub acts_more : (ls : List Command) (l : Command) → acts_of (ls ++ l ∷ []) ≡ acts_of ls ++ acts_by l
+acts_more [] l = append-nil (acts_by l)
+acts_more (x ∷ ls) l = ap (λ acts. acts_by x ++ acts) (acts_more ls l) ∙ sym (append_assoc (acts_by x) (acts_of ls) (acts_by l))
 
 -- the number of the law entry behind those numbered from here on
 one_later : (number n : ℕ) → number + 1 + n ≡ number + suc n

@@ -19,7 +19,8 @@ use Rattle.law_register.specs.declared.register.entry.Entry.{Entry}
 use Rattle.law_register.specs.declared.register.known.KnownMod.{KnownMod}
 use Rattle.law_register.specs.declared.law.modification.Modification.{Modification}
 use Rattle.law_register.specs.declared.law.modification.Modification.TheVariants.{Textual, Force, Efficacy}
-use Rattle.law_register.specs.Law.Bounds.{brought_fault, payload_fault}
+use Rattle.textual_mods.specs.EditLimits.{payload_fault}
+use Rattle.law_register.specs.Law.Bounds.{brought_fault}
 use Rattle.law_register.specs.Answer.Counted.{is_same_id}
 use Rattle.law_register.specs.Register.Drafts.{is_by, added, redrafted, draft_of, items_of}
 use Rattle.law_register.specs.Register.KnownIds.{IdFacts, item_at, first_facts, facts_after, facts_of, enacted, enacted_by, enacted_or, ids_of, known_as, known_ids, known_by}

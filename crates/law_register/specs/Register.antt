@@ -1,5 +1,6 @@
 pub mod Drafters
 pub mod Drafts
+pub mod Entering
 pub mod Indexes
 pub mod KnownIds
 pub mod LawList

@@ -3,9 +3,7 @@
 mod act;
 pub(crate) mod bounds;
 mod command;
-pub(crate) mod copying;
 mod modification;
-pub(crate) mod same;
 pub(crate) mod sizes;
 
 pub use act::Act;

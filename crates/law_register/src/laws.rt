@@ -1,18 +1,62 @@
 //! What holds of commands and of registers. Each law is a function that does nothing, whose clause is the law.
 
-ghost use Rattle.std.specs.Prelude.{◌≡◌, ◌≤◌, ◌↔◌, ℕ, true, length, slice_get, Some};
+ghost use Rattle.std.specs.Prelude.{◌≡◌, ◌≤◌, ◌↔◌, ℕ, IsTrue, length, slice_get, Some};
+ghost use Rattle.law_register.specs.declared.law.command.Command.{Command as CommandValue};
 ghost use Rattle.law_register.specs.declared.register.entry.Entry.{Entry};
+ghost use Rattle.law_register.specs.Register.Drafters.{is_drafter};
 ghost use Rattle.law_register.specs.Register.KnownIds.{ids_of};
 ghost use Rattle.law_register.specs.Register.LawList.{laws, front, law_numbers, first_numbers};
 ghost use Rattle.law_register.specs.Law.Same.{same_command};
+ghost use Rattle.law_register.specs.Law.Spellable.{can_all_be_spelled, can_be_spelled};
+ghost use Rattle.law_register.specs.Law.Spelling.{is_well_spelled};
+ghost use Rattle.law_register.specs.Register.Registers.{are_well_spelled};
+ghost use Rattle.law_register.specs.Register.Verdicts.{is_accepted, verdict};
 
-use crate::{Command, Register};
+use crate::{Command, Drafter, Entry, Register};
 use frbr_names::WorkName;
 
-/// Commands are the same exactly where all their values are equal.
-pub fn same_commands_are_equal(a: &Command, b: &Command)
-    ensures { (same_command a.now b.now ≡ true) ↔ (a.now ≡ b.now) }
+/// `==` holds of commands exactly where they are equal, and so does what verdicts ask of a repeat.
+#[tactic(auto, using(crate::proofs::Equality::commands_decide), unfolding(crate::specs::Law::Same::same_command))]
+pub fn equality_is_decided()
+    ensures commands { (a b : CommandValue) → IsTrue (⟦<Command as PartialEq>⟧.eq a b) ↔ (a ≡ b) }
+    ensures repeats { (a b : CommandValue) → IsTrue (same_command a b) ↔ (a ≡ b) }
 {}
+
+/// Each entry of a register is well spelled.
+pub fn entries_are_well_spelled(register: &Register)
+    ensures { are_well_spelled register.now.entries ≡ true }
+{
+    let _ = &register.entries;
+}
+
+/// An entry that is accepted behind those of a register, and is well spelled, can be spelled as bytes.
+pub fn accepted_can_be_spelled(_register: &Register, _entry: &Entry)
+    requires accepted { is_accepted _entry.now.law
+        (verdict _register.now.entries _entry.now.drafter _entry.now.request _entry.now.command) ≡ true }
+    requires spelled { is_well_spelled _entry.now.command ≡ true }
+    ensures { can_be_spelled _entry.now ≡ true }
+{}
+
+/// Each entry of a register can be spelled as bytes.
+pub fn entries_can_be_spelled(register: &Register)
+    ensures { can_all_be_spelled register.now.entries ≡ true }
+{
+    let _ = &register.entries;
+}
+
+/// The name of a drafter keeps its rule.
+pub fn drafters_are_named(drafter: &Drafter)
+    ensures { is_drafter drafter.now ≡ true }
+{
+    let _ = &drafter.name;
+}
+
+/// The IRI of a work is short.
+pub fn works_are_short(work: &WorkName)
+    ensures { length work.now ≤ 162 }
+{
+    let _ = work.date();
+}
 
 /// Of each request of a drafter a register has one entry at most.
 pub fn requests_are_once(register: &Register)

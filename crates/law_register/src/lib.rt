@@ -5,8 +5,6 @@ mod answer;
 mod law;
 pub mod laws;
 mod register;
-#[cfg(test)]
-mod tests;
 
 pub use answer::{
     Answer, AnswerNode, AnswerNodes, AskFault, Days, Ids, QueryRule, Question, Reading, Replayer,
@@ -14,6 +12,6 @@ pub use answer::{
 };
 pub use law::{Act, Command, Destination, ModSource, Modification, Mods, entry_size};
 pub use register::{
-    Draft, DraftItem, Drafter, Entry, Known, KnownMod, KnownMods, Register, Reply, Rule, Verdict,
-    known_at,
+    Draft, DraftItem, Drafter, EnterFault, Entry, Known, KnownMod, KnownMods, Register, Reply,
+    Rule, Verdict, known_at,
 };

@@ -2,6 +2,7 @@
 
 mod draft;
 mod drafter;
+mod entering;
 mod entry;
 pub(crate) mod indexes;
 mod judging;
@@ -15,6 +16,7 @@ mod verdict;
 
 pub use draft::{Draft, DraftItem};
 pub use drafter::Drafter;
+pub use entering::EnterFault;
 pub use entry::Entry;
 pub use knowing::known_at;
 pub use known::{Known, KnownMod, KnownMods};

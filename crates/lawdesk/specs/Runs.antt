@@ -1,5 +1,5 @@
 -- What a run of the program leaves: its status, what it read, and what it wrote.
-use Rattle.std.specs.Prelude.{ℕ, ◌≡◌, ◌<◌, List, [], ◌++◌, length, Option, Some, None, ◌⊎◌}
+use Rattle.std.specs.Prelude.{ℕ, ◌≡◌, ◌+◌, ◌≤◌, ◌<◌, List, [], ◌++◌, length, Option, Some, None, ◌⊎◌}
 use Rattle.desk_base.specs.Streams.{AppendsFront}
 use Rattle.akn_json.specs.Reading.Bytes.{most_bytes}
 use Rattle.lawdesk.specs.declared.job.Job.{Job}
@@ -17,6 +17,10 @@ IsStatus status = IsDone status ⊎ ((status ≡ 2) ⊎ ((status ≡ 3) ⊎ ((st
 abbrev pub IsRead : Option (List ℕ) → Option (List ℕ) → List ℕ → Type 0
 IsRead None now input = Unit {0}
 IsRead (Some all) now input = (all ≡ input) × ((now ≡ Some []) ⊎ (most_bytes < length input))
+
+-- of a source at most one byte more is taken than a dossier may have, as its room tells
+abbrev pub TakesWithinLimit : ℕ → ℕ → Type 0
+TakesWithinLimit before now = before ≤ now + (most_bytes + 1)
 
 -- the bytes are written behind those before, and nothing else is; of a sink that tells nothing, nothing is known
 abbrev pub IsWritten : Option (List ℕ) → Option (List ℕ) → List ℕ → Type 0

@@ -1,6 +1,6 @@
 //! Reading a source to its end, or past a limit.
 
-ghost use Rattle.std.specs.Prelude.{◌≡◌, ◌≤◌, ◌<◌, ◌^◌, IfOk, IfErr};
+ghost use Rattle.std.specs.Prelude.{◌≡◌, ◌≤◌, ◌<◌, ◌+◌, ◌^◌, IfOk, IfErr};
 ghost use Rattle.lawdesk.specs.Input.{IsInputOf, IsInputStop};
 
 use crate::stop::Stop;
@@ -11,7 +11,8 @@ use std::alloc::Global;
 pub fn read_input<S: Source>(alloc: Global, source: &mut S, limit: usize) -> Result<Vec<u8>, Stop>
     requires { limit < 2 ^ 32 }
     ensures read { IfOk result (λ input. IsInputOf limit (S.left source.old) (S.left source.new) input.items) }
-    ensures counted { S.faults source.old ≤ S.faults source.new }
+    ensures taken { S.room source.old ≤ S.room source.new + (limit + 1) }
+    ensures counted { IfOk result (λ input. S.faults source.new ≡ S.faults source.old) }
     ensures stopped { IfErr result (IsInputStop (S.faults source.old) (S.faults source.new)) }
 {
     let mut input = Vec::new(alloc);

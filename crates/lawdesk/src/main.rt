@@ -8,16 +8,17 @@ mod report;
 mod reporting;
 mod run;
 mod stop;
-#[cfg(test)]
-mod tests;
 
-ghost use Rattle.std.specs.Prelude.{◌≡◌};
+ghost use Rattle.std.specs.Prelude.{◌≡◌, ◌↔◌, ◌≢◌, None, map, string_bytes};
+ghost use Rattle.std.specs.declared.io.ErrorKind.TheVariants.{OutOfMemory};
+ghost use Rattle.lawdesk.specs.Jobs.{job_of};
+ghost use Rattle.lawdesk.specs.Runs.{IsStatus};
 
 use desk_base::{Reading, Steps, Writing};
 use run::run;
 use std::alloc::Global;
 use std::env;
-use std::io::{self, Read, Write};
+use std::io::{self, ErrorKind, Read, Write};
 use std::marker::Brand;
 use std::process::ExitCode;
 use std::sync::ledger::{Blank, Ledger};
@@ -47,6 +48,8 @@ fn run_over<L: Ledger, H: Threads, R: Read + Drop, W: Write + Drop>(
     requires name { blank.name ≡ L.name }
     requires parts { blank.parts ≡ L.parts }
     requires one { blank.parts ≡ 1 }
+    ensures status { IsStatus result }
+    ensures words { (result ≡ 2) ↔ (job_of (map string_bytes words.now) ≡ None) }
 {
     let mut steps = Steps::<L>::start(rt, blank);
     let mut source = Reading::new(reader);
@@ -55,11 +58,13 @@ fn run_over<L: Ledger, H: Threads, R: Read + Drop, W: Write + Drop>(
 }
 
 // The status of words that could not be had: they are no text, or there was not enough memory.
-fn refused(error: &io::Error) -> u8 {
-    if error.kind() == io::ErrorKind::OutOfMemory {
-        7
-    } else {
-        2
+fn refused(kind: ErrorKind) -> u8
+    ensures memory { kind ≡ OutOfMemory → result ≡ 7 }
+    ensures no_text { kind ≢ OutOfMemory → result ≡ 2 }
+{
+    match kind {
+        ErrorKind::OutOfMemory => 7,
+        _ => 2,
     }
 }
 
@@ -73,7 +78,7 @@ fn main(rt: HostRuntime) -> ExitCode {
             rt.stdout(),
             Blank::new(1),
         ),
-        Err(error) => refused(&error),
+        Err(error) => refused(error.kind()),
     };
     if status == 2 {
         let _ = eprintln!(rt; "{USAGE}");

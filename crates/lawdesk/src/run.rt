@@ -3,7 +3,7 @@
 ghost use Rattle.std.specs.Prelude.{◌≡◌, ◌↔◌, ◌⊎◌, None, Some, Err, IfOk, IfErr, ◌≢◌, map, string_bytes};
 ghost use Rattle.desk_base.specs.Streams.{Rose};
 ghost use Rattle.lawdesk.specs.Jobs.{job_of};
-ghost use Rattle.lawdesk.specs.Runs.{IsStatus, IsDone, IsTold, IsCut};
+ghost use Rattle.lawdesk.specs.Runs.{IsStatus, IsDone, IsTold, IsCut, TakesWithinLimit};
 ghost use Rattle.lawdesk.specs.declared.job.Job.{Job};
 
 use crate::input::read_input;
@@ -29,6 +29,9 @@ fn perform<S: Source, W: Sink, L: Ledger>(
     ensures sink { result ≡ Err Stop.Sink → Rose (W.faults sink.old) (W.faults sink.new) }
     ensures cut { result ≡ Err Stop.Sink → IsCut job (S.left source.old) (S.left source.new) (W.written sink.old) (W.written sink.new) }
     ensures unwritten { IfErr result (λ stop. stop ≢ Stop.Sink → sink.new ≡ sink.old) }
+    ensures source_stays { result ≢ Err Stop.Source → S.faults source.new ≡ S.faults source.old }
+    ensures sink_stays { result ≢ Err Stop.Sink → W.faults sink.new ≡ W.faults sink.old }
+    ensures taken { TakesWithinLimit (S.room source.old) (S.room source.new) }
 {
     let input = read_input(alloc, source, MAX_DOSSIER_BYTES)?;
     let report = report(alloc, &FromEnacted, job, input, steps)?;
@@ -61,6 +64,11 @@ pub fn run<S: Source, W: Sink, L: Ledger>(
     ensures cut { (job : Job) → job_of (map string_bytes words.now) ≡ Some job → result ≡ 4
         → IsCut job (S.left source.old) (S.left source.new) (W.written sink.old) (W.written sink.new) }
     ensures unwritten { (result ≡ 3) ⊎ (result ≡ 7) → sink.new ≡ sink.old }
+
+    // No count rose but that of the stream which the status names, and so in a job that was done none did.
+    ensures source_stays { result ≢ 3 → S.faults source.new ≡ S.faults source.old }
+    ensures sink_stays { result ≢ 4 → W.faults sink.new ≡ W.faults sink.old }
+    ensures taken { TakesWithinLimit (S.room source.old) (S.room source.new) }
 {
     match Job::from_words(words) {
         None => 2,

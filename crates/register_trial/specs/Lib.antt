@@ -1,3 +1,4 @@
+pub mod Bearing
 pub mod Knowing
 pub mod Lines
 pub mod Verdicts

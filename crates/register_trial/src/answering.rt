@@ -7,7 +7,7 @@ ghost use Rattle.law_register.specs.declared.answer.answer.Answer.{Answer};
 ghost use Rattle.law_register.specs.declared.answer.queries.QueryRule.{QueryRule};
 ghost use Rattle.register_trial.specs.Knowing as spec;
 
-use akn_json::{put_answer, put_query_rule};
+use akn_json::{answer_value, put_answer, put_query_rule};
 use desk_base::{Memory, Steps};
 use law_register::{Answer, AskFault, Question, Register};
 use replay_core::FromEnacted;
@@ -37,6 +37,29 @@ pub fn told_of_question<L: Ledger>(
     ensures { IfOk result (λ line. line.items ≡ spec.answer_line (answer_at register.now.entries question.now)) }
 {
     answer_line(
+        alloc,
+        past.answer_past(alloc, &FromEnacted, register, question, steps),
+    )
+}
+
+// The line of an answer by its value, or of the rule that a question breaks.
+fn value_line(alloc: Global, told: Result<Answer, AskFault>) -> Result<Vec<u8>, Memory> {
+    match told {
+        Ok(answer) => Ok(answer_value(alloc, &answer)?.to_vec(alloc)?),
+        Err(AskFault::Query(rule)) => put_query_rule(alloc, rule),
+        Err(AskFault::Memory) => Err(Memory),
+    }
+}
+
+/// The line of the answer to a question by a register, written from a value of serde_json.
+pub fn told_by_value<L: Ledger>(
+    alloc: Global,
+    register: &Register,
+    past: &mut Past,
+    question: &Question,
+    steps: &mut Steps<L>,
+) -> Result<Vec<u8>, Memory> {
+    value_line(
         alloc,
         past.answer_past(alloc, &FromEnacted, register, question, steps),
     )

@@ -5,13 +5,15 @@ ghost use Rattle.akn_json.specs.Reading.Commands.{asked_of};
 ghost use Rattle.register_trial.specs.Lines as spec;
 ghost use Rattle.register_trial.specs.Verdicts.{command_line};
 
-use crate::answering::told_of_question;
+use crate::answering::{told_by_value, told_of_question};
+use crate::bearing::{told_of_days, told_of_flag, told_of_order};
 use crate::commanding::told_of_command;
 use crate::knowing::told_of_known;
 use crate::questions::{read_known, read_question};
 use crate::replies::front_line;
 use desk_base::{Day, Memory, Steps};
-use law_register::Register;
+use frbr_names::WorkName;
+use law_register::{Question, Register};
 use std::alloc::Global;
 use std::str;
 use std::sync::ledger::Ledger;
@@ -22,17 +24,35 @@ fn no_such_line(alloc: Global) -> Result<Vec<u8>, Memory> {
     Ok(String::from_str(alloc, "no such line")?.into_bytes())
 }
 
-// What is told of `ask EXPRESSION VIEWPOINT READING`.
-fn told_of_ask<L: Ledger>(
+// What is told of a question, by the word before it.
+fn told_of_asked<L: Ledger>(
     alloc: Global,
     register: &Register,
     past: &mut Past,
-    words: &str,
+    word: &str,
+    question: &Question,
     steps: &mut Steps<L>,
 ) -> Result<Vec<u8>, Memory> {
-    match read_question(alloc, words)? {
-        Some(question) => told_of_question(alloc, register, past, &question, steps),
-        None => no_such_line(alloc),
+    match word {
+        "ask" => told_of_question(alloc, register, past, question, steps),
+        "value" => told_by_value(alloc, register, past, question, steps),
+        "order" => told_of_order(alloc, register, question),
+        "flag" => told_of_flag(alloc, register, question),
+        _ => no_such_line(alloc),
+    }
+}
+
+// What is told of a work at a viewpoint, by the word before them.
+fn told_of_work(
+    alloc: Global,
+    register: &Register,
+    word: &str,
+    (work, viewpoint): (WorkName, u32),
+) -> Result<Vec<u8>, Memory> {
+    match word {
+        "known" => told_of_known(alloc, register, &work, viewpoint),
+        "days" => told_of_days(alloc, register, &work, viewpoint),
+        _ => no_such_line(alloc),
     }
 }
 
@@ -44,14 +64,19 @@ fn told_of_words<L: Ledger>(
     line: &str,
     steps: &mut Steps<L>,
 ) -> Result<Vec<u8>, Memory> {
-    match line.split_once(' ') {
-        None if line == "front" => front_line(alloc, register),
-        Some((word, words)) if word == "ask" => told_of_ask(alloc, register, past, words, steps),
-        Some((word, words)) if word == "known" => match read_known(alloc, words)? {
-            Some((work, viewpoint)) => told_of_known(alloc, register, &work, viewpoint),
-            None => no_such_line(alloc),
-        },
-        _ => no_such_line(alloc),
+    let Some((word, words)) = line.split_once(' ') else {
+        return if line == "front" {
+            front_line(alloc, register)
+        } else {
+            no_such_line(alloc)
+        };
+    };
+    if let Some(question) = read_question(alloc, words)? {
+        return told_of_asked(alloc, register, past, word, &question, steps);
+    }
+    match read_known(alloc, words)? {
+        Some(known) => told_of_work(alloc, register, word, known),
+        None => no_such_line(alloc),
     }
 }
 

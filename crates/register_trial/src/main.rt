@@ -3,6 +3,7 @@
 #![tactic(auto)]
 
 mod answering;
+mod bearing;
 mod commanding;
 mod entering;
 mod knowing;

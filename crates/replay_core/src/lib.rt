@@ -9,7 +9,5 @@ mod on_day;
 mod order;
 mod replaying;
 mod showing;
-#[cfg(test)]
-mod tests;
 
 pub use from_enacted::FromEnacted;

@@ -22,3 +22,4 @@ pub mod Sublists
 pub mod Swapping
 pub mod TreesAfter
 pub mod WidsDiffer
+pub mod Equality

@@ -7,7 +7,7 @@ use eid_paths::Num;
 
 /// An occurrence of a text in a content. Occurrences are counted from the left, from 1; the search for the next begins behind
 /// the end of the last.
-#[derive(Debug, Drop)]
+#[derive(Debug, PartialEq, Eq, Drop)]
 pub struct Spot {
     /// The text that is looked for, not empty, at most 16,384 bytes.
     pub old: Text,
@@ -29,7 +29,7 @@ pub enum Pos {
 }
 
 /// Where a text stands that is inserted.
-#[derive(Debug, Drop)]
+#[derive(Debug, PartialEq, Eq, Drop)]
 pub enum TextPos {
     /// Before the content.
     Start,
@@ -42,7 +42,7 @@ pub enum TextPos {
 }
 
 /// Where a provision is split.
-#[derive(Debug, Drop)]
+#[derive(Debug, PartialEq, Eq, Drop)]
 pub enum SplitAt {
     /// At an occurrence: the new provision begins with it, and has all children.
     Text(Spot),
@@ -51,7 +51,7 @@ pub enum SplitAt {
 }
 
 /// One edit of a tree. Its targets are named by wId, each 1 to 512 bytes; each text has at most 16,384 bytes.
-#[derive(Debug, Drop)]
+#[derive(Debug, PartialEq, Eq, Drop)]
 pub enum TextualMod {
     /// The target goes, with all that stands beneath it. The target `body` is the whole text.
     Repeal {

@@ -1,6 +1,6 @@
 //! What holds of every edit. Each law is a function that does nothing, whose clause is the law.
 
-ghost use Rattle.std.specs.Prelude.{◌≡◌, ◌||◌, ◌++◌, [], ◌∷◌, None, false, true, nat_eq};
+ghost use Rattle.std.specs.Prelude.{◌≡◌, ◌↔◌, ◌||◌, ◌++◌, ℕ, IsTrue, List, [], ◌∷◌, None, false, true, nat_eq};
 ghost use Rattle.std.specs.List.{starts_with};
 ghost use Rattle.act_tree.specs.Branches.{branches_of};
 ghost use Rattle.act_tree.specs.Brought.{bringer, has_brought};
@@ -12,6 +12,7 @@ ghost use Rattle.act_tree.specs.Wids.{all_wids, is_among, one_twice};
 ghost use Rattle.textual_mods.specs.Edits.{applied, outcome_of};
 ghost use Rattle.textual_mods.specs.Laws.{tree_with, IsMade, twice_changed, wid_of_second, nums_before, stand_apart, edits_apart, LooksAtNoSibling, made_of};
 ghost use Rattle.textual_mods.specs.Targets.{provision_named};
+ghost use Rattle.textual_mods.specs.declared.edit.TextualMod.{TextualMod as EditValue};
 ghost use Rattle.textual_mods.specs.declared.edit.TextualMod.TheVariants.{Join, Renumber, Split};
 ghost use Rattle.textual_mods.specs.declared.outcome.Outcome.TheVariants.{Unapplied};
 
@@ -104,4 +105,11 @@ pub fn edits_apart_go_in_either_order(
     requires both_made { IsMade (tree_with (tree_view tree.now) by one.now) other two.now }
     ensures made { IsMade (tree_with (tree_view tree.now) other two.now) by one.now }
     ensures same { tree_with (tree_with (tree_view tree.now) by one.now) other two.now ≡ tree_with (tree_with (tree_view tree.now) other two.now) by one.now }
+{}
+
+/// `==` holds of edits, and of pairs, exactly where they are equal.
+#[tactic(auto, using(crate::proofs::Equality::edits_decide, crate::specs::SamePairs::pairs_decide))]
+pub fn equality_is_decided()
+    ensures edits { (a b : EditValue) → IsTrue (⟦<TextualMod as PartialEq>⟧.eq a b) ↔ (a ≡ b) }
+    ensures pairs { (a b : List (List ℕ × List ℕ)) → IsTrue (⟦<Pairs as PartialEq>⟧.eq a b) ↔ (a ≡ b) }
 {}

@@ -2,7 +2,9 @@
 #![tactic(auto)]
 
 mod applying;
+mod copying;
 mod edit;
+mod fitting;
 mod held_back;
 mod joining;
 pub mod laws;
@@ -11,6 +13,7 @@ mod outcome;
 mod pairs;
 mod renumbering;
 mod settling;
+mod sizes;
 mod splitting;
 mod structure;
 mod targets;
@@ -18,5 +21,6 @@ mod text;
 
 pub use applying::apply;
 pub use edit::{Pos, SplitAt, Spot, TextPos, TextualMod};
+pub use fitting::MAX_ITEMS;
 pub use outcome::Outcome;
 pub use pairs::Pairs;

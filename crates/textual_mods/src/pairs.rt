@@ -1,6 +1,8 @@
 //! Pairs: a clause sees them as a list of pairs, each a wId and the num that its provision gets.
 
-ghost use Rattle.std.specs.Prelude.{◌≡◌, [], ◌++◌, ◌∷◌, OnOk, OnErr};
+ghost use Rattle.std.specs.Prelude.{◌≡◌, [], ◌++◌, ◌∷◌, IfOk, OnOk, OnErr};
+ghost use Rattle.std.specs.Cmp.{decided, partial_equiv_from_equiv};
+ghost use Rattle.textual_mods.specs.SamePairs.{same_pairs, pairs_decide};
 
 use desk_base::{Memory, Text};
 use eid_paths::Num;
@@ -46,4 +48,28 @@ impl Pairs {
     {
         self.items.as_slice()
     }
+    /// The same pairs; texts are shared.
+    pub fn copy(&self, alloc: Global) -> Result<Pairs, Memory>
+        ensures { IfOk result (λ pairs. pairs ≡ self.now) }
+    {
+        let mut copies = Pairs::new(alloc);
+        for (wid, num) in self.as_slice() {
+            copies.push(wid.copy()?, num.copy())?;
+        }
+        Ok(copies)
+    }
+}
+
+impl PartialEq for Pairs {
+    ghost eq = { same_pairs };
+
+    ghost laws = { partial_equiv_from_equiv (decided same_pairs pairs_decide) };
+
+    fn eq(&self, other: &Pairs) -> bool {
+        self.as_slice() == other.as_slice()
+    }
+}
+
+impl Eq for Pairs {
+    ghost laws = { decided same_pairs pairs_decide };
 }

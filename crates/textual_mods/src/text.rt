@@ -13,13 +13,10 @@ use crate::held_back::{held_back, or_step};
 use crate::occurrences::parted_at;
 use crate::targets::provision_named;
 use crate::{Outcome, Spot, TextPos};
-use act_tree::{Cause, NodeId, Tree};
+use act_tree::{Cause, MAX_TEXT_BYTES, NodeId, Tree};
 use desk_base::{Memory, Steps, Text};
 use std::alloc::Global;
 use std::sync::ledger::Ledger;
-
-// The most bytes that a content has.
-const MOST_BYTES: usize = 16_384;
 
 /// Puts a text in the place of an occurrence in the content of the target.
 pub fn substitute_text<L: Ledger>(
@@ -98,7 +95,7 @@ fn give_text<L: Ledger>(tree: &mut Tree, id: NodeId, text: Text, steps: &mut Ste
     ensures tree { tree_view tree.new ≡ tree_after (tree_view tree.old) (within_limits (tree_view tree.old) (Ok (changed (with_content text) (provision_at tree.old id).wid (tree_view tree.old).body))) }
     ensures step { steps.new ≡ steps.old + 1 }
 {
-    if text.as_str().len() > MOST_BYTES {
+    if text.as_str().len() > MAX_TEXT_BYTES {
         return held_back(Cause::TextTooLong, steps);
     }
     tree.set_content(id, text, steps);

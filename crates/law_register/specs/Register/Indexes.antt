@@ -24,7 +24,7 @@ use Rattle.law_register.specs.declared.register.verdict.Reply.{Reply}
 use Rattle.law_register.specs.Answer.Counted.{is_same_id}
 use Rattle.law_register.specs.Register.Drafts.{added, draft_of}
 use Rattle.law_register.specs.Register.KnownIds.{IdFacts, facts_of, enacted, ids_of}
-use Rattle.law_register.specs.Register.LawList.{laws, front}
+use Rattle.law_register.specs.Register.LawList.{acts_of, laws, front}
 use Rattle.law_register.specs.Law.Sizes.{entries_size}
 use Rattle.law_register.specs.Register.Verdicts.{request_of, drafters, concerns, last_on}
 
@@ -203,6 +203,13 @@ pub record WorkStands (entries : List Entry) (m : Option WorkMark) (found : Opti
   pub last : last_in m ≡ number
   pub ids : ids_in m ≡ count
 
+-- these are the indexes of the entries that enact acts
+abbrev pub ActsStand : List Entry → List ℕ → List Act → Type 0
+ActsStand entries [] [] = Unit {0}
+ActsStand entries (at ∷ ats) (act ∷ acts) = (told_at entries at act_of ≡ Some act) × ActsStand entries ats acts
+ActsStand entries [] (act ∷ acts) = ⊥
+ActsStand entries (at ∷ ats) [] = ⊥
+
 -- an id's mark leads to the entry that recorded it, which names its work, and to the entry that brings what it says
 abbrev pub IdStands : List Entry → Option IdMark → Option IdFacts → Type 0
 IdStands entries None None = Unit {0}
@@ -253,5 +260,6 @@ pub record StandFor (ix : Indexes) (entries : List Entry) : Type 0 where
   pub works : (work : List ℕ) → WorkStands entries (work_mark ix work) (enacted work (laws entries)) (last_on work (laws entries)) (length (ids_of work (laws entries)))
   pub ids : (id : Id) → IdStands entries (id_mark ix id) (facts_of id (laws entries))
   pub steps : StepsStand entries ix.bodies.items [] ix.steps.items (laws entries)
+  pub acts : ActsStand entries ix.acts.items (acts_of (laws entries))
   pub front : ix.front ≡ front entries
   pub size : ix.size ≡ entries_size entries

@@ -1,7 +1,8 @@
 -- The law: the law entries in order, numbered from 1.
 use Rattle.std.specs.Prelude.{ℕ, zero, suc, Option, Some, None, List, [], ◌∷◌, ◌++◌, map, length}
+use Rattle.law_register.specs.declared.law.act.Act.{Act}
 use Rattle.law_register.specs.declared.law.command.Command.{Command}
-use Rattle.law_register.specs.declared.law.command.Command.TheVariants.{Record, DraftAdd, DraftDrop, File}
+use Rattle.law_register.specs.declared.law.command.Command.TheVariants.{Enact, Record, DraftAdd, DraftDrop, File}
 use Rattle.law_register.specs.declared.register.draft.DraftItem.{DraftItem}
 use Rattle.law_register.specs.declared.register.entry.Entry.{Entry}
 use Rattle.law_register.specs.Register.Drafts.{items_of, draft_of}
@@ -26,6 +27,19 @@ laws_from before (e ∷ es) = law_of before e ++ laws_from (before ++ e ∷ []) 
 -- the law: the commands of the law entries in order
 abbrev pub laws : List Entry → List Command
 laws entries = laws_from [] entries
+
+-- the acts that law entries enact, in order
+abbrev pub acts_by : Command → List Act
+acts_by (Enact act) = act ∷ []
+acts_by _ = []
+
+abbrev pub acts_of : List Command → List Act
+acts_of [] = []
+acts_of (law ∷ laws) = acts_by law ++ acts_of laws
+
+-- the works that law entries enact, in order
+abbrev pub works_enacted : List Command → List (List ℕ)
+works_enacted laws = map (λ act. act.work) (acts_of laws)
 
 -- the front: how many law entries there are
 abbrev pub front : List Entry → ℕ

@@ -1,14 +1,17 @@
--- The law entries that concern a work, and its ids by their marks.
+-- The law entries that concern a work, its ids by their marks, and the items of a draft by theirs.
 use Rattle.std.specs.Prelude.{ℕ, ◌+◌, nat_le, List, [], ◌∷◌, ◌++◌, length, Option, Some, None, is_none, if◌then◌else◌}
 use Rattle.desk_base.specs.declared.id.Id.{Id}
+use Rattle.law_register.specs.declared.law.act.Act.{Act}
 use Rattle.law_register.specs.declared.law.command.Command.{Command}
+use Rattle.law_register.specs.declared.register.draft.DraftItem.{DraftItem}
 use Rattle.law_register.specs.declared.register.entry.Entry.{Entry}
 use Rattle.law_register.specs.declared.register.indexes.BodyMark.{BodyMark}
 use Rattle.law_register.specs.declared.register.indexes.EnactedMark.{EnactedMark}
 use Rattle.law_register.specs.declared.register.indexes.IdMark.{IdMark}
+use Rattle.law_register.specs.declared.register.indexes.ItemMark.{ItemMark}
 use Rattle.law_register.specs.declared.register.known.KnownMod.{KnownMod}
 use Rattle.law_register.specs.declared.law.modification.Modification.{Modification}
-use Rattle.law_register.specs.Register.Indexes.{told_at, body_of, id_after}
+use Rattle.law_register.specs.Register.Indexes.{told_at, work_named, act_of, body_of, id_after}
 use Rattle.law_register.specs.Register.KnownIds.{IdFacts}
 use Rattle.law_register.specs.Register.Verdicts.{is_of, concerns}
 
@@ -58,3 +61,25 @@ known_mark entries id (Some m) = known_told id m.withdrawn (told_at entries m.en
 abbrev pub known_marks : List Entry → (Id → Option IdMark) → List Id → List KnownMod
 known_marks entries mark [] = []
 known_marks entries mark (id ∷ ids) = known_mark entries id (mark id) ++ known_marks entries mark ids
+
+-- the works that the entries at these indexes enact
+abbrev pub work_told : Option Act → List (List ℕ)
+work_told None = []
+work_told (Some act) = act.work ∷ []
+
+abbrev pub works_at : List Entry → List ℕ → List (List ℕ)
+works_at entries [] = []
+works_at entries (at ∷ ats) = work_told (told_at entries at act_of) ++ works_at entries ats
+
+-- an item of a draft, by its mark
+abbrev pub item_told : ℕ → Option (List ℕ) → Option Modification → List DraftItem
+item_told item (Some work) (Some body) = record { item = item; work = work; body = body } ∷ []
+item_told item _ _ = []
+
+abbrev pub item_marked : List Entry → ItemMark → List DraftItem
+item_marked entries m = item_told m.item (told_at entries m.entry work_named) (told_at entries m.entry (body_of 0))
+
+-- items of a draft, by their marks
+abbrev pub items_marked : List Entry → List ItemMark → List DraftItem
+items_marked entries [] = []
+items_marked entries (m ∷ ms) = item_marked entries m ++ items_marked entries ms

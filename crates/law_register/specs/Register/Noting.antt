@@ -4,7 +4,7 @@ use Rattle.std.specs.Str.{bytes_eq}
 use Rattle.indexmap.specs.IndexMap.{index_map_len}
 use Rattle.desk_base.specs.declared.id.Id.{Id}
 use Rattle.law_register.specs.declared.law.command.Command.{Command}
-use Rattle.law_register.specs.declared.law.command.Command.TheVariants.{Record, DraftAdd, DraftDrop, File}
+use Rattle.law_register.specs.declared.law.command.Command.TheVariants.{Enact, Record, DraftAdd, DraftDrop, File}
 use Rattle.law_register.specs.declared.register.entry.Entry.{Entry}
 use Rattle.law_register.specs.declared.register.indexes.BodyMark.{BodyMark}
 use Rattle.law_register.specs.declared.register.indexes.Indexes.{Indexes}
@@ -58,6 +58,11 @@ with_step (DraftAdd work body) s steps = steps
 with_step (DraftDrop item) s steps = steps
 with_step _ s steps = steps ++ s ∷ []
 
+-- the indexes of the entries that enact, with that of a command which stands at one
+abbrev pub with_act : Command → ℕ → List ℕ → List ℕ
+with_act (Enact act) at ats = ats ++ at ∷ []
+with_act _ at ats = ats
+
 -- the step of an entry behind others
 abbrev pub new_step : Indexes → List Entry → Entry → StepMark
 new_step ix entries e = record {
@@ -93,5 +98,6 @@ pub record IsNoted (old new : Indexes) (entries : List Entry) (e : Entry) (reply
   pub ids : (i : Id) → id_mark new i ≡ id_after (old.front + 1) (length entries) e.command (new_bodies old entries e) i (id_mark old i)
   pub steps : new.steps.items ≡ with_step e.command (new_step old entries e) old.steps.items
   pub bodies : new.bodies.items ≡ old.bodies.items ++ new_bodies old entries e
+  pub acts : new.acts.items ≡ with_act e.command (length entries) old.acts.items
   pub front : new.front ≡ old.front + law_count e.command
   pub size : new.size ≡ old.size + entry_size e

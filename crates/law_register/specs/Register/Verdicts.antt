@@ -3,7 +3,11 @@ use Rattle.std.specs.Prelude.{ℕ, ◌+◌, ◌==◌, nat_le, nat_lt, Bool, true
 use Rattle.std.specs.List.{list_any}
 use Rattle.std.specs.Str.{bytes_eq}
 use Rattle.desk_base.specs.declared.id.Id.{Id}
+use Rattle.desk_base.specs.Periods.{ends_after_its_start}
 use Rattle.act_tree.specs.Branches.{branches_of}
+use Rattle.act_tree.specs.Faults.{first_fault}
+use Rattle.act_tree.specs.Limits.{have_few_refs}
+use Rattle.textual_mods.specs.declared.fitting.TheConstants.{MAX_ITEMS}
 use Rattle.act_tree.specs.declared.build_fault.BuildFault.{BuildFault}
 use Rattle.law_register.specs.declared.law.act.Act.{Act}
 use Rattle.law_register.specs.declared.law.command.Command.{Command}
@@ -20,7 +24,7 @@ use Rattle.law_register.specs.declared.register.verdict.Reply.{Reply}
 use Rattle.law_register.specs.declared.register.verdict.Reply.TheVariants as reply
 use Rattle.law_register.specs.declared.register.verdict.Verdict.{Verdict}
 use Rattle.law_register.specs.declared.register.verdict.Verdict.TheVariants.{Accepted, Repeat, Refused}
-use Rattle.law_register.specs.Law.Bounds.{most_items, have_few_refs, modification_fits, period_fits, times_fit, first_fault_of, brought_fault}
+use Rattle.law_register.specs.Law.Bounds.{modification_fits, times_fit, brought_fault}
 use Rattle.law_register.specs.Register.Drafts.{is_by, added, items_of, draft_of}
 use Rattle.law_register.specs.Register.KnownIds.{IdFacts, facts_of, enacted, ids_of}
 use Rattle.law_register.specs.Register.LawList.{laws, front}
@@ -148,7 +152,7 @@ tree_rule None = None
 tree_rule (Some fault) = Some (BadTree fault)
 
 abbrev pub bad_tree : Command → Option Rule
-bad_tree (Enact act) = tree_rule (first_fault_of act.numbering act.body)
+bad_tree (Enact act) = tree_rule (first_fault act.numbering (branches_of act.body))
 bad_tree command = first_item (λ number m. tree_rule (brought_fault m)) 1 (brought_by command)
 
 -- BadModification: a list that is empty or too long, or the first item that breaks a bound
@@ -157,7 +161,7 @@ bad_item number m = broken_where (not (modification_fits m)) (BadModification nu
 
 abbrev pub bad_record : List Modification → Option Rule
 bad_record mods =
-    rule_or (broken_where (not (nat_lt 0 (length mods) && nat_le (length mods) most_items)) (BadModification 0)) (first_item bad_item 1 mods)
+    rule_or (broken_where (not (nat_lt 0 (length mods) && nat_le (length mods) MAX_ITEMS)) (BadModification 0)) (first_item bad_item 1 mods)
 
 abbrev pub bad_modification : Command → Option Rule
 bad_modification (Enact act) = broken_where (not (have_few_refs (branches_of act.body))) (BadModification 0)
@@ -169,7 +173,7 @@ abbrev pub bad_times : ℕ → Modification → Option Rule
 bad_times number m = broken_where (not (times_fit m)) (BadPeriod number)
 
 abbrev pub bad_period : Command → Option Rule
-bad_period (Enact act) = broken_where (not (period_fits act.force)) (BadPeriod 0)
+bad_period (Enact act) = broken_where (not (ends_after_its_start act.force)) (BadPeriod 0)
 bad_period command = first_item bad_times 1 (brought_by command)
 
 -- an id is recorded in a work

@@ -1,12 +1,15 @@
 //! An act as it was enacted.
 
+ghost use Rattle.std.specs.Prelude.{◌≡◌, IfOk};
+
 use act_tree::Nodes;
-use desk_base::{Day, Period};
+use desk_base::{Day, Memory, Period};
 use eid_paths::Numbering;
 use frbr_names::WorkName;
+use std::alloc::Global;
 
 /// An act as it was enacted.
-#[derive(Debug, Drop)]
+#[derive(Debug, PartialEq, Eq, Drop)]
 pub struct Act {
     /// The IRI of the work.
     pub work: WorkName,
@@ -20,4 +23,20 @@ pub struct Act {
     pub force: Period,
     /// The children of its root.
     pub body: Nodes,
+}
+
+impl Act {
+    /// The same act; its texts are shared.
+    pub fn copy(&self, alloc: Global) -> Result<Act, Memory>
+        ensures { IfOk result (λ act. act ≡ self.now) }
+    {
+        Ok(Act {
+            work: self.work.copy()?,
+            language: self.language,
+            day: self.day,
+            numbering: self.numbering,
+            force: self.force,
+            body: self.body.copy(alloc)?,
+        })
+    }
 }

@@ -5,7 +5,7 @@ use desk_base::Id;
 use frbr_names::WorkName;
 
 /// What a drafter asks for.
-#[derive(Debug, Drop)]
+#[derive(Debug, PartialEq, Eq, Drop)]
 pub enum Command {
     /// The act exists from this entry on.
     Enact {

@@ -10,7 +10,7 @@ use std::marker::Model;
 use textual_mods::TextualMod;
 
 /// The place of the provision that modifies: the act, and the order within it.
-#[derive(Debug, Drop)]
+#[derive(Debug, PartialEq, Eq, Drop)]
 pub struct ModSource {
     /// The IRI of the work that modifies.
     pub href: WorkName,
@@ -56,7 +56,7 @@ impl Destination {
 }
 
 /// A modification of an act.
-#[derive(Debug, Drop)]
+#[derive(Debug, PartialEq, Eq, Drop)]
 pub enum Modification {
     /// A textual modification: while its force period includes a day, it makes one edit.
     Textual {
@@ -89,6 +89,49 @@ pub enum Modification {
         /// What it does to the period, or on which days it takes efficacy away.
         effect: EfficacyEffect,
     },
+}
+
+impl Modification {
+    ghost use Rattle.std.specs.Prelude.{IfOk};
+
+    /// The same modification; its texts are shared.
+    pub fn copy(&self, alloc: Global) -> Result<Modification, Memory>
+        ensures { IfOk result (λ modification. modification ≡ self.now) }
+    {
+        match self {
+            Modification::Textual {
+                source,
+                force,
+                edit,
+            } => Ok(Modification::Textual {
+                source: source.copy()?,
+                force: *force,
+                edit: edit.copy(alloc)?,
+            }),
+            Modification::Force {
+                source,
+                destination,
+                on,
+                effect,
+            } => Ok(Modification::Force {
+                source: source.copy()?,
+                destination: destination.copy()?,
+                on: *on,
+                effect: *effect,
+            }),
+            Modification::Efficacy {
+                source,
+                destination,
+                on,
+                effect,
+            } => Ok(Modification::Efficacy {
+                source: source.copy()?,
+                destination: destination.copy()?,
+                on: *on,
+                effect: *effect,
+            }),
+        }
+    }
 }
 
 /// Modifications in order. A clause sees them as a list.
@@ -144,4 +187,25 @@ impl Mods {
     {
         self.items
     }
+}
+
+impl PartialEq for Mods {
+    ghost use Rattle.std.specs.Cmp.Lexicographic.{pointwise, lists_per};
+    ghost use Rattle.law_register.specs.contracts.law.modification.ModificationPartialEq.TheImpl.{ghosts};
+    ghost use Rattle.law_register.specs.contracts.law.modification.ModificationPartialEq.TheImpl.Laws.{laws-law};
+
+    ghost eq = { pointwise ghosts.eq };
+
+    ghost laws = { lists_per laws-law };
+
+    fn eq(&self, other: &Mods) -> bool {
+        self.as_slice() == other.as_slice()
+    }
+}
+
+impl Eq for Mods {
+    ghost use Rattle.std.specs.Cmp.Lexicographic.{lists_equiv};
+    ghost use Rattle.law_register.specs.contracts.law.modification.ModificationEq.TheImpl.Laws.{laws-law};
+
+    ghost laws = { lists_equiv laws-law };
 }

@@ -16,7 +16,7 @@ use std::marker::Model;
 /// The name of a drafter: 1 to 32 bytes of lower-case letters, digits, `-`, `.` and `_`.
 #[derive(Debug, Drop)]
 pub struct Drafter {
-    name: Text,
+    pub(crate) name: Text,
 }
 
 impl Model for Drafter {

@@ -142,6 +142,8 @@ pub struct Indexes {
     pub steps: Vec<StepMark>,
     /// The modifications that all law entries record, in order.
     pub bodies: Vec<BodyMark>,
+    /// The indexes of the entries that enact, in order.
+    pub acts: Vec<usize>,
     /// How many law entries there are.
     pub front: u32,
     /// How many bytes all entries take.
@@ -169,7 +171,7 @@ pub fn work_key(work: &WorkName) -> WorkKey
 
 impl Indexes {
     ghost use Rattle.law_register.specs.Register.Indexes.{request_mark, drafter_mark, work_mark, id_mark, StandFor};
-    ghost use Rattle.law_register.specs.Register.Registers.{index_room, IsSame};
+    ghost use Rattle.law_register.specs.Register.Registers.{index_room, IsSame, HasRoomOf};
     ghost use Rattle.std.specs.Prelude.{OnOk};
 
     /// The indexes of no entries. They take no memory.
@@ -183,6 +185,7 @@ impl Indexes {
             ids: IndexMap::new(alloc),
             steps: Vec::new(alloc),
             bodies: Vec::new(alloc),
+            acts: Vec::new(alloc),
             front: 0,
             size: 0,
         }
@@ -191,6 +194,7 @@ impl Indexes {
     /// Makes room for one more entry, whichever it is.
     pub fn reserve(&mut self) -> Result<(), Memory>
         ensures same { IsSame self.old self.new }
+        ensures kept { HasRoomOf self.old self.new }
         ensures room { OnOk result (1 ≤ index_room self.new) }
     {
         self.requests.reserve(1)?;
@@ -199,6 +203,7 @@ impl Indexes {
         self.ids.reserve(64)?;
         self.steps.reserve(1)?;
         self.bodies.reserve(64)?;
+        self.acts.reserve(1)?;
         Ok(())
     }
 

@@ -8,7 +8,6 @@ ghost use Rattle.law_register.specs.Register.LawList.{laws};
 ghost use Rattle.law_register.specs.Register.Verdicts as verdicts;
 
 use crate::law::bounds::{bad_modification, bad_period, bad_tree};
-use crate::law::same::is_same_command;
 use crate::law::sizes::size_of;
 use crate::register::telling;
 use crate::{Command, Destination, Drafter, Entry, Modification, Register, Reply, Rule, Verdict};
@@ -35,10 +34,11 @@ const MOST_ENTRY_BYTES: u64 = 16_777_216;
 const MOST_REGISTER_BYTES: u32 = 536_870_912;
 
 // What is said of a command whose request is that of this entry, which got this reply.
+#[tactic(auto, unfolding(crate::specs::Law::Same::same_command))]
 fn again(entry: &Entry, reply: Reply, command: &Command) -> Verdict
     ensures { result ≡ verdicts.again command.now (entry.now, reply) }
 {
-    if is_same_command(&entry.command, command) {
+    if entry.command == *command {
         return Verdict::Repeat(reply);
     }
     match reply {

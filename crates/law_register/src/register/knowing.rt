@@ -12,7 +12,6 @@ ghost use Rattle.law_register.specs.Register.Listing.{enacted_within, id_told, i
 ghost use Rattle.law_register.specs.Register.LawList.{laws};
 ghost use Rattle.law_register.specs.Register.Registers.{IsKept};
 
-use crate::law::copying::{copy_act, copy_modification};
 use crate::register::indexes::{BodyMark, EnactedMark, IdMark, Indexes, KnownIds, StepMark};
 use crate::register::noting::{last_on, note_ids};
 use crate::register::telling;
@@ -162,7 +161,7 @@ fn add_known(
             let known = KnownMod {
                 id,
                 live: mark.withdrawn.is_none(),
-                body: copy_modification(alloc, body)?,
+                body: body.copy(alloc)?,
             };
             Ok(mods.push(known)?)
         }
@@ -232,7 +231,7 @@ fn known_of_act(
         Some(act) => {
             let known = ids_of(alloc, indexes, entries, work, viewpoint)?;
             Ok(Some(Known {
-                act: copy_act(alloc, act)?,
+                act: act.copy(alloc)?,
                 enacted: mark.number,
                 viewpoint,
                 front,

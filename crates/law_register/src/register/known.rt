@@ -1,7 +1,8 @@
 //! What is known of a work at a viewpoint: its act as enacted, and its modifications.
 
-ghost use Rattle.std.specs.Prelude.{◌≡◌, [], ◌++◌, ◌∷◌, OnOk, OnErr};
+ghost use Rattle.std.specs.Prelude.{◌≡◌, [], ◌++◌, ◌∷◌, OnOk, OnErr, IfOk, take};
 
+use crate::law::copying::{copy_act, copy_modification};
 use crate::{Act, Modification};
 use desk_base::{Id, Memory};
 use std::alloc::Global;
@@ -16,6 +17,19 @@ pub struct KnownMod {
     pub live: bool,
     /// What it says, as it was last recorded or corrected.
     pub body: Modification,
+}
+
+impl KnownMod {
+    /// The same modification; its texts are shared.
+    pub fn copy(&self, alloc: Global) -> Result<KnownMod, Memory>
+        ensures { IfOk result (λ copy. copy ≡ self.now) }
+    {
+        Ok(KnownMod {
+            id: self.id,
+            live: self.live,
+            body: copy_modification(alloc, &self.body)?,
+        })
+    }
 }
 
 /// The modifications of a work in ascending order of their ids. A clause sees them as a list.
@@ -64,6 +78,17 @@ impl KnownMods {
     {
         self.items.as_slice()
     }
+
+    /// The same modifications; their texts are shared.
+    pub fn copy(&self, alloc: Global) -> Result<KnownMods, Memory>
+        ensures { IfOk result (λ copy. copy ≡ self.now) }
+    {
+        let mut copies = KnownMods::new(alloc);
+        for known in self.as_slice() {
+            copies.push(known.copy(alloc)?)?;
+        }
+        Ok(copies)
+    }
 }
 
 /// A work as it is known at a viewpoint.
@@ -79,4 +104,19 @@ pub struct Known {
     pub front: u32,
     /// Its modifications.
     pub mods: KnownMods,
+}
+
+impl Known {
+    /// The same work as it is known; its texts are shared.
+    pub fn copy(&self, alloc: Global) -> Result<Known, Memory>
+        ensures { IfOk result (λ copy. copy ≡ self.now) }
+    {
+        Ok(Known {
+            act: copy_act(alloc, &self.act)?,
+            enacted: self.enacted,
+            viewpoint: self.viewpoint,
+            front: self.front,
+            mods: self.mods.copy(alloc)?,
+        })
+    }
 }

@@ -421,6 +421,17 @@ fn note_bodies(all: &mut Vec<BodyMark>, bodies: &[BodyMark])
     }
 }
 
+// Notes a command, at this index, if it enacts.
+fn note_act(acts: &mut Vec<usize>, command: &Command, at: usize)
+    requires { vec_len acts.old < vec_capacity acts.old }
+    ensures { acts.new.items ≡ noting.with_act command.now at acts.old.items }
+{
+    match command {
+        Command::Enact { .. } => acts.push_reserved(at),
+        _ => {}
+    }
+}
+
 /// 1 for a law entry, 0 for an entry of a draft.
 pub fn law_count(command: &Command) -> u32
     ensures { result ≡ noting.law_count command.now }
@@ -467,6 +478,7 @@ impl Indexes {
         };
         note_step(&mut self.steps, command, step);
         note_bodies(&mut self.bodies, &bodies);
+        note_act(&mut self.acts, command, at);
         note_touched(
             &mut self.works,
             work,

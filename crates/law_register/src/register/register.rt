@@ -6,7 +6,7 @@ ghost use Rattle.law_register.specs.Register.Verdicts as verdicts;
 
 use crate::register::indexes::Indexes;
 use crate::register::telling;
-use crate::{Command, Drafter, Entry, Reply};
+use crate::{Command, Draft, Drafter, Entry, Modification, Reply};
 use desk_base::{Id, Memory};
 use frbr_names::WorkName;
 use std::alloc::Global;
@@ -40,8 +40,12 @@ impl Model for Register {
 impl Register {
     ghost use Rattle.law_register.specs.Register.Drafts.{added, draft_of, items_of};
     ghost use Rattle.law_register.specs.Register.KnownIds.{facts_of, enacted, ids_of};
-    ghost use Rattle.law_register.specs.Register.LawList.{laws};
+    ghost use Rattle.law_register.specs.Register.LawList.{laws, works_enacted};
+    ghost use Rattle.std.specs.Prelude.{IsPermutation, IsSorted};
+    ghost use Rattle.std.specs.Ordering.{nat_cmp};
+    ghost use Rattle.std.specs.Cmp.Lexicographic.{slice_cmp};
     ghost use Rattle.law_register.specs.Law.Sizes.{entries_size};
+    ghost use Rattle.law_register.specs.Law.Spelling.{is_well_spelled};
     ghost use Rattle.std.specs.List.{list_any};
     ghost use Rattle.std.specs.Str.{bytes_eq};
 
@@ -78,9 +82,10 @@ impl Register {
         &self.entries[index]
     }
 
-    /// Makes room for one more entry, whichever it is.
+    /// Makes room for one more entry, whichever it is. Whatever comes of it, there is room for no fewer than before.
     pub fn reserve(&mut self, _entry: &Entry) -> Result<(), Memory>
         ensures entries { self.new.entries ≡ self.old.entries }
+        ensures spare { self.old.spare ≤ self.new.spare }
         ensures room { OnOk result (1 ≤ self.new.spare) }
     {
         self.entries.reserve(1)?;
@@ -88,10 +93,11 @@ impl Register {
         Ok(())
     }
 
-    /// Appends an entry that is accepted behind the others with its law number. It takes no memory.
+    /// Appends a well-spelled entry that is accepted behind the others with its law number. It takes no memory.
     pub fn push(&mut self, entry: Entry)
         requires room { 1 ≤ self.old.spare }
         requires accepted { verdicts.is_accepted entry.law (verdicts.verdict self.old.entries entry.drafter entry.request entry.command) ≡ true }
+        requires spelled { is_well_spelled entry.command ≡ true }
         ensures { self.new.entries ≡ self.old.entries ++ entry ∷ [] }
     {
         let reply = self.reply_to(&entry.drafter, &entry.command);
@@ -152,6 +158,16 @@ impl Register {
         }
     }
 
+    /// The items of a drafter's draft, in order.
+    pub fn draft(&self, alloc: Global, drafter: &Drafter) -> Result<Draft, Memory>
+        ensures { IfOk result (λ draft. draft ≡ draft_of drafter.now self.now.entries) }
+    {
+        match self.indexes.drafter(drafter) {
+            Some(mark) => telling::items_told(alloc, &self.entries, &mark.items),
+            None => Ok(Draft::new(alloc)),
+        }
+    }
+
     // How many items of a drafter's draft modify a work.
     pub(crate) fn items_of(&self, drafter: &Drafter, work: &WorkName) -> usize
         ensures { result ≡ length (items_of work.now (draft_of drafter.now self.now.entries)) }
@@ -170,6 +186,16 @@ impl Register {
             Some(mark) => Some(mark.number),
             None => None,
         }
+    }
+
+    /// The works that law entries enact, in the order of the bytes of their IRIs.
+    pub fn works(&self, alloc: Global) -> Result<Vec<WorkName>, Memory>
+        ensures all { IfOk result (λ works. IsPermutation (works_enacted (laws self.now.entries)) works.items) }
+        ensures order { IfOk result (λ works. IsSorted (slice_cmp nat_cmp) works.items) }
+    {
+        let mut works = telling::works_at(alloc, &self.entries, &self.indexes.acts)?;
+        works.sort()?;
+        Ok(works)
     }
 
     // The number of the last law entry that concerns a work, or 0.
@@ -192,12 +218,22 @@ impl Register {
         }
     }
 
-    // The work of an id. `None`: it is not recorded.
-    pub(crate) fn work_of(&self, id: Id) -> Option<&WorkName>
+    /// The work that an id modifies. `None`: it is not recorded.
+    pub fn work_of(&self, id: Id) -> Option<&WorkName>
         ensures { option_map (λ work. work.now) result ≡ option_map (λ f. f.work) (facts_of id (laws self.now.entries)) }
     {
         match self.indexes.id(id) {
             Some(mark) => telling::work_at(&self.entries, mark.recorded),
+            None => None,
+        }
+    }
+
+    /// What an id says, as it was last recorded or corrected. `None`: it is not recorded.
+    pub fn body_of(&self, id: Id) -> Option<&Modification>
+        ensures { option_map (λ body. body.now) result ≡ option_map (λ f. f.body) (facts_of id (laws self.now.entries)) }
+    {
+        match self.indexes.id(id) {
+            Some(mark) => telling::body_at(&self.entries, mark.entry, mark.place),
             None => None,
         }
     }
@@ -213,8 +249,8 @@ impl Register {
         }
     }
 
-    // Whether an id stands, or else the number of the law entry that withdrew it. `None`: it is not recorded.
-    pub(crate) fn withdrawn(&self, id: Id) -> Option<Option<u32>>
+    /// The number of the law entry that withdrew an id, or `None` where the id stands. `None` in place of both: it is not recorded.
+    pub fn withdrawn(&self, id: Id) -> Option<Option<u32>>
         ensures { result ≡ option_map (λ f. f.withdrawn) (facts_of id (laws self.now.entries)) }
     {
         match self.indexes.id(id) {

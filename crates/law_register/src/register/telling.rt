@@ -1,14 +1,18 @@
 //! What the command of an entry tells: the work that it names, the act that it enacts, the modification that it brings.
 
-ghost use Rattle.std.specs.Prelude.{◌≡◌, ◌==◌, ◌&&◌, ℕ, List, [], ◌∷◌, ◌++◌, ◌≤◌, length, filter, not, option_map, slice_get};
+ghost use Rattle.std.specs.Prelude.{◌≡◌, ◌==◌, ◌&&◌, ℕ, List, [], ◌∷◌, ◌++◌, ◌≤◌, length, filter, not, option_map, slice_get, Some, IfOk, OnOk};
 ghost use Rattle.law_register.specs.Register.Indexes.{told_at, work_named, act_of, body_of, marks_work};
+ghost use Rattle.law_register.specs.Register.Listing.{item_told, item_marked, items_marked, work_told, works_at};
 ghost use Rattle.law_register.specs.Register.Verdicts.{kind_of};
 ghost use Rattle.std.specs.List.{list_any};
 
+use crate::law::copying::copy_modification;
 use crate::register::indexes::{ItemMark, ItemMarks};
-use crate::{Act, Command, Entry, Modification};
+use crate::{Act, Command, Draft, DraftItem, Entry, Modification};
 use arrayvec::ArrayVec;
+use desk_base::Memory;
 use frbr_names::WorkName;
+use std::alloc::Global;
 
 /// The work that a command names.
 pub fn work_named(command: &Command) -> Option<&WorkName>
@@ -75,6 +79,27 @@ pub fn act_at(entries: &[Entry], index: usize) -> Option<&Act>
     }
 }
 
+// Adds the work that the entry at an index enacts.
+fn add_work(entries: &[Entry], at: usize, works: &mut Vec<WorkName>) -> Result<(), Memory>
+    ensures { OnOk result (works.new.items ≡ works.old.items ++ work_told (told_at entries.now at act_of)) }
+{
+    match act_at(entries, at) {
+        Some(act) => Ok(works.push(act.work.copy()?)?),
+        None => Ok(()),
+    }
+}
+
+/// The works that the entries at these indexes enact.
+pub fn works_at(alloc: Global, entries: &[Entry], ats: &[usize]) -> Result<Vec<WorkName>, Memory>
+    ensures { IfOk result (λ works. works.items ≡ works_at entries.now ats.now) }
+{
+    let mut works = Vec::new(alloc);
+    for at in ats {
+        add_work(entries, *at, &mut works)?;
+    }
+    Ok(works)
+}
+
 /// The kind of a modification: 0 textual, 1 of force, 2 of efficacy.
 pub fn kind_of(modification: &Modification) -> u8
     ensures { result ≡ kind_of modification.now }
@@ -136,6 +161,55 @@ pub fn without_item(items: &[ItemMark], item: u32) -> ItemMarks
         }
     }
     kept
+}
+
+// Adds an item of a draft that modifies this work.
+fn add_item(
+    alloc: Global,
+    entries: &[Entry],
+    mark: ItemMark,
+    work: &WorkName,
+    draft: &mut Draft,
+) -> Result<(), Memory>
+    ensures { OnOk result (draft.new ≡ draft.old ++ item_told mark.item (Some work.now) (told_at entries.now mark.entry (body_of 0))) }
+{
+    match body_at(entries, mark.entry, 0) {
+        Some(body) => {
+            let item = DraftItem {
+                item: mark.item,
+                work: work.copy()?,
+                body: copy_modification(alloc, body)?,
+            };
+            Ok(draft.push(item)?)
+        }
+        None => Ok(()),
+    }
+}
+
+// Adds an item of a draft, by its mark.
+fn add_marked(
+    alloc: Global,
+    entries: &[Entry],
+    mark: ItemMark,
+    draft: &mut Draft,
+) -> Result<(), Memory>
+    ensures { OnOk result (draft.new ≡ draft.old ++ item_marked entries.now mark) }
+{
+    match work_at(entries, mark.entry) {
+        Some(work) => add_item(alloc, entries, mark, work, draft),
+        None => Ok(()),
+    }
+}
+
+/// The items of a draft, by their marks.
+pub fn items_told(alloc: Global, entries: &[Entry], marks: &[ItemMark]) -> Result<Draft, Memory>
+    ensures { IfOk result (λ draft. draft ≡ items_marked entries.now marks.now) }
+{
+    let mut draft = Draft::new(alloc);
+    for mark in marks {
+        add_marked(alloc, entries, *mark, &mut draft)?;
+    }
+    Ok(draft)
 }
 
 /// Whether one of the items of a draft has a number.

@@ -16,8 +16,8 @@ pub lay-returns-clause-laid : goal.lay-returns-clause-laid
 lay-returns-clause-laid t c =
     laid_node c.args.arena.now c.add.new.self c.lay_all.new.arena c.set_below.new.self c.args.slot c.in_ok-id.id c.in_ok-below.below
     (all_enacted c.args.numbering (option_map (λ s. s.now) c.args.wid) (branches_of c.args.children.now))
-    c.in_ok-id.ensures.id c.in_ok-id.ensures.slots c.in_ok-id.ensures.numbers c.requires c.in_ok-below.ensures.laid
-    (record { numbers = c.set_below.ensures.numbers; slots = c.set_below.ensures.slots }) c.in_ok-id.ensures.fits
+    c.in_ok-id.ensures.id c.in_ok-id.ensures.slots c.in_ok-id.ensures.numbers c.requires.below c.in_ok-below.ensures.laid
+    (record { numbers = c.set_below.ensures.numbers; slots = c.set_below.ensures.slots }) c.in_ok-id.ensures.fits c.requires.num
 
 pub lay_all-loop-node-preserved : goal.lay_all-loop-node-preserved
 lay_all-loop-node-preserved t c =
@@ -57,7 +57,7 @@ lay-returns-in_err-below-clause-kept t c =
     let below = all_wids (all_enacted c.args.numbering (option_map (λ s. s.now) c.args.wid) (branches_of c.args.children.now)) in
     on_err c.from_residual-in_err-below.result _
     (grown_on c.args.arena.now c.add.new.self c.lay_all.new.arena (slot.wid ∷ []) below (slot.wid ∷ below)
-    (grown_added c.args.arena.now c.add.new.self slot c.in_ok-id.ensures.slots c.in_ok-id.ensures.numbers c.requires c.in_ok-id.ensures.fits)
+    (grown_added c.args.arena.now c.add.new.self slot c.in_ok-id.ensures.slots c.in_ok-id.ensures.numbers c.requires.below c.in_ok-id.ensures.fits)
     c.in_err-below.ensures.kept (covers_node slot.wid below) (covers_below slot.wid below))
 
 pub lay_all-returns-in_err-slot-clause-kept : goal.lay_all-returns-in_err-slot-clause-kept

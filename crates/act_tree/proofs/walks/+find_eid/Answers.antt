@@ -29,7 +29,7 @@ find_eid-requires t c =
     let under : AreUnder c.args.tree.now (option_map (λ s. s.now) c.args.above) c.args.ids.now = search rules in
     let node : has_node c.args.tree.now c.id-item.result ≡ true = ap (has_node c.args.tree.now) c.id-item.is ∙ (under c.loop-id.id-index c.id-item.result within).0 in
     let lower = children_lower c.args.tree.now c.args.ids.now c.children-children.result.now c.loop-id.id-index c.id-item.result within c.id-item.is c.children-children.ensures.branches in
-    (search (rules, lower), children_of c.args.tree.now c.id-item.result (Some c.as_str-in-loop-id.result.now) c.children-children.result.now node (ap (λ w. Some w) c.as_str-in-loop-id.ensures ∙ c.in_ok-own.ensures) c.children-children.ensures.numbers)
+    (search (rules, lower), children_of c.args.tree.now c.id-item.result (Some c.as_str-in-loop-id.result.now) c.children-children.result.now node (ap (λ w. Some w) c.as_str-in-loop-id.ensures ∙ sym c.in_ok-own.ensures) c.children-children.ensures.numbers)
 
 pub returns-then-is_some-clause-found : goal.returns-then-is_some-clause-found
 returns-then-is_some-clause-found t c =

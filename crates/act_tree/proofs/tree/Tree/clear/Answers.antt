@@ -1,3 +1,4 @@
+use Rattle.act_tree.proofs.StayingNodes.{nodes_stay, index_stays}
 use Rattle.std.proofs.Common.{ap}
 use Rattle.act_tree.specs.Seen.{tree_view, provision_at}
 use Rattle.act_tree.specs.Trees.{TreeValue}
@@ -23,3 +24,6 @@ returns-clause-tree c =
 pub returns-clause-says : goal.returns-clause-says
 unfolding provision_at
 returns-clause-says c = (left_emptied c.args.self.now.arena c.take_all.new.self c.args.self.now.whole c.take_all.ensures.numbers c.take_all.ensures.size c.take_all.ensures.emptied).says
+
+pub returns-clause-stay : goal.returns-clause-stay
+returns-clause-stay c = nodes_stay c.args.self.now _ (index_stays c.args.self.now.arena c.args.self.now.whole c.take_all.new.self c.take_all.ensures.numbers)

@@ -1,3 +1,4 @@
+use Rattle.act_tree.proofs.StayingNodes.{counted, same_stay}
 use Rattle.std.proofs.Common.{◌∙◌, ap, List, ℕ}
 use Rattle.act_tree.specs.Changes.{changed, is_in, parted}
 use Rattle.act_tree.specs.Seen.{tree_view, provision_at, children_at}
@@ -30,3 +31,10 @@ returns-clause-tree g c =
     c.count_change.ensures.tree
     ∙ ap (λ v. changed_once v v.body) c.in_ok-part.ensures.tree
     ∙ ap (λ p. changed_once old (changed (parted c.args.first_child c.args.head p) wid old.body)) c.in_ok-second.ensures.provision
+
+pub returns-in_err-second-clause-stay : goal.returns-in_err-second-clause-stay
+returns-in_err-second-clause-stay g c = same_stay c.args.self.now
+
+pub returns-clause-stay : goal.returns-clause-stay
+returns-clause-stay g c =
+    counted c.args.self.now c.part.new.self c.count_change.new.self _ c.in_ok-part.ensures.stay c.count_change.ensures.tree c.count_change.ensures.nodes c.count_change.ensures.says

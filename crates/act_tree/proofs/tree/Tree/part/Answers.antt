@@ -1,3 +1,4 @@
+use Rattle.act_tree.proofs.StayingNodes.{LeadsStill, nodes_stay, stay_parted, stay_same}
 use Rattle.std.proofs.Common.{ap}
 use Rattle.act_tree.specs.Arena.{IsWhole}
 use Rattle.act_tree.specs.Seen.{has_node, tree_view, provision_at, children_at}
@@ -16,7 +17,7 @@ unfolding has_node tree_view children_at
 invariant_of-self c =
     let old = c.args.self.now.arena in
     let new = c.part.new.self in
-    let ends = part_ends c.part.result old new c.args.id c.args.first_child c.args.head c.args.second c.args.self.now.whole c.requires.node c.requires.provision c.requires.fresh c.requires.above c.requires.below
+    let ends = part_ends c.part.result old new c.args.id c.args.first_child c.args.head c.args.second c.args.self.now.whole c.requires.node c.requires.provision c.requires.fresh c.requires.above c.requires.below c.requires.num
     c.part.ensures.parted c.part.ensures.numbers c.part.ensures.sizes c.part.ensures.fits c.part.ensures.slots_kept c.part.ensures.numbers_kept in
     record { whole = either_way c.part.result _ _ (IsWhole (at new) (number new) (size new)) (λ is. is.whole) (λ is. is.whole) ends.0 ends.1 }
 
@@ -25,7 +26,7 @@ unfolding has_node tree_view children_at provision_at
 returns-clause-tree c =
     let old = c.args.self.now.arena in
     let new = c.part.new.self in
-    let ends = part_ends c.part.result old new c.args.id c.args.first_child c.args.head c.args.second c.args.self.now.whole c.requires.node c.requires.provision c.requires.fresh c.requires.above c.requires.below
+    let ends = part_ends c.part.result old new c.args.id c.args.first_child c.args.head c.args.second c.args.self.now.whole c.requires.node c.requires.provision c.requires.fresh c.requires.above c.requires.below c.requires.num
     c.part.ensures.parted c.part.ensures.numbers c.part.ensures.sizes c.part.ensures.fits c.part.ensures.slots_kept c.part.ensures.numbers_kept in
     on_ok_map c.part.result _ _ (λ is. ap {B = TreeValue} (λ body. record { numbering = c.args.self.now.numbering; body = body; changes = c.args.self.now.changes }) is.reads) ends.0
 
@@ -34,6 +35,15 @@ unfolding has_node tree_view children_at
 returns-clause-kept c =
     let old = c.args.self.now.arena in
     let new = c.part.new.self in
-    let ends = part_ends c.part.result old new c.args.id c.args.first_child c.args.head c.args.second c.args.self.now.whole c.requires.node c.requires.provision c.requires.fresh c.requires.above c.requires.below
+    let ends = part_ends c.part.result old new c.args.id c.args.first_child c.args.head c.args.second c.args.self.now.whole c.requires.node c.requires.provision c.requires.fresh c.requires.above c.requires.below c.requires.num
     c.part.ensures.parted c.part.ensures.numbers c.part.ensures.sizes c.part.ensures.fits c.part.ensures.slots_kept c.part.ensures.numbers_kept in
     on_err_map c.part.result _ _ (λ is. ap {B = TreeValue} (λ body. record { numbering = c.args.self.now.numbering; body = body; changes = c.args.self.now.changes }) is.reads) ends.1
+
+pub returns-clause-stay : goal.returns-clause-stay
+unfolding tree_view
+returns-clause-stay c =
+    let old = c.args.self.now.arena in
+    let new = c.part.new.self in
+    nodes_stay c.args.self.now _
+    (either_way c.part.result _ _ (LeadsStill old new) (λ numbers. stay_parted old new c.args.second.wid c.args.self.now.whole c.requires.fresh numbers)
+    (λ numbers. stay_same old new c.args.self.now.whole numbers) c.part.ensures.numbers c.part.ensures.numbers_kept)

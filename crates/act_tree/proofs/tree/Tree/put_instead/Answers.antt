@@ -1,3 +1,4 @@
+use Rattle.act_tree.proofs.StayingNodes.{stay_on}
 use Rattle.std.proofs.Common.{◌∙◌, ap, List, ℕ}
 use Rattle.act_tree.specs.Branches.{Branches, branches_of}
 use Rattle.act_tree.specs.Brought.{brought}
@@ -22,3 +23,7 @@ returns-clause-tree c =
     ∙ ap {B = TreeValue} (λ t. record t { body = removed (provision_at old id).wid t.body }) c.in_ok-put_nodes.ensures.tree
     ∙ ap {B = TreeValue} (λ bs. record value { body = removed (provision_at old id).wid bs }) (c.place_of-parent.ensures.before new)
     ∙ ap {B = TreeValue} (λ bs. record value { body = bs }) (replaced_text old id new c.requires.node c.requires.provision (brought_apart c.args.by (branches_of c.args.nodes.now) value.body c.requires.fresh))
+
+pub returns-clause-stay : goal.returns-clause-stay
+returns-clause-stay c =
+    stay_on c.args.self.now c.put_nodes.new.self c.take_away.new.self c.in_ok-put_nodes.ensures.nodes c.in_ok-put_nodes.ensures.says c.take_away.ensures.stay

@@ -1,3 +1,4 @@
+use Rattle.act_tree.proofs.StayingNodes.{LeadsStill, nodes_stay, stay_grafted, stay_stopped, same_stay}
 use Rattle.std.proofs.Common.{◌≡◌, ◌∙◌, ap, subst, ℕ, List, Some}
 use Rattle.act_tree.specs.Branches.{branches_of}
 use Rattle.act_tree.specs.Brought.{bringer, brought}
@@ -91,3 +92,21 @@ returns-clause-kept c =
     (λ is. ap {B = TreeValue} (λ body. record { numbering = c.args.self.now.numbering; body = body; changes = c.args.self.now.changes })
     (left_whole old new (all_wids (brought c.args.by (branches_of c.args.nodes.now))) c.args.self.now.whole (subst Q name is) fresh).reads)
     c.graft.ensures.kept
+
+pub returns-in_err-name-clause-stay : goal.returns-in_err-name-clause-stay
+returns-in_err-name-clause-stay c = same_stay c.args.self.now
+
+pub returns-clause-stay : goal.returns-clause-stay
+unfolding tree_view
+returns-clause-stay c =
+    let old = c.args.self.now.arena in
+    let new = c.graft.new.self in
+    let name : c.as_str.result.now ≡ bringer c.args.by = c.as_str.ensures ∙ c.in_ok-name.ensures in
+    let P : List ℕ → Type 0 = λ n. IsGrafted old new c.args.parent c.args.place (all_enacted NONE_THROUGHOUT (Some n) (branches_of c.args.nodes.now)) in
+    let Q : List ℕ → Type 0 = λ n. IsStopped old new (all_wids (all_enacted NONE_THROUGHOUT (Some n) (branches_of c.args.nodes.now))) in
+    let fresh = brought_apart c.args.by (branches_of c.args.nodes.now) (body_of old) c.requires.fresh in
+    nodes_stay c.args.self.now _
+    (either_way c.graft.result _ _ (LeadsStill old new)
+    (λ is. stay_grafted old new c.args.parent c.args.place (brought c.args.by (branches_of c.args.nodes.now)) c.args.self.now.whole fresh (subst P name is))
+    (λ is. stay_stopped old new (all_wids (brought c.args.by (branches_of c.args.nodes.now))) c.args.self.now.whole fresh (subst Q name is))
+    c.graft.ensures.grafted c.graft.ensures.kept)

@@ -13,7 +13,7 @@ unfolding has_node
 invariant_of-self c =
     record {
       whole = (num_put c.args.self.now.arena c.set_num.new.self c.args.id c.args.num c.args.self.now.whole c.requires.node c.requires.provision
-          c.set_num.ensures.numbers c.set_num.ensures.size c.set_num.ensures.restated).holds.whole;
+          c.set_num.ensures.numbers c.set_num.ensures.size c.set_num.ensures.restated c.requires.num).holds.whole;
     }
 
 pub returns-clause-tree : goal.returns-clause-tree
@@ -21,16 +21,16 @@ unfolding has_node tree_view provision_at
 returns-clause-tree c =
     ap {B = TreeValue} (λ body. record { numbering = c.args.self.now.numbering; body = body; changes = c.args.self.now.changes })
     (num_put c.args.self.now.arena c.set_num.new.self c.args.id c.args.num c.args.self.now.whole c.requires.node c.requires.provision
-    c.set_num.ensures.numbers c.set_num.ensures.size c.set_num.ensures.restated).holds.reads
+    c.set_num.ensures.numbers c.set_num.ensures.size c.set_num.ensures.restated c.requires.num).holds.reads
 
 pub returns-clause-nodes : goal.returns-clause-nodes
 unfolding has_node
 returns-clause-nodes c =
     (num_put c.args.self.now.arena c.set_num.new.self c.args.id c.args.num c.args.self.now.whole c.requires.node c.requires.provision
-    c.set_num.ensures.numbers c.set_num.ensures.size c.set_num.ensures.restated).nodes
+    c.set_num.ensures.numbers c.set_num.ensures.size c.set_num.ensures.restated c.requires.num).nodes
 
 pub returns-clause-wids : goal.returns-clause-wids
 unfolding has_node provision_at
 returns-clause-wids c =
     (num_put c.args.self.now.arena c.set_num.new.self c.args.id c.args.num c.args.self.now.whole c.requires.node c.requires.provision
-    c.set_num.ensures.numbers c.set_num.ensures.size c.set_num.ensures.restated).wids
+    c.set_num.ensures.numbers c.set_num.ensures.size c.set_num.ensures.restated c.requires.num).wids

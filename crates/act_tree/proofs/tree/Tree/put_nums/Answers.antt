@@ -7,7 +7,7 @@ loop-place-init c = (given_none c.args.self.now c.args.pairs.now, (λ k. refl, �
 
 pub loop-place-preserved : goal.loop-place-preserved
 loop-place-preserved c = (
-  given_more c.args.self.now c.loop-place.self c.put_num.new.self c.args.pairs.now c.loop-place.place c.index-pairs-place.result c.copy.result c.loop-place-test.true c.loop-place.auto.place c.index-pairs-place.is c.copy.ensures
+  given_more c.args.self.now c.loop-place.self c.put_num.new.self c.args.pairs.now c.loop-place.place c.index-pairs-place.result c.copy.result c.loop-place-test.true c.loop-place.auto.place c.index-pairs-place.is c.copy.ensures.value
       c.loop-place.invariant.0 c.loop-place.invariant.1.1 c.put_num.ensures.tree,
   (λ k. c.put_num.ensures.nodes k ∙ c.loop-place.invariant.1.0 k, λ k. c.put_num.ensures.wids k ∙ c.loop-place.invariant.1.1 k),
 )

@@ -1,3 +1,4 @@
+use Rattle.act_tree.proofs.StayingNodes.{nodes_stay, index_stays}
 use Rattle.std.proofs.Common.{ap}
 use Rattle.act_tree.specs.Seen.{has_node, tree_view, provision_at}
 use Rattle.act_tree.specs.Trees.{TreeValue}
@@ -38,3 +39,6 @@ returns-clause-says c =
     let left : Left c.args.self.now.arena c.take_off.new.self (provision_in (at c.args.self.now.arena c.args.id)).wid =
     left_removed c.args.self.now.arena c.take_off.new.self c.args.id c.args.self.now.whole c.requires.node c.requires.provision c.take_off.ensures.numbers c.take_off.ensures.size c.take_off.ensures.taken in
     left.says
+
+pub returns-clause-stay : goal.returns-clause-stay
+returns-clause-stay c = nodes_stay c.args.self.now _ (index_stays c.args.self.now.arena c.args.self.now.whole c.take_off.new.self c.take_off.ensures.numbers)

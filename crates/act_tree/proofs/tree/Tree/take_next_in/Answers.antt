@@ -1,3 +1,4 @@
+use Rattle.act_tree.proofs.StayingNodes.{nodes_stay, index_stays, same_stay}
 use Rattle.std.proofs.Common.{rules, ◌≡◌, ◌∙◌, sym, ap, true, is_some, Some}
 use Rattle.act_tree.specs.Arena.{above_in, below_in}
 use Rattle.act_tree.specs.Seen.{has_node, tree_view, provision_at}
@@ -76,3 +77,12 @@ returns-clause-tree c =
     ap {B = TreeValue} (λ body. record { numbering = c.args.self.now.numbering; body = body; changes = c.args.self.now.changes })
     (merged_arena arena c.join.new.self c.args.id c.unwrap-next.result c.args.content c.in_ok-refs.refs c.in_ok-below.below.items c.args.self.now.whole c.requires.node other behind
     c.join.ensures.numbers c.join.ensures.size c.in_ok-refs.ensures c.in_ok-below.ensures c.join.ensures.joined).reads
+
+pub returns-clause-stay : goal.returns-clause-stay
+returns-clause-stay c = nodes_stay c.args.self.now _ (index_stays c.args.self.now.arena c.args.self.now.whole c.join.new.self c.join.ensures.numbers)
+
+pub returns-in_err-refs-clause-stay : goal.returns-in_err-refs-clause-stay
+returns-in_err-refs-clause-stay c = same_stay c.args.self.now
+
+pub returns-in_err-below-clause-stay : goal.returns-in_err-below-clause-stay
+returns-in_err-below-clause-stay c = same_stay c.args.self.now

@@ -22,6 +22,6 @@ returns-in_ok-known_mods-in-Some c =
     let known = c.in_ok-known-in-Some in
     let mark : Id → Option IdMark = λ i. get_by (is_same_id i) known.known.marks in
     let as_known : Act → List KnownMod → Option Known = λ act mods. Some (record { act = act; enacted = n; viewpoint = v; front = c.args.front; mods = mods }) in
-    ap (λ act. as_known act c.in_ok-known_mods-in-Some.field-0) c.in_ok-copy_act-in-Some.ensures
+    ap (λ act. as_known act c.in_ok-known_mods-in-Some.field-0) c.in_ok-copy-in-Some.ensures
     ∙ ap (as_known c.in-Some.act.now) (c.in_ok-known_mods-in-Some.ensures ∙ ap (known_marks E mark) known.ensures.ids ∙ work_known E w T mark known.ensures.marks)
     ∙ ap (λ act. known_by w v c.args.front T (option_map (λ (a : Act). (n, a)) act)) c.in-Some.ensures

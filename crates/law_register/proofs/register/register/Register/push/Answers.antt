@@ -27,5 +27,5 @@ invariant_of-self c =
     let N : List Entry → Type 0 = λ es. IsNoted old new es e reply in
     let back = sym (ap (λ (s : Contents). s.entries) c.self.view_is) in
     subst (IsKept new) (sym c.push_reserved.ensures.items)
-    (noted old new E e reply c.self.invariant (subst P back c.requires.accepted)
+    (noted old new E e reply c.self.invariant (subst P back c.requires.accepted) c.requires.spelled
     (c.reply_to-reply.ensures ∙ ap (λ es. reply_to es e.drafter e.command) back) (subst N c.deref.ensures.value c.note.ensures))

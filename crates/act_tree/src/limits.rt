@@ -1,0 +1,49 @@
+//! Limits of what an act or an edit brings.
+
+ghost use Rattle.std.specs.Prelude.{◌≡◌};
+ghost use Rattle.act_tree.specs.Branches.{branches_of};
+ghost use Rattle.act_tree.specs.Limits as spec;
+ghost use Rattle.act_tree.specs.Specs.{spec_view};
+
+use crate::{NodeSpec, Nodes};
+
+/// The most refs of a node.
+pub const MAX_REFS: usize = 16;
+
+/// The most bytes of a wId.
+pub const MAX_WID_BYTES: usize = 512;
+
+/// The most bytes of a heading, a content, or a text that an edit brings or looks for.
+pub const MAX_TEXT_BYTES: usize = 16_384;
+
+/// Whether a text has as many bytes as a wId may have.
+pub fn is_wid(wid: &str) -> bool
+    ensures { result ≡ spec.is_wid wid.now }
+{
+    0 < wid.len() && wid.len() <= MAX_WID_BYTES
+}
+
+impl NodeSpec {
+    /// Whether the node has no more refs than a node may have, and each beneath it.
+    #[cycle(refs)]
+    pub fn has_few_refs(&self) -> bool
+        ensures { result ≡ spec.has_few_refs (spec_view self.now) }
+    {
+        self.refs.as_slice().len() <= MAX_REFS && self.children.have_few_refs()
+    }
+}
+
+impl Nodes {
+    /// Whether none of these nodes has more refs than a node may have, nor any beneath them.
+    #[cycle(refs)]
+    pub fn have_few_refs(&self) -> bool
+        ensures { result ≡ spec.have_few_refs (branches_of self.now) }
+    {
+        for node in &self.items {
+            if !node.has_few_refs() {
+                return false;
+            }
+        }
+        true
+    }
+}

@@ -1,0 +1,28 @@
+//! Laws of keepers, each as the contract of a function with an empty body.
+
+ghost use Rattle.std.specs.Prelude.{◌≡◌, Ok, Err, ℕ};
+ghost use Rattle.law_journal.specs.Grammar.{Listing, with_last};
+ghost use Rattle.law_keeper.specs.declared.keep_fault.KeepFault.TheVariants.{Failed};
+ghost use Rattle.law_keeper.specs.Keepers.{Appends, IsSettled, IsWithOrWithout, Keeps};
+
+use crate::Keeper;
+
+/// After an append that failed, the list that is found is the one from before, or has the payload behind it.
+pub fn failed_append_leaves_one_of_two<K: Keeper>(_payload: &[u8])
+    ensures { (old failed found : K)
+        → (K.holding old).tells
+        → Appends _payload.now (K.holding old) (K.holding failed) (Err Failed)
+        → Keeps (K.holding failed) (K.holding found)
+        → IsWithOrWithout (K.holding old).list _payload.now (K.holding found).list }
+{}
+
+/// Once an append has succeeded, no crash leaves a list without the payload.
+pub fn kept_payload_outlives_crash<K: Keeper>(_payload: &[u8])
+    ensures { (old new : K) (end : ℕ) (list : Listing)
+        → (K.holding old).tells
+        → (K.holding new).tells_crash
+        → Appends _payload.now (K.holding old) (K.holding new) (Ok end)
+        → IsSettled (K.holding new)
+        → (K.holding new).may_leave list
+        → list ≡ with_last _payload.now (K.holding old).list }
+{}

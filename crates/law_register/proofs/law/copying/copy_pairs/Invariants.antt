@@ -1,6 +1,0 @@
--- The pairs passed are copied.
-use Rattle.std.proofs.Common.{◌≡◌, take}
-use Rattle.law_register.proofs.law.copying.copy_pairs.Given as goal
-
-abbrev pub invariant-loop-wid : goal.invariant-loop-wid
-invariant-loop-wid l = l.copies ≡ take l.wid-index l.wid-items

@@ -1,0 +1,6 @@
+mod Sums
+mod Prefixes
+mod Keeping
+mod Ladder
+mod Parting
+mod WholeTurn

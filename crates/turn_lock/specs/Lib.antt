@@ -1,0 +1,3 @@
+pub mod Ladder
+pub mod Passes
+pub mod Turned

@@ -1,0 +1,46 @@
+"""What all checks share: where things are, a run of a program over a pipe, and the count of what passed."""
+import os
+import subprocess
+
+TOP = os.path.dirname(os.path.dirname(os.path.abspath(__file__)))
+PROGRAM = os.path.join(TOP, "crates", "lawdesk", "out", "lawdesk")
+REGISTER = os.path.join(TOP, "crates", "register_trial", "out", "register_trial")
+SCRIPT = os.path.join(TOP, "lawdesk")
+
+passed = 0
+failed = 0
+
+
+def check(name, got, want):
+    """Counts one check, and shows what differs."""
+    global passed, failed
+    if got == want:
+        passed += 1
+    else:
+        failed += 1
+        print(f"{name}: got {str(got)[:300]}, wanted {str(want)[:300]}")
+
+
+def read(*path):
+    with open(os.path.join(TOP, *path), "rb") as file:
+        return file.read()
+
+
+def run(words, given):
+    """The status of a run over a pipe, and what it wrote."""
+    done = subprocess.run([PROGRAM] + words, input=given, stdout=subprocess.PIPE, stderr=subprocess.PIPE, timeout=60)
+    return done.returncode, done.stdout
+
+
+def over_a_folder(line, **settings):
+    """A run whose standard input is a folder, which can't be read."""
+    folder = os.open(TOP, os.O_RDONLY)
+    done = subprocess.run(line, stdin=folder, capture_output=True, timeout=60, **settings)
+    os.close(folder)
+    return done.returncode, done.stdout
+
+
+def to_a_full_device(line, given, **settings):
+    """The status of a run whose standard output takes nothing."""
+    with open("/dev/full", "wb") as full:
+        return subprocess.run(line, input=given, stdout=full, stderr=subprocess.DEVNULL, timeout=60, **settings).returncode
