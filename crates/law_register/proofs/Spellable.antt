@@ -33,7 +33,9 @@ use Rattle.law_register.specs.declared.law.modification.Destination.TheVariants 
 use Rattle.law_register.specs.declared.law.modification.Modification.{Modification}
 use Rattle.law_register.specs.declared.law.modification.Modification.TheVariants.{Textual, Force, Efficacy}
 use Rattle.law_register.specs.declared.register.entry.Entry.{Entry}
-use Rattle.law_register.specs.Law.Bounds.{has_few_refs, have_few_refs, is_wid, text_fits, spot_fits, payload_fits, pairs_fit, text_pos_fits, split_at_fits, edit_fits, destination_fits, modification_fits, payload_fault, brought_fault, first_fault_of}
+use Rattle.act_tree.specs.Limits.{has_few_refs, have_few_refs, is_wid}
+use Rattle.textual_mods.specs.EditLimits.{text_fits, spot_fits, payload_fits, pairs_fit, text_pos_fits, split_at_fits, edit_fits, payload_fault}
+use Rattle.law_register.specs.Law.Bounds.{destination_fits, modification_fits, brought_fault}
 use Rattle.law_register.specs.Law.Same.{same_number}
 use Rattle.law_register.specs.Law.Spelling.{is_spelled_node, are_spelled_nodes, is_spelled_day, is_spelled_edit, is_spelled_modification, are_spelled_modifications, is_spelled_act, is_well_spelled}
 use Rattle.law_register.specs.Law.Spellable.{is_counted, can_spell_own, can_spell_node, can_spell_nodes, can_spell_payload, can_spell_text_pos, can_spell_split_at, can_spell_edit, can_spell_destination, can_spell_modification, can_spell_command, can_be_spelled, can_all_be_spelled}
@@ -178,7 +180,7 @@ small numbering bs h = by (one_twice (all_eids numbering None bs)) (nat_lt 12 (h
     by false false false false deep few long h =
         record { deep = not_above 12 (heights bs) deep; few = not_above 4096 (counts bs) few; long = long }
 
-payload_can : (numbering : Numbering) (nodes : List (Branch Own)) → first_fault_of numbering nodes ≡ None → have_few_refs (branches_of nodes) ≡ true
+payload_can : (numbering : Numbering) (nodes : List (Branch Own)) → first_fault numbering (branches_of nodes) ≡ None → have_few_refs (branches_of nodes) ≡ true
     → are_spelled_nodes (branches_of nodes) ≡ true → can_spell_payload nodes ≡ true
 payload_can numbering nodes sound few spelled =
     let is = small numbering (branches_of nodes) sound in

@@ -2,7 +2,6 @@
 
 ghost use Rattle.std.specs.Prelude.{◌≡◌, [], ◌++◌, ◌∷◌, OnOk, OnErr, IfOk, take};
 
-use crate::law::copying::{copy_act, copy_modification};
 use crate::{Act, Modification};
 use desk_base::{Id, Memory};
 use std::alloc::Global;
@@ -27,7 +26,7 @@ impl KnownMod {
         Ok(KnownMod {
             id: self.id,
             live: self.live,
-            body: copy_modification(alloc, &self.body)?,
+            body: self.body.copy(alloc)?,
         })
     }
 }
@@ -112,7 +111,7 @@ impl Known {
         ensures { IfOk result (λ copy. copy ≡ self.now) }
     {
         Ok(Known {
-            act: copy_act(alloc, &self.act)?,
+            act: self.act.copy(alloc)?,
             enacted: self.enacted,
             viewpoint: self.viewpoint,
             front: self.front,

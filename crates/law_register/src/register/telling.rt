@@ -6,7 +6,6 @@ ghost use Rattle.law_register.specs.Register.Listing.{item_told, item_marked, it
 ghost use Rattle.law_register.specs.Register.Verdicts.{kind_of};
 ghost use Rattle.std.specs.List.{list_any};
 
-use crate::law::copying::copy_modification;
 use crate::register::indexes::{ItemMark, ItemMarks};
 use crate::{Act, Command, Draft, DraftItem, Entry, Modification};
 use arrayvec::ArrayVec;
@@ -178,7 +177,7 @@ fn add_item(
             let item = DraftItem {
                 item: mark.item,
                 work: work.copy()?,
-                body: copy_modification(alloc, body)?,
+                body: body.copy(alloc)?,
             };
             Ok(draft.push(item)?)
         }
