@@ -1,7 +1,7 @@
 //! The line of a command, which is judged and, where it is accepted, entered.
 
 ghost use Rattle.std.specs.Prelude.{◌≡◌, IfOk, OnOk, OnErr};
-ghost use Rattle.akn_json.specs.CommandForms.{asked_of};
+ghost use Rattle.akn_json.specs.Reading.Commands.{asked_of};
 ghost use Rattle.register_trial.specs.Verdicts as spec;
 
 use crate::entering::enter;
