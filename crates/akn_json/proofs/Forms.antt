@@ -8,9 +8,9 @@ use Rattle.serde_json.specs.Read.{read}
 use Rattle.serde_json.specs.View.{members_view}
 use Rattle.serde_json.proofs.Views.{Entry}
 use Rattle.akn_json.specs.declared.fault.FormRule.TheVariants.{NotJson}
-use Rattle.akn_json.specs.Reads.{Read, ◌>>=◌, broken, or_fault}
-use Rattle.akn_json.specs.ModsForm.{is_single}
-use Rattle.akn_json.specs.DossierForm.{json_of}
+use Rattle.akn_json.specs.Reading.Reads.{Read, ◌>>=◌, broken, or_fault}
+use Rattle.akn_json.specs.Reading.Modifications.{is_single}
+use Rattle.akn_json.specs.Reading.Bytes.{json_of}
 
 -- an object has one member where the map that it is read from has one
 pub is_single-members_view : (es : List Entry) → is_single (members_view es) ≡ (length es == 1)

@@ -1,10 +1,7 @@
-pub mod Decimals
 pub mod Forms
-pub mod Passing
-pub mod PrintedTexts
-pub mod PrintedValues
-pub mod Spelled
-pub mod SpelledActs
-pub mod SpelledDays
-pub mod SpelledMods
-pub mod SpelledNodes
+pub mod Tokens
+pub mod Widths
+pub mod Placing
+pub mod Places
+pub mod Spelling
+pub mod Printed

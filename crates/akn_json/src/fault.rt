@@ -60,8 +60,9 @@ impl FormRule {
 pub struct FormFault {
     /// The rule.
     pub rule: FormRule,
-    /// The place: k inside the k-th modification, from 1, in that of a command alone 1, and 0 elsewhere.
-    pub place: usize,
+    /// The place: k inside the k-th modification, from 1, in that of a command alone 1, and 0 elsewhere. What is read
+    /// has no fault at a greater one than 8,388,608.
+    pub place: u32,
 }
 
 /// Why a reading gave nothing.

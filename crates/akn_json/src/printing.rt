@@ -1,7 +1,6 @@
 //! Answers and refusals are printed as JSON with no space, token by token.
 
 mod answers;
-mod expressions;
 mod lists;
 mod members;
 mod provisions;

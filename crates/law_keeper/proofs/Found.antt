@@ -1,9 +1,9 @@
 -- A payload that may stand at the end of a list is found there exactly where it does.
-use Rattle.std.proofs.Common.{◌≡◌, ◌⊎◌, inl, inr, ⊎_elim, ℕ, ◌+◌, List, [], ◌∷◌, ◌++◌, length, Some, None, Ok, refl, sym, ◌∙◌, ap, arith, Vec}
+use Rattle.std.proofs.Common.{◌≡◌, ⊎_elim, ℕ, ◌+◌, List, [], ◌∷◌, ◌++◌, length, Some, None, Ok, refl, ◌∙◌, arith, Vec}
 use Rattle.std.specs.Prelude.{slice_get}
 use Rattle.std.specs.declared.alloc.Global.{Global}
 use Rattle.std.proofs.lemmas.Option.{slice_get_past}
-use Rattle.law_keeper.specs.Keepers.{Holding, Keeps, Gives, IsFound, IsFoundIn}
+use Rattle.law_keeper.specs.Keepers.{Holding, Keeps, Gives, IsFound}
 
 -- the last of a list
 pub last_of : (payloads : List (List ℕ)) (payload : List ℕ) → slice_get (payloads ++ payload ∷ []) (length payloads) ≡ Some payload

@@ -1,7 +1,7 @@
 -- How a run of a keeper's calls goes on.
-use Rattle.std.proofs.Common.{inl, inr, ⊎_elim, ℕ, refl, arith, ◌∙◌}
+use Rattle.std.proofs.Common.{inl, inr, ⊎_elim, arith, ◌∙◌}
 use Rattle.law_journal.specs.Grammar.{Listing}
-use Rattle.law_keeper.specs.Keepers.{Holding, IsHolding, Keeps, LeavesSince, LeavesOnly}
+use Rattle.law_keeper.specs.Keepers.{Holding, Keeps, LeavesOnly}
 
 -- a run behind a run
 pub then_runs : (P : Listing → Type 0) (o m n : Holding) → LeavesOnly P o m → LeavesOnly P m n → LeavesOnly P o n

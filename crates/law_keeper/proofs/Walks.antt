@@ -1,5 +1,5 @@
 -- A walk along the list of a keeper.
-use Rattle.std.proofs.Common.{◌≡◌, ℕ, zero, suc, ◌+◌, ◌≤◌, List, [], ◌∷◌, ◌++◌, length, drop, map, Option, Some, None, Result, Ok, Err, IsOk, IfOk, refl, sym, subst, ◌∙◌, ap, arith, append_assoc, length-append, Vec}
+use Rattle.std.proofs.Common.{◌≡◌, ℕ, zero, suc, ◌+◌, List, [], ◌∷◌, ◌++◌, length, drop, Some, Ok, Err, IsOk, IfOk, refl, sym, subst, ◌∙◌, ap, arith, append_assoc, length-append, Vec}
 use Rattle.std.specs.Prelude.{slice_get}
 use Rattle.std.specs.declared.alloc.Global.{Global}
 use Rattle.law_journal.specs.Grammar.{Listing}

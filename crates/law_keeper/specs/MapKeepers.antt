@@ -1,6 +1,6 @@
 -- Keepers in memory.
 use Rattle.std.specs.Prelude.{ℕ, List, [], ◌∷◌, ◌++◌, length, nat_le, Some, None, Result, Ok, Err, if◌then◌else◌}
-use Rattle.desk_base.specs.MemoryStreams.{CallPlan, next_fails, after_call}
+use Rattle.desk_base.specs.MemoryStreams.{CallPlan}
 use Rattle.law_keeper.specs.Keepers.{Holding, IsHolding}
 use Rattle.law_keeper.specs.declared.keep_fault.KeepFault.{KeepFault}
 use Rattle.law_keeper.specs.declared.readiness.Readiness.{Readiness}

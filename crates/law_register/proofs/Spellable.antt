@@ -7,7 +7,7 @@ use Rattle.std.specs.List.{list_all}
 use Rattle.std.specs.Str.{bytes_eq}
 use Rattle.frbr_names.specs.Reads.{Read}
 use Rattle.frbr_names.specs.Rules.{is_portion, is_portion_byte}
-use Rattle.frbr_names.specs.Expressions.{Expression, IsEnding, KeepsRules, SpellsExpression, expression_of, is_language, is_portion_or_none, portion_text, version_text, versioned_text}
+use Rattle.frbr_names.specs.Expressions.{Expression, IsEnding, KeepsRules, SpellsExpression, expression_of, is_expression, is_language, is_portion_or_none, portion_text, version_text, versioned_text}
 use Rattle.frbr_names.proofs.DateLemmas.{day_is_long}
 use Rattle.frbr_names.proofs.ExpressionLemmas.{expression_spelled}
 use Rattle.frbr_names.specs.Works.{Work, date_named, date_read, work_of}
@@ -37,7 +37,7 @@ use Rattle.act_tree.specs.Limits.{has_few_refs, have_few_refs, is_wid}
 use Rattle.textual_mods.specs.EditLimits.{text_fits, spot_fits, payload_fits, pairs_fit, text_pos_fits, split_at_fits, edit_fits, payload_fault}
 use Rattle.law_register.specs.Law.Bounds.{destination_fits, modification_fits, brought_fault}
 use Rattle.law_register.specs.Law.Same.{same_number}
-use Rattle.law_register.specs.Law.Spelling.{is_spelled_ref, is_spelled_node, are_spelled_nodes, is_spelled_day, is_spelled_edit, is_spelled_modification, are_spelled_modifications, is_spelled_act, is_well_spelled}
+use Rattle.law_register.specs.Law.Spelling.{is_spelled_node, are_spelled_nodes, is_spelled_day, is_spelled_edit, is_spelled_modification, are_spelled_modifications, is_spelled_act, is_well_spelled}
 use Rattle.law_register.specs.Law.Spellable.{is_counted, can_spell_own, can_spell_node, can_spell_nodes, can_spell_payload, can_spell_text_pos, can_spell_split_at, can_spell_edit, can_spell_destination, can_spell_modification, can_spell_command, can_be_spelled, can_all_be_spelled}
 use Rattle.law_register.specs.Register.LawList.{front}
 use Rattle.law_register.specs.Register.Registers.{are_well_spelled}
@@ -117,25 +117,25 @@ expression_short text e h =
       ending_short e.portion h.ending h.kept.portion h.is_ending,
     )
 
-ref_counted : (ref : List ℕ) → is_spelled_ref ref ≡ true → is_counted ref ≡ true
+ref_counted : (ref : List ℕ) → is_expression ref ≡ true → is_counted ref ≡ true
 ref_counted ref h = by (expression_of ref) refl h
   where
     by : (r : Read Expression) → expression_of ref ≡ r → is_ok r ≡ true → is_counted ref ≡ true
     by (Ok e) is found = counted (length ref) (expression_short ref e (expression_spelled ref e is))
     by (Err fault) is found = absurd (let no : false ≡ true = found in cc)
 
-refs_counted : (refs : List (List ℕ)) → list_all is_spelled_ref refs ≡ true → list_all is_counted refs ≡ true
+refs_counted : (refs : List (List ℕ)) → list_all is_expression refs ≡ true → list_all is_counted refs ≡ true
 refs_counted [] h = refl
 refs_counted (ref ∷ refs) h =
-    and_true (is_counted ref) (list_all is_counted refs) (ref_counted ref (left_true (is_spelled_ref ref) (list_all is_spelled_ref refs) h))
-    (refs_counted refs (right_true (is_spelled_ref ref) (list_all is_spelled_ref refs) h))
+    and_true (is_counted ref) (list_all is_counted refs) (ref_counted ref (left_true (is_expression ref) (list_all is_expression refs) h))
+    (refs_counted refs (right_true (is_expression ref) (list_all is_expression refs) h))
 
 -- nodes
 listed_few : (bs : Branches Own) → length (listed bs) ≤ counts bs
 listed_few no_branches = omega arith
 listed_few (more_branches (branch own below) bs) = omega (arith, listed_few bs)
 
-own_can : (own : Own) → is_long own ≡ false → nat_le (length own.refs) 16 ≡ true → list_all is_spelled_ref own.refs ≡ true → can_spell_own own ≡ true
+own_can : (own : Own) → is_long own ≡ false → nat_le (length own.refs) 16 ≡ true → list_all is_expression own.refs ≡ true → can_spell_own own ≡ true
 own_can own long few spelled =
     and_true (is_counted own.heading) (is_counted own.content && (is_counted own.refs && list_all is_counted own.refs))
     (counted (length own.heading) (omega (arith, not_above 16384 (length own.heading) (neither_left (nat_lt 16384 (length own.heading)) (nat_lt 16384 (length own.content)) long))))
@@ -148,10 +148,10 @@ mutual
   node_can (branch own below) small long few spelled =
       and_true (can_spell_own own) (is_counted (listed below) && can_spell_nodes below)
       (own_can own (neither_left (is_long own) (have_long below) long) (left_true (nat_le (length own.refs) 16) (have_few_refs below) few)
-      (left_true (list_all is_spelled_ref own.refs) (are_spelled_nodes below) spelled))
+      (left_true (list_all is_expression own.refs) (are_spelled_nodes below) spelled))
       (and_true (is_counted (listed below)) (can_spell_nodes below) (counted (length (listed below)) (omega (arith, listed_few below, small)))
       (nodes_can below (omega (arith, small)) (neither_right (is_long own) (have_long below) long)
-      (right_true (nat_le (length own.refs) 16) (have_few_refs below) few) (right_true (list_all is_spelled_ref own.refs) (are_spelled_nodes below) spelled)))
+      (right_true (nat_le (length own.refs) 16) (have_few_refs below) few) (right_true (list_all is_expression own.refs) (are_spelled_nodes below) spelled)))
 
   nodes_can : (bs : Branches Own) → counts bs ≤ 4096 → have_long bs ≡ false → have_few_refs bs ≡ true → are_spelled_nodes bs ≡ true → can_spell_nodes bs ≡ true
   nodes_can no_branches small long few spelled = refl

@@ -1,6 +1,6 @@
 //! What holds of commands and of registers. Each law is a function that does nothing, whose clause is the law.
 
-ghost use Rattle.std.specs.Prelude.{◌≡◌, ◌≤◌, ◌↔◌, ℕ, IsTrue, length, slice_get, Some};
+ghost use Rattle.std.specs.Prelude.{◌≡◌, ◌≤◌, ◌↔◌, ℕ, IsTrue, true, length, slice_get, Some};
 ghost use Rattle.law_register.specs.declared.law.command.Command.{Command as CommandValue};
 ghost use Rattle.law_register.specs.declared.register.entry.Entry.{Entry};
 ghost use Rattle.law_register.specs.Register.Drafters.{is_drafter};

@@ -1,6 +1,6 @@
 -- What a job tells of its input comes with the status of a job that is done.
 use Rattle.std.proofs.Common.{ℕ, List, Option, Result, Ok, Err, refl, subst, inl, inr}
-use Rattle.akn_json.specs.DossierForm.{dossier_of}
+use Rattle.akn_json.specs.Reading.Dossiers.{dossier_of}
 use Rattle.akn_json.specs.declared.dossier.Dossier.{Dossier}
 use Rattle.akn_json.specs.declared.fault.FormFault.{FormFault}
 use Rattle.law_register.specs.Answer.Asking.{answer_at}

@@ -2,7 +2,7 @@
 use Rattle.std.proofs.Common.{◌≡◌, ℕ, List, Option, Some, None, Ok, Err, ap, sym, ◌∙◌, subst}
 use Rattle.desk_base.specs.declared.source.Failed.{Failed}
 use Rattle.desk_base.specs.Streams.{Appended, AppendsFront}
-use Rattle.akn_json.specs.DossierForm.{most_bytes}
+use Rattle.akn_json.specs.Reading.Bytes.{most_bytes}
 use Rattle.lawdesk.specs.declared.job.Job.{Job}
 use Rattle.lawdesk.specs.Input.{IsInputOf}
 use Rattle.lawdesk.specs.Reports.{Told, told}

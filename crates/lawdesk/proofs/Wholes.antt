@@ -1,8 +1,9 @@
 -- What is told of the bytes that were read is what is told of all that the source had left.
 use Rattle.std.proofs.Common.{◌≡◌, ℕ, ◌<◌, List, ◌++◌, length, false, Option, Some, None, Err, refl, ap, sym, ◌∙◌, inl, inr, arith, nat_le}
 use Rattle.std.proofs.lemmas.List.{append-nil, length-append}
-use Rattle.akn_json.specs.DossierForm.{most_bytes, dossier_of}
-use Rattle.akn_json.specs.Reads.{broken}
+use Rattle.akn_json.specs.Reading.Bytes.{most_bytes}
+use Rattle.akn_json.specs.Reading.Dossiers.{dossier_of}
+use Rattle.akn_json.specs.Reading.Reads.{broken}
 use Rattle.akn_json.specs.declared.fault.FormRule.TheVariants.{TooLong}
 use Rattle.lawdesk.specs.declared.job.Job.{Job}
 use Rattle.lawdesk.specs.declared.job.Job.TheVariants.{Text}

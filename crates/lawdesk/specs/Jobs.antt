@@ -2,16 +2,11 @@
 use Rattle.std.specs.Prelude.{ℕ, List, [], ◌∷◌, Option, Some, None, if◌then◌else◌, codes}
 use Rattle.std.specs.Str.{bytes_eq}
 use Rattle.desk_base.specs.Days.{day_of}
+use Rattle.law_register.specs.Answer.Questions.{reading_named}
 use Rattle.law_register.specs.declared.answer.question.Reading.{Reading}
-use Rattle.law_register.specs.declared.answer.question.Reading.TheVariants.{Force, Efficacy}
+use Rattle.law_register.specs.declared.answer.question.Reading.TheVariants.{Force}
 use Rattle.lawdesk.specs.declared.job.Job.{Job}
 use Rattle.lawdesk.specs.declared.job.Job.TheVariants.{Text}
-
--- the reading that a word names, if it names one
-abbrev pub reading_named : List ℕ → Option Reading
-reading_named word =
-    if bytes_eq word (codes "force") then Some Force
-    else (if bytes_eq word (codes "efficacy") then Some Efficacy else None)
 
 -- the job of the text on a day in a reading, if both were named
 abbrev pub text_on : Option ℕ → Option Reading → Option Job

@@ -2,9 +2,9 @@
 use Rattle.std.specs.Prelude.{ℕ, List, [], ◌∷◌, ◌++◌, Result, Ok, Err}
 use Rattle.serde_json.specs.Data.{Data}
 use Rattle.serde_json.specs.Written.{compact_text}
-use Rattle.akn_json.specs.AnswerData.{answer_data}
-use Rattle.akn_json.specs.DossierForm.{dossier_of}
-use Rattle.akn_json.specs.RefusalData.{form_fault_data, query_data, rule_data}
+use Rattle.akn_json.specs.Printing.Answers.{answer_data}
+use Rattle.akn_json.specs.Reading.Dossiers.{dossier_of}
+use Rattle.akn_json.specs.Printing.Refusals.{form_fault_data, query_data, rule_data}
 use Rattle.akn_json.specs.declared.dossier.Dossier.{Dossier}
 use Rattle.akn_json.specs.declared.fault.FormFault.{FormFault}
 use Rattle.law_register.specs.Answer.Asking.{answer_at}

@@ -1,7 +1,7 @@
 -- What a run of the program leaves: its status, what it read, and what it wrote.
 use Rattle.std.specs.Prelude.{ℕ, ◌≡◌, ◌+◌, ◌≤◌, ◌<◌, List, [], ◌++◌, length, Option, Some, None, ◌⊎◌}
 use Rattle.desk_base.specs.Streams.{AppendsFront}
-use Rattle.akn_json.specs.DossierForm.{most_bytes}
+use Rattle.akn_json.specs.Reading.Bytes.{most_bytes}
 use Rattle.lawdesk.specs.declared.job.Job.{Job}
 use Rattle.lawdesk.specs.Reports.{told}
 

@@ -1,7 +1,7 @@
 //! Job: what the words of the command line ask for.
 
 ghost use Rattle.std.specs.Prelude.{◌≡◌, map, string_bytes};
-ghost use Rattle.lawdesk.specs.Jobs.{job_of, reading_named, text_job};
+ghost use Rattle.lawdesk.specs.Jobs.{job_of, text_job};
 
 use desk_base::Day;
 use law_register::Reading;
@@ -11,19 +11,6 @@ use law_register::Reading;
 pub enum Job {
     /// Read a dossier, and print the text of its act on that day, in that reading.
     Text(Day, Reading),
-}
-
-// The reading that a word names. `None`: it names none.
-fn reading_named(word: &str) -> Option<Reading>
-    ensures { result ≡ reading_named word.now }
-{
-    if word == "force" {
-        Some(Reading::Force)
-    } else if word == "efficacy" {
-        Some(Reading::Efficacy)
-    } else {
-        None
-    }
 }
 
 // The job of the text on a day, where the words name a day and a reading.
@@ -44,6 +31,6 @@ impl Job {
         if words.len() == 2 {
             return text_job(words[1].as_str(), Some(Reading::Force));
         }
-        text_job(words[1].as_str(), reading_named(words[2].as_str()))
+        text_job(words[1].as_str(), Reading::from_name(words[2].as_str()))
     }
 }

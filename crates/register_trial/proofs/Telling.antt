@@ -3,7 +3,7 @@ use Rattle.std.proofs.Common.{◌≡◌, ◌∙◌, sym, ap, ℕ, ◌+◌, ◌�
 use Rattle.std.proofs.lemmas.Bool.Decides.{nat_tests}
 use Rattle.std.proofs.lemmas.List.{length-append}
 use Rattle.serde_json.specs.Written.{compact_text}
-use Rattle.akn_json.specs.RefusalData.{rule_data}
+use Rattle.akn_json.specs.Printing.Refusals.{rule_data}
 use Rattle.akn_json.specs.declared.asked.Asked.{Asked}
 use Rattle.law_register.specs.Register.Entering.{entry_of, entered_by, entered}
 use Rattle.law_register.specs.Register.Verdicts.{verdict}

@@ -3,8 +3,8 @@ use Rattle.std.specs.Prelude.{ℕ, Bool, true, false, List, [], ◌∷◌, ◌++
 use Rattle.std.specs.Fmt.{decimal}
 use Rattle.std.specs.Option.{option_copied}
 use Rattle.serde_json.specs.Written.{compact_text}
-use Rattle.akn_json.specs.AnswerData.{answer_data}
-use Rattle.akn_json.specs.RefusalData.{query_data}
+use Rattle.akn_json.specs.Printing.Answers.{answer_data}
+use Rattle.akn_json.specs.Printing.Refusals.{query_data}
 use Rattle.desk_base.specs.Ids.{id_text}
 use Rattle.frbr_names.specs.declared.expression_iri.ExpressionIri.{ExpressionIri}
 use Rattle.law_register.specs.declared.answer.answer.Answer.{Answer}

@@ -1,6 +1,6 @@
 -- Which lines are commands.
 use Rattle.std.specs.Prelude.{ℕ, Bool, false, ◌==◌, List, [], ◌∷◌, if◌then◌else◌}
-use Rattle.akn_json.specs.CommandForms.{asked_of}
+use Rattle.akn_json.specs.Reading.Commands.{asked_of}
 use Rattle.law_register.specs.declared.register.entry.Entry.{Entry}
 use Rattle.register_trial.specs.Verdicts.{entries_after}
 

@@ -2,8 +2,8 @@
 use Rattle.std.specs.Prelude.{◌≡◌, ◌⊎◌, ℕ, Bool, true, false, List, ◌++◌, Result, Ok, Err, codes}
 use Rattle.std.specs.Fmt.{decimal}
 use Rattle.serde_json.specs.Written.{compact_text}
-use Rattle.akn_json.specs.Reads.{Read}
-use Rattle.akn_json.specs.RefusalData.{form_fault_data, rule_data}
+use Rattle.akn_json.specs.Reading.Reads.{Read}
+use Rattle.akn_json.specs.Printing.Refusals.{form_fault_data, rule_data}
 use Rattle.akn_json.specs.declared.asked.Asked.{Asked}
 use Rattle.law_register.specs.Register.Entering.{entered}
 use Rattle.law_register.specs.Register.Verdicts.{verdict}

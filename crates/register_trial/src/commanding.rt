@@ -1,7 +1,7 @@
 //! The line of a command, which becomes an entry where it is accepted.
 
 ghost use Rattle.std.specs.Prelude.{◌≡◌, true, IfOk, OnOk, OnErr};
-ghost use Rattle.akn_json.specs.CommandForms.{asked_of};
+ghost use Rattle.akn_json.specs.Reading.Commands.{asked_of};
 ghost use Rattle.law_register.specs.Law.Spelling.{is_well_spelled};
 ghost use Rattle.register_trial.specs.Verdicts as spec;
 

@@ -1,7 +1,7 @@
 //! What is told of a line, by its first word.
 
 ghost use Rattle.std.specs.Prelude.{◌≡◌, true, IfOk, OnOk, OnErr};
-ghost use Rattle.akn_json.specs.CommandForms.{asked_of};
+ghost use Rattle.akn_json.specs.Reading.Commands.{asked_of};
 ghost use Rattle.register_trial.specs.Lines as spec;
 ghost use Rattle.register_trial.specs.Verdicts.{command_line, IsEither};
 

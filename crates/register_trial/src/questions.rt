@@ -4,28 +4,14 @@ ghost use Rattle.std.specs.Prelude.{◌≡◌, IfOk};
 ghost use Rattle.std.specs.Option.{option_copied};
 ghost use Rattle.register_trial.specs.Knowing as spec;
 
-use desk_base::{Memory, Text};
+use desk_base::{Memory, Text, decimal_number};
 use frbr_names::{ExpressionIri, WorkName, parse_expression, parse_work};
 use law_register::{Question, Reading};
 use std::alloc::Global;
 
-// The reading that a word names. `None`: it names none.
-fn reading_named(word: &str) -> Option<Reading> {
-    if word == "force" {
-        Some(Reading::Force)
-    } else if word == "efficacy" {
-        Some(Reading::Efficacy)
-    } else {
-        None
-    }
-}
-
 // The viewpoint that a word spells. `None`: it spells none.
 fn viewpoint_named(word: &str) -> Option<u32> {
-    match word.parse::<u32>() {
-        Ok(viewpoint) => Some(viewpoint),
-        Err(_) => None,
-    }
+    Some(decimal_number(word, 4_294_967_295)? as u32)
 }
 
 // The eId of a portion, if one is named.
@@ -77,7 +63,7 @@ fn question_of_words(
     viewpoint: &str,
     reading: &str,
 ) -> Result<Option<Question>, Memory> {
-    match (viewpoint_named(viewpoint), reading_named(reading)) {
+    match (viewpoint_named(viewpoint), Reading::from_name(reading)) {
         (Some(viewpoint), Some(reading)) => question_of(alloc, expression, viewpoint, reading),
         _ => Ok(None),
     }

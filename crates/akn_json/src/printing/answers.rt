@@ -1,21 +1,43 @@
 //! An answer is printed.
 
-ghost use Rattle.std.specs.Prelude.{◌≡◌, ◌++◌, OnOk, IfOk};
+ghost use Rattle.std.specs.Prelude.{◌≡◌, ◌++◌, OnOk, IfOk, string_bytes};
+ghost use Rattle.std.specs.Option.{option_copied};
 ghost use Rattle.json.specs.Tree.{json_tokens};
 ghost use Rattle.serde_json.specs.Written.{outline, compact_text};
-ghost use Rattle.akn_json.specs.AnswerData.{answer_data};
+ghost use Rattle.akn_json.specs.Printing.Answers.{answer_data, asked_expression};
 
-use super::expressions::expression;
 use super::lists::{put_ids, put_unapplied};
 use super::members::{put_flag, put_number, put_text};
 use super::provisions::put_nodes;
 use desk_base::Memory;
+use frbr_names::spelled_expression;
 use json::Writer;
-use law_register::Answer;
+use law_register::{Answer, Question};
 use std::alloc::Global;
 
-// An answer.
-#[tactic(auto, unfolding(crate::specs::AnswerData::answer_data))]
+fn portion(question: &Question) -> Option<&str>
+    ensures { option_copied result ≡ question.now.portion }
+{
+    match &question.portion {
+        Some(eid) => Some(eid.as_str()),
+        None => None,
+    }
+}
+
+// The IRI of the expression that is asked for.
+pub(super) fn expression(alloc: Global, question: &Question) -> Result<String, Memory>
+    ensures { IfOk result (λ text. string_bytes text ≡ asked_expression question.now) }
+{
+    spelled_expression(
+        alloc,
+        question.work.as_str(),
+        question.language,
+        question.version,
+        portion(question),
+    )
+}
+
+#[tactic(auto, unfolding(crate::specs::Printing::Answers::answer_data))]
 fn put_parts(out: &mut Writer, alloc: Global, answer: &Answer) -> Result<(), Memory>
     ensures tokens { OnOk result (out.new.tokens
         ≡ out.old.tokens ++ json_tokens (outline (answer_data answer.now))) }

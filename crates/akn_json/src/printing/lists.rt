@@ -6,7 +6,7 @@ ghost use Rattle.std.specs.Prelude.{◌≡◌, ◌++◌, OnOk};
 ghost use Rattle.json.specs.Tree.{json_tokens, items_tokens};
 ghost use Rattle.serde_json.specs.Data.{array};
 ghost use Rattle.serde_json.specs.Written.{outline, items_outline};
-ghost use Rattle.akn_json.specs.AnswerData.{ids_data, missed_data, texts_data, unapplied_data};
+ghost use Rattle.akn_json.specs.Printing.Answers.{ids_data, missed_data, texts_data, unapplied_data};
 
 use super::members::put_text;
 use act_tree::Cause;
@@ -14,7 +14,6 @@ use desk_base::{Id, Memory, Text};
 use json::Writer;
 use std::alloc::Global;
 
-// The texts, and the end of their list.
 fn put_each_text(out: &mut Writer, texts: &[Text]) -> Result<(), Memory>
     ensures tokens { OnOk result (out.new.tokens
         ≡ out.old.tokens ++ items_tokens (items_outline (texts_data texts.now))) }
@@ -27,7 +26,6 @@ fn put_each_text(out: &mut Writer, texts: &[Text]) -> Result<(), Memory>
     Ok(())
 }
 
-// A list of texts.
 pub fn put_texts(out: &mut Writer, texts: &[Text]) -> Result<(), Memory>
     ensures tokens { OnOk result (out.new.tokens
         ≡ out.old.tokens ++ json_tokens (outline (array (texts_data texts.now)))) }
@@ -37,7 +35,6 @@ pub fn put_texts(out: &mut Writer, texts: &[Text]) -> Result<(), Memory>
     put_each_text(out, texts)
 }
 
-// The ids, and the end of their list.
 fn put_each_id(out: &mut Writer, alloc: Global, ids: &[Id]) -> Result<(), Memory>
     ensures tokens { OnOk result (out.new.tokens
         ≡ out.old.tokens ++ items_tokens (items_outline (ids_data ids.now))) }
@@ -50,7 +47,6 @@ fn put_each_id(out: &mut Writer, alloc: Global, ids: &[Id]) -> Result<(), Memory
     Ok(())
 }
 
-// A list of ids.
 pub fn put_ids(out: &mut Writer, alloc: Global, ids: &[Id]) -> Result<(), Memory>
     ensures tokens { OnOk result (out.new.tokens
         ≡ out.old.tokens ++ json_tokens (outline (array (ids_data ids.now)))) }
@@ -86,7 +82,6 @@ fn put_each_missed(out: &mut Writer, alloc: Global, list: &[(Id, Cause)]) -> Res
     Ok(())
 }
 
-// A list of the modifications that could not be applied.
 pub fn put_unapplied(out: &mut Writer, alloc: Global, list: &[(Id, Cause)]) -> Result<(), Memory>
     ensures tokens { OnOk result (out.new.tokens
         ≡ out.old.tokens ++ json_tokens (outline (array (unapplied_data list.now)))) }

@@ -7,7 +7,6 @@ ghost use Rattle.json.specs.Token.{key, string, number, boolean};
 use desk_base::Memory;
 use json::Writer;
 
-// A member whose value is a text.
 pub fn put_text(out: &mut Writer, name: &str, text: &str) -> Result<(), Memory>
     ensures tokens { OnOk result (out.new.tokens
         ≡ out.old.tokens ++ key name.now ∷ string text.now ∷ []) }
@@ -18,7 +17,6 @@ pub fn put_text(out: &mut Writer, name: &str, text: &str) -> Result<(), Memory>
     Ok(())
 }
 
-// A member whose value is a number.
 pub fn put_number(out: &mut Writer, name: &str, n: u64) -> Result<(), Memory>
     ensures tokens { OnOk result (out.new.tokens
         ≡ out.old.tokens ++ key name.now ∷ number (decimal n) ∷ []) }
@@ -29,7 +27,6 @@ pub fn put_number(out: &mut Writer, name: &str, n: u64) -> Result<(), Memory>
     Ok(())
 }
 
-// A member that is true or false.
 pub fn put_flag(out: &mut Writer, name: &str, holds: bool) -> Result<(), Memory>
     ensures tokens { OnOk result (out.new.tokens
         ≡ out.old.tokens ++ key name.now ∷ boolean holds ∷ []) }

@@ -5,7 +5,7 @@ ghost use Rattle.json.specs.Tree.{json_tokens, items_tokens, members_tokens};
 ghost use Rattle.serde_json.specs.Data.{array};
 ghost use Rattle.serde_json.specs.Written.{outline, items_outline, members_outline};
 ghost use Rattle.act_tree.specs.Branches.{branches_of};
-ghost use Rattle.akn_json.specs.AnswerData.{node_data, nodes_data, wid_data};
+ghost use Rattle.akn_json.specs.Printing.Answers.{node_data, nodes_data, wid_data};
 ghost use Rattle.law_register.specs.Answer.ShownNodes.{shown_view};
 
 use super::lists::put_texts;
@@ -50,7 +50,6 @@ fn put_node(out: &mut Writer, node: &AnswerNode) -> Result<(), Memory>
     Ok(())
 }
 
-// A list of provisions.
 #[cycle(provision)]
 pub fn put_nodes(out: &mut Writer, nodes: &AnswerNodes) -> Result<(), Memory>
     ensures tokens { OnOk result (out.new.tokens

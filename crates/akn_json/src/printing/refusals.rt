@@ -3,17 +3,16 @@
 ghost use Rattle.std.specs.Prelude.{◌≡◌, ◌++◌, OnOk, IfOk, string_bytes};
 ghost use Rattle.json.specs.Tree.{json_tokens};
 ghost use Rattle.serde_json.specs.Written.{outline, compact_text};
-ghost use Rattle.akn_json.specs.RefusalData.{form_fault_data, kept_data, query_data, item_text, rule_kept_data, rule_data};
+ghost use Rattle.akn_json.specs.Printing.Refusals.{form_fault_data, kept_data, query_data, item_text, rule_kept_data, rule_data};
 
-use super::expressions::letters;
 use super::members::{put_number, put_text};
 use crate::FormFault;
 use desk_base::Memory;
+use frbr_names::spelled_language;
 use json::Writer;
 use law_register::{QueryRule, Rule};
 use std::alloc::Global;
 
-// A fault of a form.
 fn put_fault(out: &mut Writer, fault: FormFault) -> Result<(), Memory>
     ensures tokens { OnOk result (out.new.tokens
         ≡ out.old.tokens ++ json_tokens (outline (form_fault_data fault))) }
@@ -22,12 +21,11 @@ fn put_fault(out: &mut Writer, fault: FormFault) -> Result<(), Memory>
     out.begin_object()?;
     put_number(out, "form", u64::from(fault.rule.number()))?;
     put_text(out, "name", fault.rule.name())?;
-    put_number(out, "place", fault.place as u64)?;
+    put_number(out, "place", u64::from(fault.place))?;
     out.end_object()?;
     Ok(())
 }
 
-// The value that a refusal of a question shows.
 fn put_kept(out: &mut Writer, alloc: Global, rule: &QueryRule) -> Result<(), Memory>
     ensures tokens { OnOk result (out.new.tokens
         ≡ out.old.tokens ++ json_tokens (outline (kept_data rule.now))) }
@@ -37,13 +35,14 @@ fn put_kept(out: &mut Writer, alloc: Global, rule: &QueryRule) -> Result<(), Mem
         QueryRule::UnknownWork(work) => out.string(work.as_str())?,
         QueryRule::ViewpointAhead(front) => out.u64(u64::from(*front))?,
         QueryRule::NotYetEnacted(day) => out.string(day.spelled(alloc)?.as_str())?,
-        QueryRule::OtherLanguage(language) => out.string(letters(alloc, *language)?.as_str())?,
+        QueryRule::OtherLanguage(language) => out.string(spelled_language(
+            alloc, *language,
+        )?.as_str())?,
         QueryRule::UnknownPortion(eid) => out.string(eid.as_str())?,
     }
     Ok(())
 }
 
-// A refusal of a question.
 fn put_query(out: &mut Writer, alloc: Global, rule: &QueryRule) -> Result<(), Memory>
     ensures tokens { OnOk result (out.new.tokens
         ≡ out.old.tokens ++ json_tokens (outline (query_data rule.now))) }
@@ -85,7 +84,6 @@ fn spelled_item(alloc: Global, law: u32, item: u32) -> Result<String, Memory>
     Ok(format!(in alloc; "{law}.{item}")?)
 }
 
-// The value that a refusal of a command shows.
 fn put_rule_kept(out: &mut Writer, alloc: Global, rule: &Rule) -> Result<(), Memory>
     ensures tokens { OnOk result (out.new.tokens
         ≡ out.old.tokens ++ json_tokens (outline (rule_kept_data rule.now))) }
@@ -113,7 +111,6 @@ fn put_rule_kept(out: &mut Writer, alloc: Global, rule: &Rule) -> Result<(), Mem
     Ok(())
 }
 
-// A refusal of a command.
 fn put_command(out: &mut Writer, alloc: Global, rule: &Rule) -> Result<(), Memory>
     ensures tokens { OnOk result (out.new.tokens
         ≡ out.old.tokens ++ json_tokens (outline (rule_data rule.now))) }

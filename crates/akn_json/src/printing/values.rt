@@ -7,16 +7,15 @@ ghost use Rattle.serde_json.specs.Data.{array, string, put as with_member};
 ghost use Rattle.serde_json.specs.View.{view, members_view};
 ghost use Rattle.act_tree.specs.Branches.{branches_of};
 ghost use Rattle.law_register.specs.Answer.ShownNodes.{shown_view};
-ghost use Rattle.akn_json.specs.AnswerData as spec;
+ghost use Rattle.akn_json.specs.Printing.Answers as spec;
 
-use super::expressions::expression;
+use super::answers::expression;
 use act_tree::Cause;
 use desk_base::{Id, Memory, Text};
 use law_register::{Answer, AnswerNode, AnswerNodes};
 use serde_json::{Map, Value, json, put};
 use std::alloc::Global;
 
-// A list of texts.
 fn texts_value(alloc: Global, texts: &[Text]) -> Result<Value, Memory>
     ensures { IfOk result (λ v. view v ≡ array (spec.texts_data texts.now)) }
 {
@@ -27,7 +26,6 @@ fn texts_value(alloc: Global, texts: &[Text]) -> Result<Value, Memory>
     Ok(Value::Array(list))
 }
 
-// A list of ids.
 fn ids_value(alloc: Global, ids: &[Id]) -> Result<Value, Memory>
     ensures { IfOk result (λ v. view v ≡ array (spec.ids_data ids.now)) }
 {
@@ -38,7 +36,6 @@ fn ids_value(alloc: Global, ids: &[Id]) -> Result<Value, Memory>
     Ok(Value::Array(list))
 }
 
-// A modification that could not be applied.
 fn missed_value(alloc: Global, missed: &(Id, Cause)) -> Result<Value, Memory>
     ensures { IfOk result (λ v. view v ≡ spec.missed_data missed.now) }
 {
@@ -57,7 +54,6 @@ fn unapplied_value(alloc: Global, unapplied: &[(Id, Cause)]) -> Result<Value, Me
     Ok(Value::Array(list))
 }
 
-// Adds a member whose value is a text.
 fn add_text(
     map: &mut Map<String, Value>,
     alloc: Global,
@@ -103,7 +99,6 @@ fn node_value(alloc: Global, node: &AnswerNode) -> Result<Value, Memory>
     Ok(Value::Object(map))
 }
 
-// A list of provisions.
 #[cycle(value)]
 fn nodes_value(alloc: Global, nodes: &AnswerNodes) -> Result<Value, Memory>
     ensures { IfOk result (λ v. view v ≡ array (spec.nodes_data (branches_of nodes.now))) }
@@ -116,7 +111,7 @@ fn nodes_value(alloc: Global, nodes: &AnswerNodes) -> Result<Value, Memory>
 }
 
 /// An answer as a value of serde_json. Its compact text is what is printed.
-#[tactic(auto, unfolding(crate::specs::AnswerData::answer_data))]
+#[tactic(auto, unfolding(crate::specs::Printing::Answers::answer_data))]
 pub fn answer_value(alloc: Global, answer: &Answer) -> Result<Value, Memory>
     ensures { IfOk result (λ v. view v ≡ spec.answer_data answer.now) }
 {

@@ -2,25 +2,24 @@
 
 ghost use Rattle.std.specs.Prelude.{◌≡◌, ◌≤◌, [], None, IfOk};
 ghost use Rattle.serde_json.specs.View.{view, members_view, items_view};
-ghost use Rattle.akn_json.specs.Reads.{Gives};
-ghost use Rattle.akn_json.specs.Fields as spec;
+ghost use Rattle.akn_json.specs.Reading.Reads.{Gives};
+ghost use Rattle.akn_json.specs.Reading.Fields as spec;
 ghost use Rattle.akn_json.specs.declared.reading.key.Key.TheVariants.{Until};
 
 use super::faults::{BAD_DAY, BAD_NUMBER, WRONG_SHAPE};
 use super::key::Key;
+use super::tables::{Keys, PERIOD};
 use crate::ReadFail;
 use desk_base::{Day, Period, Text};
 use serde_json::{Map, Value};
 use std::alloc::Global;
 
-// Whether one of these keys has the name.
 fn is_named(name: &str, keys: &[Key]) -> bool
     ensures { result ≡ spec.is_named name.now keys.now }
 {
     keys.iter().any(|key| name == key.name())
 }
 
-// Whether each member of an object is at one of the required or of the optional keys.
 fn has_only(object: &Map<String, Value>, required: &[Key], optional: &[Key]) -> bool
     ensures { result ≡ spec.has_only required.now optional.now (members_view object.now.entries) }
 {
@@ -32,37 +31,54 @@ fn has_only(object: &Map<String, Value>, required: &[Key], optional: &[Key]) -> 
     true
 }
 
-// Whether an object has a member at each of these keys.
 fn has_all(value: &Value, keys: &[Key]) -> bool
     ensures { result ≡ spec.has_all keys.now (view value.now) }
 {
     keys.iter().all(|key| value.get(key.name()).is_some())
 }
 
-// Whether an object has members at the required keys, and at no others than the optional ones.
-#[tactic(auto, unfolding(crate::specs::Fields::has_members))]
-pub(super) fn has_members(value: &Value, required: &[Key], optional: &[Key]) -> bool
-    ensures { result ≡ spec.has_members required.now optional.now (view value.now) }
+#[tactic(auto, unfolding(crate::specs::Reading::Fields::has_members))]
+fn has_members<const R: usize, const O: usize>(value: &Value, keys: &Keys<R, O>) -> bool
+    ensures { result ≡ spec.has_members keys.now (view value.now) }
 {
     match value.as_object() {
-        Some(object) => has_only(object, required, optional) && has_all(value, required),
+        Some(object) => {
+            has_only(object, &keys.required, &keys.optional) && has_all(value, &keys.required)
+        }
         None => false,
     }
 }
 
 // An object with members at the required keys, and at no others than the optional ones.
-#[tactic(auto, unfolding(crate::specs::Fields::members_in))]
-pub(super) fn members(value: &Value, required: &[Key], optional: &[Key]) -> Result<(), ReadFail>
-    ensures { Gives (λ u. u) result (spec.members_in required.now optional.now (view value.now)) }
+#[tactic(auto, unfolding(crate::specs::Reading::Fields::members_in))]
+pub(super) fn members<const R: usize, const O: usize>(
+    value: &Value,
+    keys: &Keys<R, O>,
+) -> Result<(), ReadFail>
+    ensures { Gives (λ u. u) result (spec.members_in keys.now (view value.now)) }
 {
-    if !has_members(value, required, optional) {
+    if !has_members(value, keys) {
         return Err(WRONG_SHAPE);
     }
     Ok(())
 }
 
-// The value at a key of an object.
-#[tactic(auto, unfolding(crate::specs::Fields::field_in))]
+/// An object with the members of the one table or of the other.
+#[tactic(auto, unfolding(crate::specs::Reading::Fields::either_in))]
+pub(super) fn either<const R: usize, const O: usize, const P: usize, const Q: usize>(
+    value: &Value,
+    one: &Keys<R, O>,
+    other: &Keys<P, Q>,
+) -> Result<(), ReadFail>
+    ensures { Gives (λ u. u) result (spec.either_in one.now other.now (view value.now)) }
+{
+    if !has_members(value, one) && !has_members(value, other) {
+        return Err(WRONG_SHAPE);
+    }
+    Ok(())
+}
+
+#[tactic(auto, unfolding(crate::specs::Reading::Fields::field_in))]
 pub(super) fn field(value: &Value, key: Key) -> Result<&Value, ReadFail>
     ensures { Gives (λ v. view v.now) result (spec.field_in key (view value.now)) }
 {
@@ -72,8 +88,7 @@ pub(super) fn field(value: &Value, key: Key) -> Result<&Value, ReadFail>
     }
 }
 
-// A list.
-#[tactic(auto, unfolding(crate::specs::Fields::items_in))]
+#[tactic(auto, unfolding(crate::specs::Reading::Fields::items_in))]
 pub(super) fn items(value: &Value) -> Result<&Vec<Value>, ReadFail>
     ensures { Gives (λ v. items_view v.now.items) result (spec.items_in (view value.now)) }
 {
@@ -83,8 +98,7 @@ pub(super) fn items(value: &Value) -> Result<&Vec<Value>, ReadFail>
     }
 }
 
-// A text.
-#[tactic(auto, unfolding(crate::specs::Fields::text_in))]
+#[tactic(auto, unfolding(crate::specs::Reading::Fields::text_in))]
 pub(super) fn text(value: &Value) -> Result<&str, ReadFail>
     ensures { Gives (λ s. s.now) result (spec.text_in (view value.now)) }
 {
@@ -94,7 +108,6 @@ pub(super) fn text(value: &Value) -> Result<&str, ReadFail>
     }
 }
 
-// A text, copied.
 pub(super) fn copied(alloc: Global, value: &Value) -> Result<Text, ReadFail>
     ensures { Gives (λ t. t) result (spec.text_in (view value.now)) }
 {
@@ -102,7 +115,7 @@ pub(super) fn copied(alloc: Global, value: &Value) -> Result<Text, ReadFail>
 }
 
 // The text at a key, and the empty one where the object has no such key.
-#[tactic(auto, unfolding(crate::specs::Fields::optional_in))]
+#[tactic(auto, unfolding(crate::specs::Reading::Fields::optional_in))]
 pub(super) fn optional_text(value: &Value, key: Key) -> Result<&str, ReadFail>
     ensures { Gives (λ s. s.now) result (spec.optional_in key [] spec.text_in (view value.now)) }
 {
@@ -112,8 +125,7 @@ pub(super) fn optional_text(value: &Value, key: Key) -> Result<&str, ReadFail>
     }
 }
 
-// A whole number up to a limit.
-#[tactic(auto, unfolding(crate::specs::Fields::number_in))]
+#[tactic(auto, unfolding(crate::specs::Reading::Fields::number_in))]
 pub(super) fn number(value: &Value, most: u64) -> Result<u64, ReadFail>
     ensures value { Gives (λ n. n) result (spec.number_in most (view value.now)) }
     ensures bound { IfOk result (λ n. n ≤ most) }
@@ -127,8 +139,7 @@ pub(super) fn number(value: &Value, most: u64) -> Result<u64, ReadFail>
     }
 }
 
-// A day, as a text.
-#[tactic(auto, unfolding(crate::specs::Fields::day_in))]
+#[tactic(auto, unfolding(crate::specs::Reading::Fields::day_in))]
 pub(super) fn day(value: &Value) -> Result<Day, ReadFail>
     ensures { Gives (λ d. d) result (spec.day_in (view value.now)) }
 {
@@ -139,7 +150,7 @@ pub(super) fn day(value: &Value) -> Result<Day, ReadFail>
 }
 
 // The end of a period, where one is stated.
-#[tactic(auto, unfolding(crate::specs::Fields::optional_in, crate::specs::Fields::end_in))]
+#[tactic(auto, unfolding(crate::specs::Reading::Fields::optional_in, crate::specs::Reading::Fields::end_in))]
 fn end(value: &Value) -> Result<Option<Day>, ReadFail>
     ensures { Gives (λ d. d) result (spec.optional_in Until None spec.end_in (view value.now)) }
 {
@@ -150,11 +161,11 @@ fn end(value: &Value) -> Result<Option<Day>, ReadFail>
 }
 
 // A period, which may have no end.
-#[tactic(auto, unfolding(crate::specs::Fields::period_in))]
+#[tactic(auto, unfolding(crate::specs::Reading::Fields::period_in))]
 pub(super) fn period(value: &Value) -> Result<Period, ReadFail>
     ensures { Gives (λ p. p) result (spec.period_in (view value.now)) }
 {
-    members(value, &[Key::From], &[Key::Until])?;
+    members(value, &PERIOD)?;
     let start = day(field(value, Key::From)?)?;
     let end = end(value)?;
     Ok(Period { start, end })

@@ -1,7 +1,7 @@
 //! The keys of the forms.
 
 ghost use Rattle.std.specs.Prelude.{◌≡◌};
-ghost use Rattle.akn_json.specs.Keys.{key_name};
+ghost use Rattle.akn_json.specs.Reading.Keys.{key_name};
 
 /// A key of an object of some form.
 #[derive(Clone, Copy)]

@@ -1,12 +1,11 @@
 -- What is well spelled: each ref is the IRI of an expression, the language of an act is one, its day agrees with the IRI of its
 -- work, and a retroactivity is counted from its date.
-use Rattle.std.specs.Prelude.{ℕ, ◌==◌, Bool, true, false, ◌&&◌, List, Option, Some, None, is_ok}
+use Rattle.std.specs.Prelude.{ℕ, ◌==◌, Bool, true, false, ◌&&◌, List, Option, Some, None}
 use Rattle.std.specs.List.{list_all}
-use Rattle.desk_base.specs.Days.{year_of}
-use Rattle.frbr_names.specs.Expressions.{expression_of, is_language}
+use Rattle.frbr_names.specs.Dates.{agrees_with}
+use Rattle.frbr_names.specs.Expressions.{is_expression, is_language}
 use Rattle.frbr_names.specs.Works.{date_named}
 use Rattle.frbr_names.specs.declared.date.IriDate.{IriDate}
-use Rattle.frbr_names.specs.declared.date.IriDate.TheVariants.{Year, Full}
 use Rattle.act_tree.specs.Branches.{Branch, Branches, branch, no_branches, more_branches, branches_of}
 use Rattle.act_tree.specs.Provisions.{Own}
 use Rattle.bearing_mods.specs.declared.efficacy.EfficacyEffect.{EfficacyEffect}
@@ -19,14 +18,10 @@ use Rattle.law_register.specs.declared.law.command.Command.TheVariants.{Enact, R
 use Rattle.law_register.specs.declared.law.modification.Modification.{Modification}
 use Rattle.law_register.specs.declared.law.modification.Modification.TheVariants.{Textual, Force, Efficacy}
 
--- a ref is the IRI of an expression
-abbrev pub is_spelled_ref : List ℕ → Bool
-is_spelled_ref ref = is_ok (expression_of ref)
-
--- a node, and likewise nodes side by side: at every depth each ref is one
+-- a node, and likewise nodes side by side: at every depth each ref is the IRI of an expression
 abbrev mutual
   pub is_spelled_node : Branch Own → Bool
-  is_spelled_node (branch own below) = list_all is_spelled_ref own.refs && are_spelled_nodes below
+  is_spelled_node (branch own below) = list_all is_expression own.refs && are_spelled_nodes below
 
   pub are_spelled_nodes : Branches Own → Bool
   are_spelled_nodes no_branches = true
@@ -56,11 +51,6 @@ is_spelled_modification (Efficacy source destination on effect) = is_spelled_eff
 -- modifications side by side
 unfoldable pub are_spelled_modifications : List Modification → Bool
 are_spelled_modifications mods = list_all is_spelled_modification mods
-
--- a day lies in a year, or is the day that a date gives
-abbrev pub agrees_with : IriDate → ℕ → Bool
-agrees_with (Year year) day = year_of day == year
-agrees_with (Full named) day = day == named
 
 -- a day agrees with the date in the IRI of a work
 abbrev pub is_spelled_day : Option IriDate → ℕ → Bool

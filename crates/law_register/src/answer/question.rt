@@ -1,7 +1,7 @@
 //! A question: which text of which act is asked for.
 
 ghost use Rattle.std.specs.Prelude.{◌≡◌};
-ghost use Rattle.law_register.specs.Answer.Questions.{reading_name};
+ghost use Rattle.law_register.specs.Answer.Questions.{reading_name, reading_named};
 
 use desk_base::{Day, Memory, Text};
 use frbr_names::WorkName;
@@ -23,6 +23,19 @@ impl Reading {
         match self {
             Reading::Force => "force",
             Reading::Efficacy => "efficacy",
+        }
+    }
+
+    /// The reading that a word names. `None`: it names none.
+    pub fn from_name(word: &str) -> Option<Reading>
+        ensures { result ≡ reading_named word.now }
+    {
+        if word == Reading::Force.name() {
+            Some(Reading::Force)
+        } else if word == Reading::Efficacy.name() {
+            Some(Reading::Efficacy)
+        } else {
+            None
         }
     }
 }

@@ -1,4 +1,4 @@
-use Rattle.std.proofs.Common.{rules, ◌++◌, ◌∷◌, ◌∙◌, ap, sym, subst, List, ℕ, [], Option, Ok, Vec}
+use Rattle.std.proofs.Common.{rules, ◌∙◌, ap, sym, subst, List, ℕ, Option, Ok, Vec}
 use Rattle.std.specs.declared.alloc.Global.{Global}
 use Rattle.law_keeper.specs.Keepers.{Gives, bytes_of}
 use Rattle.law_keeper.proofs.Walks.{HasWalked, one_more, bytes_last}

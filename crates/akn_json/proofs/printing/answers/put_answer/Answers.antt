@@ -1,6 +1,6 @@
 use Rattle.std.proofs.Common.{◌∙◌}
-use Rattle.akn_json.specs.AnswerData.{answer_data}
-use Rattle.akn_json.proofs.PrintedTexts.{text_of_tokens}
+use Rattle.akn_json.specs.Printing.Answers.{answer_data}
+use Rattle.akn_json.proofs.Printed.Texts.{text_of_tokens}
 use Rattle.akn_json.proofs.printing.answers.put_answer.Goals as goal
 
 pub returns : goal.returns

@@ -1,5 +1,5 @@
 use Rattle.std.proofs.Common.{append_assoc}
-use Rattle.akn_json.specs.AnswerData.{answer_data}
+use Rattle.akn_json.specs.Printing.Answers.{answer_data}
 use Rattle.akn_json.proofs.printing.answers.put_parts.Goals as goal
 
 pub returns-clause-tokens : goal.returns-clause-tokens

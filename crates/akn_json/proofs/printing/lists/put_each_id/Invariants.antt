@@ -1,7 +1,7 @@
 use Rattle.std.proofs.Common.{◌≡◌, ◌++◌, drop}
 use Rattle.json.specs.Tree.{items_tokens}
 use Rattle.serde_json.specs.Written.{items_outline}
-use Rattle.akn_json.specs.AnswerData.{ids_data}
+use Rattle.akn_json.specs.Printing.Answers.{ids_data}
 use Rattle.akn_json.proofs.printing.lists.put_each_id.Given as goal
 
 abbrev pub invariant-loop-id : goal.invariant-loop-id

@@ -1,7 +1,7 @@
 use Rattle.std.proofs.Common.{◌≡◌, ◌++◌, drop}
 use Rattle.json.specs.Tree.{items_tokens}
 use Rattle.serde_json.specs.Written.{items_outline}
-use Rattle.akn_json.specs.AnswerData.{texts_data}
+use Rattle.akn_json.specs.Printing.Answers.{texts_data}
 use Rattle.akn_json.proofs.printing.lists.put_each_text.Given as goal
 
 abbrev pub invariant-loop-text : goal.invariant-loop-text

@@ -2,7 +2,7 @@ use Rattle.std.proofs.Common.{◌≡◌, ◌++◌, drop}
 use Rattle.json.specs.Tree.{items_tokens}
 use Rattle.serde_json.specs.Written.{items_outline}
 use Rattle.act_tree.specs.Branches.{branches_of}
-use Rattle.akn_json.specs.AnswerData.{nodes_data}
+use Rattle.akn_json.specs.Printing.Answers.{nodes_data}
 use Rattle.law_register.specs.Answer.ShownNodes.{shown_list}
 use Rattle.akn_json.proofs.printing.provisions.+provision.Given as goal
 

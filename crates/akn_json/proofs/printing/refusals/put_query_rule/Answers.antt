@@ -1,6 +1,6 @@
 use Rattle.std.proofs.Common.{◌∙◌}
-use Rattle.akn_json.specs.RefusalData.{query_data}
-use Rattle.akn_json.proofs.PrintedTexts.{text_of_tokens}
+use Rattle.akn_json.specs.Printing.Refusals.{query_data}
+use Rattle.akn_json.proofs.Printed.Texts.{text_of_tokens}
 use Rattle.akn_json.proofs.printing.refusals.put_query_rule.Goals as goal
 
 pub returns : goal.returns

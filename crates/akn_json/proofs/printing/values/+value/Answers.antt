@@ -4,9 +4,9 @@ use Rattle.serde_json.specs.Data.{array}
 use Rattle.serde_json.specs.View.{items_of, view}
 use Rattle.serde_json.proofs.Views.{view-Array}
 use Rattle.act_tree.specs.Branches.{branches_of}
-use Rattle.akn_json.specs.AnswerData.{nodes_data}
+use Rattle.akn_json.specs.Printing.Answers.{nodes_data}
 use Rattle.law_register.specs.Answer.ShownNodes.{shown_list}
-use Rattle.akn_json.proofs.PrintedValues.{shown_node_data, nodes_data-shown_list, more_values}
+use Rattle.akn_json.proofs.Printed.Values.{shown_node_data, nodes_data-shown_list, more_values}
 use Rattle.akn_json.proofs.printing.values.+value.Goals as goal
 
 pub nodes_value-returns : goal.nodes_value-returns

@@ -1,0 +1,5 @@
+pub mod Passing
+pub mod Nodes
+pub mod Acts
+pub mod Modifications
+pub mod Bytes

@@ -1,0 +1,5 @@
+use Rattle.akn_json.proofs.Places.{asked_placed}
+use Rattle.akn_json.proofs.reading.read_command.Goals as goal
+
+pub returns-clause-place : goal.returns-clause-place
+returns-clause-place c = asked_placed c.args.bytes.now

@@ -1,0 +1,12 @@
+pub mod Reads
+pub mod Keys
+pub mod Fields
+pub mod Names
+pub mod Nodes
+pub mod Widths
+pub mod Acts
+pub mod Modifications
+pub mod Bytes
+pub mod Dossiers
+pub mod CommandKinds
+pub mod Commands
