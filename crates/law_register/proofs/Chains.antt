@@ -4,7 +4,8 @@ use Rattle.std.proofs.lemmas.List.{append-nil, length-append, length-take-le}
 use Rattle.std.proofs.lemmas.Bool.Decides.{nat_tests}
 use Rattle.law_register.specs.declared.law.command.Command.{Command}
 use Rattle.law_register.specs.Register.Listing.{number_within, numbers_on}
-use Rattle.law_register.specs.Register.Verdicts.{concerns, last_on}
+use Rattle.law_register.specs.Register.Verdicts.{last_on}
+use Rattle.law_register.specs.Register.Concerns.{concerns}
 use Rattle.law_register.proofs.Lists.{by_last, at_most_or, take_all, take_last, take_front, take_twice, take_few, take_less, one_more_taken, there_is}
 use Rattle.law_register.proofs.Snoc.{last_more, numbers_more}
 

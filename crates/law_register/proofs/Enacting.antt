@@ -10,7 +10,7 @@ use Rattle.law_register.specs.Register.Drafts.{items_of}
 use Rattle.law_register.specs.Register.Indexes.{told_at, act_of, ActsStand}
 use Rattle.law_register.specs.Register.LawList.{acts_of, law_command}
 use Rattle.law_register.specs.Register.Listing.{work_told, works_at}
-use Rattle.law_register.specs.Register.Noting.{with_act}
+use Rattle.law_register.specs.Register.Marks.{with_act}
 use Rattle.law_register.proofs.Snoc.{acts_more}
 use Rattle.law_register.proofs.Steps.{told_stays, told_last}
 

@@ -14,9 +14,11 @@ use Rattle.law_register.specs.declared.register.indexes.IdMark.{IdMark}
 use Rattle.law_register.specs.declared.register.indexes.WorkMark.{WorkMark}
 use Rattle.law_register.specs.declared.law.modification.Modification.{Modification}
 use Rattle.law_register.specs.Answer.Counted.{is_same_id}
-use Rattle.law_register.specs.Register.Indexes.{told_at, work_named, act_of, body_of, is_named, EnactedStands, WorkStands, IdStands, enacted_in, last_in, ids_in, recorded_from, recorded_mark, corrected, with_withdrawn, work_of_mark, work_after, enacted_after, newly_enacted, BodiesStand}
+use Rattle.law_register.specs.Register.Indexes.{told_at, work_named, act_of, body_of, EnactedStands, WorkStands, IdStands, enacted_in, last_in, ids_in, recorded_from, recorded_mark, corrected, with_withdrawn, work_of_mark, work_after, enacted_after, newly_enacted, BodiesStand}
+use Rattle.law_register.specs.Register.Concerns.{is_named}
 use Rattle.law_register.specs.Register.KnownIds.{IdFacts, item_at, first_facts, facts_after, facts_from, facts_of, enacted, enacted_by, enacted_or, ids_of, ids_recorded, ids_from_item}
-use Rattle.law_register.specs.Register.Verdicts.{is_of, concerns, last_on}
+use Rattle.law_register.specs.Register.Verdicts.{last_on}
+use Rattle.law_register.specs.Register.Concerns.{is_of, concerns}
 use Rattle.law_register.proofs.Puts.{number_either, number_same, number_is}
 use Rattle.law_register.proofs.Snoc.{first_act, enacted_more, ids_more, last_more}
 use Rattle.law_register.proofs.Steps.{enacted_stays, told_last}

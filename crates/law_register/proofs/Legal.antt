@@ -2,29 +2,31 @@
 use Rattle.std.proofs.Common.{◌≡◌, sym, ap, subst, ℕ, ◌+◌, ◌≤◌, nat_le, nat_lt, Bool, true, false, cond, ◌&&◌, ◌||◌, List, [], ◌∷◌, ◌++◌, length, Option, Some, None, refl, append_assoc, arith}
 use Rattle.std.proofs.lemmas.List.{append-nil, length-append}
 use Rattle.std.proofs.lemmas.Bool.Decides.{nat_tests}
+use Rattle.std.specs.Option.{option_map_or, option_or}
 use Rattle.law_register.specs.declared.law.command.Command.{Command}
 use Rattle.law_register.specs.declared.law.command.Command.TheVariants.{Enact, Record, Correct, Withdraw, Restore, DraftAdd, DraftDrop, File}
 use Rattle.law_register.specs.declared.register.draft.DraftItem.{DraftItem}
 use Rattle.law_register.specs.declared.register.entry.Entry.{Entry}
+use Rattle.law_register.specs.declared.register.limits.TheConstants.{MOST_LAWS, MOST_ENTRY_BYTES, MOST_REGISTER_BYTES}
 use Rattle.law_register.specs.declared.register.rules.Rule.{Rule}
-use Rattle.law_register.specs.declared.register.rules.Rule.TheVariants.{LawFull, NumberReused}
+use Rattle.law_register.specs.declared.register.rules.Rule.TheVariants.{LawFull}
 use Rattle.law_register.specs.declared.register.verdict.Reply.{Reply}
 use Rattle.law_register.specs.declared.register.verdict.Verdict.TheVariants.{Accepted, Repeat, Refused}
 use Rattle.law_register.specs.Register.Drafts.{additions, added, is_by, draft_of}
 use Rattle.law_register.specs.Register.LawList.{law_command, law_of, laws, front}
-use Rattle.law_register.specs.Law.Same.{same_command, same_number}
+use Rattle.law_register.specs.Law.Same.{same_number}
 use Rattle.desk_base.specs.Sizes.{name_size}
 use Rattle.law_register.specs.Law.Sizes.{command_size, size_of, entry_size, entries_size}
 use Rattle.law_register.specs.Register.Verdicts as v
-use Rattle.law_register.specs.Register.Verdicts.{rule_or, broken_where, again, refused_or, reply_to, law_number, request_of, first_rule, verdict_by, verdict, is_accepted, is_legal_from, is_legal}
+use Rattle.law_register.specs.Register.Verdicts.{broken_where, again, newly, reply_to, law_number, request_of, first_rule, verdict, is_accepted, is_legal_from, is_legal}
 use Rattle.law_register.proofs.Puts.{left_true, right_true}
 use Rattle.law_register.proofs.Snoc.{laws_more, size_more}
 
-pub first_kept : (a b : Option Rule) → rule_or a b ≡ None → a ≡ None
+pub first_kept : (a b : Option Rule) → option_or a b ≡ None → a ≡ None
 first_kept None b h = refl
 first_kept (Some rule) b h = h
 
-pub second_kept : (a b : Option Rule) → rule_or a b ≡ None → b ≡ None
+pub second_kept : (a b : Option Rule) → option_or a b ≡ None → b ≡ None
 second_kept None b h = h
 second_kept (Some rule) b h = cc
 
@@ -38,20 +40,19 @@ pub record IsNew (entries : List Entry) (drafter : List ℕ) (request : ℕ) (co
   pub kept : first_rule entries drafter command ≡ None
   pub number : same_number law (law_number entries command) ≡ true
 
-not_again : (law : Option ℕ) (same : Bool) (reply : Reply) (rule : Rule) → is_accepted law (cond same (Repeat reply) (Refused rule)) ≡ true → ⊥
-not_again law true reply rule h = let no : false ≡ true = h in cc
-not_again law false reply rule h = let no : false ≡ true = h in cc
+not_again : (law : Option ℕ) (rule : Option Rule) (reply : Reply) → is_accepted law (option_map_or (λ r. Refused r) rule (Repeat reply)) ≡ true → ⊥
+not_again law None reply h = let no : false ≡ true = h in cc
+not_again law (Some rule) reply h = let no : false ≡ true = h in cc
 
 by_rule : (es : List Entry) (d : List ℕ) (r : ℕ) (c : Command) (law : Option ℕ) (rule : Option Rule) → request_of es d r ≡ None → first_rule es d c ≡ rule
-    → is_accepted law (refused_or rule (Accepted (law_number es c) (reply_to es d c))) ≡ true → IsNew es d r c law
+    → is_accepted law (option_map_or (λ x. Refused x) rule (Accepted (law_number es c) (reply_to es d c))) ≡ true → IsNew es d r c law
 by_rule es d r c law None new is h = record { new = new; kept = is; number = h }
 by_rule es d r c law (Some rule) new is h = absurd (let no : false ≡ true = h in cc)
 
 by_found : (es : List Entry) (d : List ℕ) (r : ℕ) (c : Command) (law : Option ℕ) (found : Option (Entry × Reply)) → request_of es d r ≡ found
-    → is_accepted law (verdict_by es d c found) ≡ true → IsNew es d r c law
+    → is_accepted law (option_map_or (λ f. again c f) found (newly es d c)) ≡ true → IsNew es d r c law
 by_found es d r c law None is h = by_rule es d r c law (first_rule es d c) is refl h
-by_found es d r c law (Some found) is h =
-    absurd (not_again law (same_command found.0.command c) found.1 (NumberReused (v.reply_number found.1)) h)
+by_found es d r c law (Some found) is h = absurd (not_again law (v.number_reused c found) found.1 h)
 
 pub accepted_new : (es : List Entry) (d : List ℕ) (r : ℕ) (c : Command) (law : Option ℕ) → is_accepted law (verdict es d r c) ≡ true → IsNew es d r c law
 unfolding verdict
@@ -116,15 +117,15 @@ not_both true b h i = i
 not_both false b h i = absurd (let no : false ≡ true = h in cc)
 
 abbrev SizeFits : List Entry → Type 0
-SizeFits es = entries_size es ≤ v.most_register_bytes
+SizeFits es = entries_size es ≤ MOST_REGISTER_BYTES
 
 size_step : (es : List Entry) (e : Entry) → SizeFits es → IsNew es e.drafter e.request e.command e.law → SizeFits (es ++ e ∷ [])
 size_step es e fits new =
     let kept = (kept_rules es e.drafter e.command new.kept).register in
-    let small = not_broken (nat_lt v.most_entry_bytes (size_of e.drafter e.command) || nat_lt v.most_register_bytes (entries_size es + size_of e.drafter e.command)) _ kept in
-    let all = not_above v.most_register_bytes (entries_size es + size_of e.drafter e.command)
-    (neither (nat_lt v.most_entry_bytes (size_of e.drafter e.command)) (nat_lt v.most_register_bytes (entries_size es + size_of e.drafter e.command)) small) in
-    subst (λ n. n ≤ v.most_register_bytes) (sym (size_more es e)) all
+    let small = not_broken (nat_lt MOST_ENTRY_BYTES (size_of e.drafter e.command) || nat_lt MOST_REGISTER_BYTES (entries_size es + size_of e.drafter e.command)) _ kept in
+    let all = not_above MOST_REGISTER_BYTES (entries_size es + size_of e.drafter e.command)
+    (neither (nat_lt MOST_ENTRY_BYTES (size_of e.drafter e.command)) (nat_lt MOST_REGISTER_BYTES (entries_size es + size_of e.drafter e.command)) small) in
+    subst (λ n. n ≤ MOST_REGISTER_BYTES) (sym (size_more es e)) all
 
 pub legal_size : (es : List Entry) → is_legal es ≡ true → entries_size es ≤ 536870912
 legal_size es h = legally SizeFits size_step (omega arith) es h
@@ -133,8 +134,8 @@ legal_size es h = legally SizeFits size_step (omega arith) es h
 abbrev FrontFits : List Entry → Type 0
 FrontFits es = front es ≤ 65535
 
-below : (es : List Entry) → broken_where (nat_le v.most_laws (front es)) (LawFull v.most_laws) ≡ None → front es + 1 ≤ 65535
-below es kept = above (front es) (not_broken (nat_le v.most_laws (front es)) (LawFull v.most_laws) kept)
+below : (es : List Entry) → broken_where (nat_le MOST_LAWS (front es)) (LawFull MOST_LAWS) ≡ None → front es + 1 ≤ 65535
+below es kept = above (front es) (not_broken (nat_le MOST_LAWS (front es)) (LawFull MOST_LAWS) kept)
   where
     above : (n : ℕ) → nat_le 65535 n ≡ false → n + 1 ≤ 65535
     above n h = grind (arith, nat_tests)

@@ -7,6 +7,7 @@ use Rattle.law_register.specs.declared.law.command.Command.{Command}
 use Rattle.law_register.specs.declared.law.command.Command.TheVariants.{Enact, Record, Correct, Withdraw, Restore, DraftAdd, DraftDrop, File}
 use Rattle.law_register.specs.declared.register.draft.DraftItem.{DraftItem}
 use Rattle.law_register.specs.declared.register.entry.Entry.{Entry}
+use Rattle.law_register.specs.declared.register.limits.TheConstants.{MOST_DRAFT_ITEMS, MOST_IDS, MOST_ENTRY_BYTES, MOST_REGISTER_BYTES}
 use Rattle.law_register.specs.declared.register.indexes.Indexes.{Indexes}
 use Rattle.law_register.specs.declared.law.modification.Modification.{Modification}
 use Rattle.law_register.specs.declared.register.rules.Rule.TheVariants.{BadModification, DraftFull, WorkFull}
@@ -15,7 +16,7 @@ use Rattle.law_register.specs.Register.Drafts.{is_by, additions, added, redrafte
 use Rattle.law_register.specs.Register.Indexes.{items_in, drafter_mark}
 use Rattle.law_register.specs.Register.KnownIds.{ids_of, ids_recorded}
 use Rattle.law_register.specs.Register.LawList.{law_command, laws}
-use Rattle.law_register.specs.Register.Noting.{mods_of, CanNote}
+use Rattle.law_register.specs.Register.Marks.{mods_of, CanNote}
 use Rattle.law_register.specs.Register.Registers.{IsKept}
 use Rattle.law_register.specs.Law.Sizes.{size_of, entries_size}
 use Rattle.law_register.specs.Register.Verdicts as v
@@ -43,7 +44,7 @@ filter_few p (x ∷ xs) = by (p x) (filter_few p xs)
 
 draft_fits : (number : ℕ) (c : Command) (items : List DraftItem) → v.draft_full items c ≡ None → length items ≤ 64 → length items + additions c ≤ 64
 draft_fits number (DraftAdd work body) items kept h =
-    let less = less_than 64 (length items) (not_broken (nat_le 64 (length items)) (DraftFull v.most_draft_items) kept) in
+    let less = less_than 64 (length items) (not_broken (nat_le 64 (length items)) (DraftFull MOST_DRAFT_ITEMS) kept) in
     omega (arith, less)
 draft_fits number (DraftDrop item) items kept h = omega arith
 draft_fits number (File work seen) items kept h = omega arith
@@ -94,7 +95,7 @@ record_fits w other ls mods kept h = by (bytes_eq other w) refl
     by : (own : Bool) → bytes_eq other w ≡ own → length (ids_of w (ls ++ Record other mods ∷ [])) ≤ 512
     by true is =
         let same : other ≡ w = bytes_same other w is in
-        let room = at_most 512 (length (ids_of other ls) + length mods) (not_broken (nat_lt 512 (length (ids_of other ls) + length mods)) (WorkFull v.most_ids) kept) in
+        let room = at_most 512 (length (ids_of other ls) + length mods) (not_broken (nat_lt 512 (length (ids_of other ls) + length mods)) (WorkFull MOST_IDS) kept) in
         let here : length (ids_of w ls) + length mods ≤ 512 = subst (λ x. length (ids_of x ls) + length mods ≤ 512) same room in
         one_more w ls (Record other mods) (length mods) here (omega (arith, recorded_count (length ls + 1) w other mods ∙ ap (λ b. cond b (length mods) 0) is))
     by false is =
@@ -144,9 +145,9 @@ first_false false b h = refl
 
 pub small_entry : (es : List Entry) (d : List ℕ) (c : Command) → v.register_full es d c ≡ None → size_of d c ≤ 16777216
 small_entry es d c kept =
-    at_most v.most_entry_bytes (size_of d c)
-    (first_false (nat_lt v.most_entry_bytes (size_of d c)) (nat_lt v.most_register_bytes (entries_size es + size_of d c))
-    (not_broken (nat_lt v.most_entry_bytes (size_of d c) || nat_lt v.most_register_bytes (entries_size es + size_of d c)) _ kept))
+    at_most MOST_ENTRY_BYTES (size_of d c)
+    (first_false (nat_lt MOST_ENTRY_BYTES (size_of d c)) (nat_lt MOST_REGISTER_BYTES (entries_size es + size_of d c))
+    (not_broken (nat_lt MOST_ENTRY_BYTES (size_of d c) || nat_lt MOST_REGISTER_BYTES (entries_size es + size_of d c)) _ kept))
 
 -- all numbers of an accepted entry stay within their types
 pub can_note : (ix : Indexes) (es : List Entry) (e : Entry) → IsKept ix es → IsNew es e.drafter e.request e.command e.law → CanNote ix e

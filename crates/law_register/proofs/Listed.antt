@@ -15,7 +15,8 @@ use Rattle.law_register.specs.Register.Indexes.{IdStands}
 use Rattle.law_register.specs.Register.KnownIds.{IdFacts, item_at, first_facts, facts_after, facts_of, ids_from_item, ids_recorded, ids_of, known_as, known_ids}
 use Rattle.law_register.specs.Register.LawList.{law_command, law_of, laws}
 use Rattle.law_register.specs.Register.Listing.{own_facts, known_told, known_mark, known_marks}
-use Rattle.law_register.specs.Register.Verdicts.{is_of, bad_modification, is_legal}
+use Rattle.law_register.specs.Register.Verdicts.{bad_modification, is_legal}
+use Rattle.law_register.specs.Register.Concerns.{is_of}
 use Rattle.law_register.proofs.IdSteps.{fresh, item_at_suc}
 use Rattle.law_register.proofs.Legal.{IsNew, kept_rules, legally}
 use Rattle.law_register.proofs.Limits.{DraftFits, few_mods, filter_few, draft_step}

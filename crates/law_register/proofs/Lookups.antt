@@ -11,7 +11,8 @@ use Rattle.law_register.specs.declared.register.indexes.ItemMark.{ItemMark}
 use Rattle.law_register.specs.declared.register.indexes.RequestMark.{RequestMark}
 use Rattle.law_register.specs.declared.register.verdict.Reply.{Reply}
 use Rattle.law_register.specs.Register.Drafts.{items_of}
-use Rattle.law_register.specs.Register.Indexes.{told_at, work_named, act_of, body_of, marks_work, is_named, RequestStands, ItemsStand, EnactedStands, IdStands}
+use Rattle.law_register.specs.Register.Indexes.{told_at, work_named, act_of, body_of, marks_work, RequestStands, ItemsStand, EnactedStands, IdStands}
+use Rattle.law_register.specs.Register.Concerns.{is_named}
 use Rattle.law_register.specs.Register.KnownIds.{IdFacts}
 use Rattle.law_register.specs.Register.Listing.{item_told, items_marked}
 use Rattle.law_register.specs.declared.law.modification.Modification.{Modification}

@@ -9,9 +9,11 @@ use Rattle.law_register.specs.declared.register.indexes.BodyMark.{BodyMark}
 use Rattle.law_register.specs.declared.register.indexes.StepMark.{StepMark}
 use Rattle.law_register.specs.declared.register.indexes.WorkMark.{WorkMark}
 use Rattle.law_register.specs.declared.law.modification.Modification.{Modification}
-use Rattle.law_register.specs.Register.Indexes.{body_of, bodies_at, is_named, last_in, recorded_for, BodiesStand, LawStands, StepStands, StepsStand}
-use Rattle.law_register.specs.Register.Noting.{last_before}
-use Rattle.law_register.specs.Register.Verdicts.{concerns, last_on}
+use Rattle.law_register.specs.Register.Indexes.{body_of, bodies_at, last_in, recorded_for, BodiesStand, LawStands, StepStands, StepsStand}
+use Rattle.law_register.specs.Register.Concerns.{is_named}
+use Rattle.law_register.specs.Register.Marks.{last_before}
+use Rattle.law_register.specs.Register.Verdicts.{last_on}
+use Rattle.law_register.specs.Register.Concerns.{concerns}
 use Rattle.law_register.proofs.Puts.{bytes_same}
 use Rattle.law_register.proofs.Lists.{take_all}
 use Rattle.law_register.proofs.Steps.{told_stays}

@@ -7,9 +7,10 @@ use Rattle.law_register.specs.declared.register.entry.Entry.{Entry}
 use Rattle.law_register.specs.declared.register.verdict.Reply.{Reply}
 use Rattle.law_register.specs.Register.Drafts.{is_by}
 use Rattle.law_register.specs.Register.LawList.{front, with_number, law_numbers, first_numbers}
-use Rattle.law_register.specs.Register.Noting.{law_count}
+use Rattle.law_register.specs.Register.Marks.{law_count}
 use Rattle.law_register.specs.Law.Same.{same_number}
-use Rattle.law_register.specs.Register.Verdicts.{first_found, request_from, reply_to, law_number, is_legal}
+use Rattle.law_register.specs.Register.Verdicts.{request_from, reply_to, law_number, is_legal}
+use Rattle.std.specs.Option.{option_or}
 use Rattle.law_register.proofs.Legal.{IsNew, legally}
 use Rattle.law_register.proofs.Pushing.{front_is}
 use Rattle.law_register.proofs.Puts.{bytes_are, number_is, number_same, and_true}
@@ -18,11 +19,11 @@ use Rattle.law_register.proofs.Puts.{bytes_are, number_is, number_same, and_true
 abbrev pub Once : List Entry → Type 0
 Once es = (i j : ℕ) (a b : Entry) → slice_get es i ≡ Some a → slice_get es j ≡ Some b → a.drafter ≡ b.drafter → a.request ≡ b.request → i ≡ j
 
-first_none : (a b : Option (Entry × Reply)) → first_found a b ≡ None → a ≡ None
+first_none : (a b : Option (Entry × Reply)) → option_or a b ≡ None → a ≡ None
 first_none None b h = refl
 first_none (Some p) b h = absurd (let no : Some p ≡ None = h in cc)
 
-rest_none : (a b : Option (Entry × Reply)) → first_found a b ≡ None → b ≡ None
+rest_none : (a b : Option (Entry × Reply)) → option_or a b ≡ None → b ≡ None
 rest_none None b h = h
 rest_none (Some p) b h = absurd (let no : Some p ≡ None = h in cc)
 

@@ -13,7 +13,7 @@ use Rattle.law_register.specs.Answer.Counted.{is_same_id}
 use Rattle.law_register.specs.Register.Indexes.{told, told_at, work_named, body_of, recorded_for, recorded_from, id_after, BodiesStand, IdStands, LawStands}
 use Rattle.law_register.specs.Register.KnownIds.{IdFacts, item_at, first_facts, facts_after, facts_of, ids_from_item, ids_recorded, ids_of}
 use Rattle.law_register.specs.Register.Listing.{own_facts, id_told, ids_marked}
-use Rattle.law_register.specs.Register.Verdicts.{is_of, concerns}
+use Rattle.law_register.specs.Register.Concerns.{is_of, concerns}
 use Rattle.law_register.proofs.IdSteps.{fresh, record_stands, correct_stands, withdraw_stands}
 use Rattle.law_register.proofs.Puts.{number_same, id_same}
 use Rattle.law_register.proofs.Snoc.{facts_more, ids_more}

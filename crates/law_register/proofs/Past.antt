@@ -11,7 +11,7 @@ use Rattle.law_register.specs.Register.Indexes.{EnactedStands}
 use Rattle.law_register.specs.Register.KnownIds.{enacted_by, enacted_or, enacted}
 use Rattle.law_register.specs.Register.LawList.{law_of, laws, front}
 use Rattle.law_register.specs.Register.Listing.{enacted_within}
-use Rattle.law_register.specs.Register.Noting.{law_count}
+use Rattle.law_register.specs.Register.Marks.{law_count}
 use Rattle.law_register.specs.Register.Verdicts.{verdict, is_accepted, is_legal_from, is_legal}
 use Rattle.law_register.proofs.Lists.{by_last, at_most_or, take_all, take_last, take_front}
 use Rattle.law_register.proofs.Pushing.{front_is}

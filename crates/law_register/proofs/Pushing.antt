@@ -19,10 +19,11 @@ use Rattle.law_register.specs.declared.law.modification.Modification.{Modificati
 use Rattle.law_register.specs.declared.register.verdict.Reply.{Reply}
 use Rattle.law_register.specs.Answer.Counted.{is_same_id}
 use Rattle.law_register.specs.Register.Drafts.{draft_of, items_of}
-use Rattle.law_register.specs.Register.Indexes.{told_at, work_named, body_of, marks_work, is_named, request_mark, drafter_mark, work_mark, id_mark, items_in, enacted_in, last_in, id_after, touched, work_after, enacted_after, recorded_for, ItemsStand, IdStands, WorkStands, ActsStand, BodiesStand, StepsStand}
+use Rattle.law_register.specs.Register.Indexes.{told_at, work_named, body_of, marks_work, request_mark, drafter_mark, work_mark, id_mark, items_in, enacted_in, last_in, id_after, concerned_by, work_after, enacted_after, recorded_for, ItemsStand, IdStands, WorkStands, ActsStand, BodiesStand, StepsStand}
+use Rattle.law_register.specs.Register.Concerns.{is_named}
 use Rattle.law_register.specs.Register.KnownIds.{facts_of, enacted, ids_of}
 use Rattle.law_register.specs.Register.LawList.{acts_of, law_command, law_of, laws, front}
-use Rattle.law_register.specs.Register.Noting.{law_count, places, item_body, bodies_of, new_bodies, last_before, with_step, new_step, IsNoted}
+use Rattle.law_register.specs.Register.Marks.{law_count, places, item_body, bodies_of, new_bodies, last_before, with_step, new_step, IsNoted}
 use Rattle.law_register.specs.Register.Registers.{IsKept, are_well_spelled}
 use Rattle.law_register.specs.Law.Spelling.{is_well_spelled}
 use Rattle.law_register.specs.Law.Sizes.{entry_size}
@@ -114,7 +115,7 @@ work_stays es e w ls old new put h =
 work_step : (es : List Entry) (e : Entry) (w : List ℕ) (ls : List Command) (draft : List ItemMark) (items : List DraftItem) (marks : Id → Option IdMark) (old new : Option WorkMark) (c : Command)
     → e.command ≡ c → ItemsStand es draft items → ((id : Id) → IdStands es (marks id) (facts_of id ls))
     → WorkStands es old (enacted w ls) (last_on w ls) (length (ids_of w ls))
-    → new ≡ cond (is_named w (touched es marks c)) (Some (work_after (length ls + 1) (length es) c (length (bodies_of es (length es) draft c)) old)) old
+    → new ≡ cond (is_named w (concerned_by es marks c)) (Some (work_after (length ls + 1) (length es) c (length (bodies_of es (length es) draft c)) old)) old
     → WorkStands (es ++ e ∷ []) new (enacted w (ls ++ law_command items c)) (last_on w (ls ++ law_command items c)) (length (ids_of w (ls ++ law_command items c)))
 work_step es e w ls draft items marks old new (DraftAdd work body) is drafted stand h put = work_stays es e w ls old new put h
 work_step es e w ls draft items marks old new (DraftDrop item) is drafted stand h put = work_stays es e w ls old new put h
@@ -135,17 +136,17 @@ work_step es e w ls draft items marks old new (File work seen) is drafted stand 
     (recorded_count (length ls + 1) w work bodies
     ∙ ap (λ n. cond (bytes_eq work w) n 0) (length-map (items_of work items) (λ (i : DraftItem). i.body) ∙ sym (items_counted work es draft items drafted) ∙ sym (length-map filed item_body))) put
 work_step es e w ls draft items marks old new (Correct id body) is drafted stand h put =
-    let own : Bool = is_named w (touched es marks (Correct id body)) in
+    let own : Bool = is_named w (concerned_by es marks (Correct id body)) in
     work_case es e w ls (Correct id body) (Correct id body) 0 own old new h (of_work es w (marks id) (facts_of id ls) (stand id))
     (keep_step es e own (enacted_in old) (enacted_after (length ls + 1) (length es) (Correct id body) (enacted_in old)) (enacted w ls) h.act
     (not_enacting (length ls + 1) (length es) (Correct id body) (enacted_in old) refl)) (sym (either own 0)) put
 work_step es e w ls draft items marks old new (Withdraw id) is drafted stand h put =
-    let own : Bool = is_named w (touched es marks (Withdraw id)) in
+    let own : Bool = is_named w (concerned_by es marks (Withdraw id)) in
     work_case es e w ls (Withdraw id) (Withdraw id) 0 own old new h (of_work es w (marks id) (facts_of id ls) (stand id))
     (keep_step es e own (enacted_in old) (enacted_after (length ls + 1) (length es) (Withdraw id) (enacted_in old)) (enacted w ls) h.act
     (not_enacting (length ls + 1) (length es) (Withdraw id) (enacted_in old) refl)) (sym (either own 0)) put
 work_step es e w ls draft items marks old new (Restore id) is drafted stand h put =
-    let own : Bool = is_named w (touched es marks (Restore id)) in
+    let own : Bool = is_named w (concerned_by es marks (Restore id)) in
     work_case es e w ls (Restore id) (Restore id) 0 own old new h (of_work es w (marks id) (facts_of id ls) (stand id))
     (keep_step es e own (enacted_in old) (enacted_after (length ls + 1) (length es) (Restore id) (enacted_in old)) (enacted w ls) h.act
     (not_enacting (length ls + 1) (length es) (Restore id) (enacted_in old) refl)) (sym (either own 0)) put
@@ -169,7 +170,7 @@ front_is es e =
 pub step_case : (es : List Entry) (e : Entry) (ls : List Command) (draft : List ItemMark) (items : List DraftItem) (marks : Id → Option IdMark) (works : List ℕ → Option WorkMark)
     (bodies : List BodyMark) (steps : List StepMark) (s : StepMark) (c : Command) → e.command ≡ c → ItemsStand es draft items
     → ((id : Id) → IdStands es (marks id) (facts_of id ls)) → ((w : List ℕ) → last_in (works w) ≡ last_on w ls)
-    → s.entry ≡ length es → s.first ≡ length bodies → s.until ≡ length bodies + length (bodies_of es (length es) draft c) → s.before ≡ last_before works (touched es marks c)
+    → s.entry ≡ length es → s.first ≡ length bodies → s.until ≡ length bodies + length (bodies_of es (length es) draft c) → s.before ≡ last_before works (concerned_by es marks c)
     → StepsStand es bodies [] steps ls
     → StepsStand (es ++ e ∷ []) (bodies ++ bodies_of es (length es) draft c) [] (with_step c s steps) (ls ++ law_command items c)
 step_case es e ls draft items marks works bodies steps s (DraftAdd work body) is drafted stand last at first until before h =
@@ -177,24 +178,24 @@ step_case es e ls draft items marks works bodies steps s (DraftAdd work body) is
 step_case es e ls draft items marks works bodies steps s (DraftDrop item) is drafted stand last at first until before h =
     subst (StepsStand (es ++ e ∷ []) (bodies ++ []) [] steps) (sym (append-nil ls)) (steps_stay es e bodies [] [] steps ls h)
 step_case es e ls draft items marks works bodies steps s (Enact act) is drafted stand last at first until before h =
-    new_step_stands es e bodies [] steps ls s (Enact act) (touched es marks (Enact act)) works (λ w. refl) last at first until before
+    new_step_stands es e bodies [] steps ls s (Enact act) (concerned_by es marks (Enact act)) works (λ w. refl) last at first until before
     (told_last (λ c. Some c) es e ∙ ap Some is, refl) h
 step_case es e ls draft items marks works bodies steps s (Record work mods) is drafted stand last at first until before h =
-    new_step_stands es e bodies (places (length es) 0 mods) steps ls s (Record work mods) (touched es marks (Record work mods)) works (λ w. refl) last at first until before
+    new_step_stands es e bodies (places (length es) 0 mods) steps ls s (Record work mods) (concerned_by es marks (Record work mods)) works (λ w. refl) last at first until before
     (told_last recorded_for es e ∙ ap recorded_for is, record_places es e work mods is) h
 step_case es e ls draft items marks works bodies steps s (File work seen) is drafted stand last at first until before h =
     let filed = filter (marks_work es work) draft in
     let mods = map (λ (i : DraftItem). i.body) (items_of work items) in
-    new_step_stands es e bodies (map item_body filed) steps ls s (Record work mods) (touched es marks (File work seen)) works (λ w. refl) last at first until before
+    new_step_stands es e bodies (map item_body filed) steps ls s (Record work mods) (concerned_by es marks (File work seen)) works (λ w. refl) last at first until before
     (told_last recorded_for es e ∙ ap recorded_for is, filed_stand es e filed (items_of work items) (items_filed work es draft items drafted)) h
 step_case es e ls draft items marks works bodies steps s (Correct id body) is drafted stand last at first until before h =
-    new_step_stands es e bodies [] steps ls s (Correct id body) (touched es marks (Correct id body)) works (λ w. of_work es w (marks id) (facts_of id ls) (stand id)) last at first until before
+    new_step_stands es e bodies [] steps ls s (Correct id body) (concerned_by es marks (Correct id body)) works (λ w. of_work es w (marks id) (facts_of id ls) (stand id)) last at first until before
     (told_last (λ c. Some c) es e ∙ ap Some is, refl) h
 step_case es e ls draft items marks works bodies steps s (Withdraw id) is drafted stand last at first until before h =
-    new_step_stands es e bodies [] steps ls s (Withdraw id) (touched es marks (Withdraw id)) works (λ w. of_work es w (marks id) (facts_of id ls) (stand id)) last at first until before
+    new_step_stands es e bodies [] steps ls s (Withdraw id) (concerned_by es marks (Withdraw id)) works (λ w. of_work es w (marks id) (facts_of id ls) (stand id)) last at first until before
     (told_last (λ c. Some c) es e ∙ ap Some is, refl) h
 step_case es e ls draft items marks works bodies steps s (Restore id) is drafted stand last at first until before h =
-    new_step_stands es e bodies [] steps ls s (Restore id) (touched es marks (Restore id)) works (λ w. of_work es w (marks id) (facts_of id ls) (stand id)) last at first until before
+    new_step_stands es e bodies [] steps ls s (Restore id) (concerned_by es marks (Restore id)) works (λ w. of_work es w (marks id) (facts_of id ls) (stand id)) last at first until before
     (told_last (λ c. Some c) es e ∙ ap Some is, refl) h
 
 -- all indexes
@@ -220,7 +221,7 @@ noted old new es e reply kept accepted spelled replied note =
         works = λ w.
             subst (W w) (sym (laws_more es e))
             (work_step es e w (laws es) marks items (id_mark old) (work_mark old w) (work_mark new w) e.command refl draft kept.stands.ids (kept.stands.works w)
-            (note.works w ∙ ap (λ n. cond (is_named w (touched es (id_mark old) e.command)) (Some (work_after (n + 1) (length es) e.command (length (new_bodies old es e)) (work_mark old w))) (work_mark old w)) kept.stands.front));
+            (note.works w ∙ ap (λ n. cond (is_named w (concerned_by es (id_mark old) e.command)) (Some (work_after (n + 1) (length es) e.command (length (new_bodies old es e)) (work_mark old w))) (work_mark old w)) kept.stands.front));
         ids = λ i.
             subst (I i) (sym (laws_more es e))
             (subst (λ m. IdStands (es ++ e ∷ []) m (facts_of i (laws es ++ law_of es e)))

@@ -14,7 +14,9 @@ use Rattle.law_register.specs.Register.KnownIds.{IdFacts, facts_after, facts_fro
 use Rattle.law_register.specs.Register.Listing.{numbers_from, numbers_on}
 use Rattle.law_register.specs.Register.LawList.{acts_by, acts_of, law_of, laws_from, laws}
 use Rattle.law_register.specs.Law.Sizes.{entry_size, entries_size}
-use Rattle.law_register.specs.Register.Verdicts.{reply_to, first_found, request_from, request_of, drafters_from, drafters, concerns, last_from, last_on, is_accepted, verdict, is_legal_from, is_legal}
+use Rattle.law_register.specs.Register.Verdicts.{reply_to, request_from, request_of, drafters_from, drafters, last_from, last_on, is_accepted, verdict, is_legal_from, is_legal}
+use Rattle.law_register.specs.Register.Concerns.{concerns}
+use Rattle.std.specs.Option.{option_or}
 
 -- the law that one more entry makes behind others
 laws_from_more : (before es : List Entry) (e : Entry) → laws_from before (es ++ e ∷ []) ≡ laws_from before es ++ law_of (before ++ es) e
@@ -173,29 +175,29 @@ found_here mine e reply = cond mine (Some (e, reply)) None
 
 request_from_more : (before : List Entry) (drafter : List ℕ) (request : ℕ) (es : List Entry) (e : Entry)
     → request_from before drafter request (es ++ e ∷ [])
-    ≡ first_found (request_from before drafter request es) (found_here (is_by drafter e && (e.request == request)) e (reply_to (before ++ es) drafter e.command))
+    ≡ option_or (request_from before drafter request es) (found_here (is_by drafter e && (e.request == request)) e (reply_to (before ++ es) drafter e.command))
 request_from_more before drafter request [] e =
     last (found_here (is_by drafter e && (e.request == request)) e (reply_to before drafter e.command))
     ∙ ap (λ b. found_here (is_by drafter e && (e.request == request)) e (reply_to b drafter e.command)) (sym (append-nil before))
   where
-    last : (found : Option (Entry × Reply)) → first_found found None ≡ found
+    last : (found : Option (Entry × Reply)) → option_or found None ≡ found
     last (Some found) = refl
     last None = refl
 request_from_more before drafter request (x ∷ es) e =
     let own : Option (Entry × Reply) = found_here (is_by drafter x && (x.request == request)) x (reply_to before drafter x.command) in
     let mine : Bool = is_by drafter e && (e.request == request) in
     let later : Option (Entry × Reply) = request_from (before ++ x ∷ []) drafter request es in
-    ap (first_found own) (request_from_more (before ++ x ∷ []) drafter request es e)
-    ∙ ap (λ b. first_found own (first_found later (found_here mine e (reply_to b drafter e.command)))) (append_assoc before (x ∷ []) es)
+    ap (option_or own) (request_from_more (before ++ x ∷ []) drafter request es e)
+    ∙ ap (λ b. option_or own (option_or later (found_here mine e (reply_to b drafter e.command)))) (append_assoc before (x ∷ []) es)
     ∙ by own later (found_here mine e (reply_to (before ++ x ∷ es) drafter e.command))
   where
-    by : (first second third : Option (Entry × Reply)) → first_found first (first_found second third) ≡ first_found (first_found first second) third
+    by : (first second third : Option (Entry × Reply)) → option_or first (option_or second third) ≡ option_or (option_or first second) third
     by (Some found) second third = refl
     by None second third = refl
 
 pub request_more : (drafter : List ℕ) (request : ℕ) (es : List Entry) (e : Entry)
     → request_of (es ++ e ∷ []) drafter request
-    ≡ first_found (request_of es drafter request) (found_here (is_by drafter e && (e.request == request)) e (reply_to es drafter e.command))
+    ≡ option_or (request_of es drafter request) (found_here (is_by drafter e && (e.request == request)) e (reply_to es drafter e.command))
 request_more drafter request es e = request_from_more [] drafter request es e
 
 -- the drafters

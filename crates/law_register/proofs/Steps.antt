@@ -17,7 +17,8 @@ use Rattle.law_register.specs.declared.register.verdict.Reply.{Reply}
 use Rattle.law_register.specs.Register.Drafts.{is_by, additions, added, redrafted, draft_of, items_but}
 use Rattle.law_register.specs.Register.Indexes.{told, told_at, work_named, act_of, body_of, marks_work, RequestStands, ItemsStand, DraftStands, EnactedStands, IdStands, added_of, items_in, items_after}
 use Rattle.law_register.specs.Register.KnownIds.{IdFacts}
-use Rattle.law_register.specs.Register.Verdicts.{reply_to, first_found, request_of, drafters}
+use Rattle.law_register.specs.Register.Verdicts.{reply_to, request_of, drafters}
+use Rattle.std.specs.Option.{option_or}
 use Rattle.law_register.proofs.Lookups.{items_filter, mark_works}
 use Rattle.law_register.proofs.Puts.{bytes_same, bytes_either, number_same, left_true, right_true}
 use Rattle.law_register.proofs.Snoc.{found_here, added_more, draft_more, request_more, drafters_more}
@@ -66,7 +67,7 @@ id_stays es e (Some m) None h = h
 
 -- a request
 request_stays : (es : List Entry) (e : Entry) (m : Option RequestMark) (found : Option (Entry × Reply)) → RequestStands es m found
-    → RequestStands (es ++ e ∷ []) m (first_found found None)
+    → RequestStands (es ++ e ∷ []) m (option_or found None)
 request_stays es e None None h = tt
 request_stays es e (Some m) (Some found) h = (entry_stays es e m.entry found.0 h.0, h.1)
 request_stays es e None (Some found) h = h
@@ -74,10 +75,10 @@ request_stays es e (Some m) None h = h
 
 request_case : (es : List Entry) (e : Entry) (mine : Bool) (m : RequestMark) (old : Option RequestMark) (found : Option (Entry × Reply)) (reply : Reply)
     → RequestStands es old found → (mine ≡ true → found ≡ None) → m.entry ≡ length es → (mine ≡ true → m.reply ≡ reply)
-    → RequestStands (es ++ e ∷ []) (cond mine (Some m) old) (first_found found (found_here mine e reply))
+    → RequestStands (es ++ e ∷ []) (cond mine (Some m) old) (option_or found (found_here mine e reply))
 request_case es e false m old found reply h new at is = request_stays es e old found h
 request_case es e true m old found reply h new at is =
-    let P : Option (Entry × Reply) → Type 0 = λ f. RequestStands (es ++ e ∷ []) (Some m) (first_found f (Some (e, reply))) in
+    let P : Option (Entry × Reply) → Type 0 = λ f. RequestStands (es ++ e ∷ []) (Some m) (option_or f (Some (e, reply))) in
     subst P (sym (new refl)) (ap (slice_get (es ++ e ∷ [])) at ∙ entry_last es e, is refl)
 
 pub request_step : (es : List Entry) (e : Entry) (m : RequestMark) (old new : List ℕ → ℕ → Option RequestMark)

@@ -1,4 +1,5 @@
 pub mod Bounds
+pub mod Kinds
 pub mod Same
 pub mod Sizes
 pub mod Spellable

@@ -1,3 +1,4 @@
+pub mod Concerns
 pub mod Drafters
 pub mod Drafts
 pub mod Entering
@@ -5,7 +6,9 @@ pub mod Indexes
 pub mod KnownIds
 pub mod LawList
 pub mod Listing
-pub mod Noting
+pub mod Marks
 pub mod Registers
+pub mod Requests
+pub mod Rulebook
 pub mod Verdicts
 pub mod Rules

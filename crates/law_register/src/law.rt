@@ -8,5 +8,5 @@ pub(crate) mod sizes;
 
 pub use act::Act;
 pub use command::Command;
-pub use modification::{Destination, ModSource, Modification, Mods};
+pub use modification::{Destination, Kind, ModSource, Modification, Mods};
 pub use sizes::entry_size;

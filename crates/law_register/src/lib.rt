@@ -10,7 +10,7 @@ pub use answer::{
     Answer, AnswerNode, AnswerNodes, AskFault, Days, Ids, QueryRule, Question, Reading, Replayer,
     Unapplied, Version,
 };
-pub use law::{Act, Command, Destination, ModSource, Modification, Mods, entry_size};
+pub use law::{Act, Command, Destination, Kind, ModSource, Modification, Mods, entry_size};
 pub use register::{
     Draft, DraftItem, Drafter, EnterFault, Entry, Known, KnownMod, KnownMods, Register, Reply,
     Rule, Verdict, known_at,

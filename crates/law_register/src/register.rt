@@ -1,5 +1,6 @@
 //! The register: entries, each judged by the rules behind those before it, and what is known of a work at a viewpoint.
 
+pub(crate) mod contents;
 mod draft;
 mod drafter;
 mod entering;
@@ -8,10 +9,10 @@ pub(crate) mod indexes;
 mod judging;
 mod knowing;
 mod known;
-mod noting;
+mod limits;
+mod marks;
 mod register;
 mod rules;
-pub(crate) mod telling;
 mod verdict;
 
 pub use draft::{Draft, DraftItem};

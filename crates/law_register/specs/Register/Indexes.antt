@@ -1,6 +1,7 @@
 -- What the indexes of a register stand for.
 use Rattle.std.specs.Prelude.{◌≡◌, ◌+◌, ◌-◌, ◌≤◌, if◌then◌else◌, ℕ, ◌==◌, Bool, true, false, ◌&&◌, List, [], ◌∷◌, ◌++◌, not, length, filter, take, drop, slice_get, Option, Some, None, option_map, is_some}
 use Rattle.std.specs.List.{list_any}
+use Rattle.std.specs.Option.{option_and_then}
 use Rattle.std.specs.Str.{bytes_eq}
 use Rattle.indexmap.specs.IndexMap.{get_by, index_map_len}
 use Rattle.desk_base.specs.declared.id.Id.{Id}
@@ -26,12 +27,12 @@ use Rattle.law_register.specs.Register.Drafts.{added, draft_of}
 use Rattle.law_register.specs.Register.KnownIds.{IdFacts, facts_of, enacted, ids_of}
 use Rattle.law_register.specs.Register.LawList.{acts_of, laws, front}
 use Rattle.law_register.specs.Law.Sizes.{entries_size}
-use Rattle.law_register.specs.Register.Verdicts.{request_of, drafters, concerns, last_on}
+use Rattle.law_register.specs.Register.Concerns.{is_named, concerned, concerns}
+use Rattle.law_register.specs.Register.Verdicts.{request_of, drafters, last_on}
 
 -- what an entry's command tells, if there is an entry
 abbrev pub told : {X : Type 0} → (Command → Option X) → Option Entry → Option X
-told tells None = None
-told tells (Some e) = tells e.command
+told tells entry = option_and_then (λ e. tells e.command) entry
 
 -- what the command of the entry at an index tells
 abbrev pub told_at : {X : Type 0} → List Entry → ℕ → (Command → Option X) → Option X
@@ -58,10 +59,6 @@ body_of place (DraftAdd work body) = Some body
 body_of place _ = None
 
 -- the mark of an item leads to an entry that names a work
-abbrev pub is_named : List ℕ → Option (List ℕ) → Bool
-is_named work None = false
-is_named work (Some own) = bytes_eq own work
-
 abbrev pub marks_work : List Entry → List ℕ → ItemMark → Bool
 marks_work entries work m = is_named work (told_at entries m.entry work_named)
 
@@ -169,19 +166,12 @@ enacted_after number at command (Some m) = Some m
 abbrev pub work_after : ℕ → ℕ → Command → ℕ → Option WorkMark → WorkMark
 work_after number at command count m = record { enacted = enacted_after number at command (enacted_in m); last = number; ids = ids_in m + count }
 
--- the work that a law entry concerns: that which it names, or that of its id
+-- the work of an id, by its mark, and the work that a command concerns, by the marks of ids
 abbrev pub work_of_mark : List Entry → Option IdMark → Option (List ℕ)
-work_of_mark entries None = None
-work_of_mark entries (Some m) = told_at entries m.recorded work_named
+work_of_mark entries m = option_and_then (λ k. told_at entries k.recorded work_named) m
 
-abbrev pub touched : List Entry → (Id → Option IdMark) → Command → Option (List ℕ)
-touched entries mark (Enact act) = Some act.work
-touched entries mark (Record work mods) = Some work
-touched entries mark (File work seen) = Some work
-touched entries mark (Correct id body) = work_of_mark entries (mark id)
-touched entries mark (Withdraw id) = work_of_mark entries (mark id)
-touched entries mark (Restore id) = work_of_mark entries (mark id)
-touched entries mark _ = None
+abbrev pub concerned_by : List Entry → (Id → Option IdMark) → Command → Option (List ℕ)
+concerned_by entries mark command = concerned (λ id. work_of_mark entries (mark id)) command
 
 -- marks lead to modifications
 abbrev pub BodiesStand : List Entry → List BodyMark → List Modification → Type 0

@@ -1,5 +1,6 @@
 -- What is known of an id, and of a work, by the law up to a viewpoint.
 use Rattle.std.specs.Prelude.{ℕ, ◌+◌, ◌-◌, ◌==◌, List, [], ◌∷◌, ◌++◌, take, slice_get, Option, Some, None, option_map, is_none, if◌then◌else◌}
+use Rattle.std.specs.Option.{option_or}
 use Rattle.std.specs.Str.{bytes_eq}
 use Rattle.desk_base.specs.declared.id.Id.{Id}
 use Rattle.law_register.specs.declared.law.act.Act.{Act}
@@ -59,8 +60,7 @@ enacted_by work _ = None
 
 -- an act with the number of the law entry that enacts it, or else what later entries tell
 abbrev pub enacted_or : ℕ → Option Act → Option (ℕ × Act) → Option (ℕ × Act)
-enacted_or number (Some act) later = Some (number, act)
-enacted_or number None later = later
+enacted_or number act later = option_or (option_map (λ a. (number, a)) act) later
 
 -- the act of a work and the number of the law entry that enacts it, where the first of these entries has this number
 abbrev pub enacted_from : ℕ → List ℕ → List Command → Option (ℕ × Act)

@@ -13,7 +13,7 @@ use Rattle.law_register.specs.declared.register.known.KnownMod.{KnownMod}
 use Rattle.law_register.specs.declared.law.modification.Modification.{Modification}
 use Rattle.law_register.specs.Register.Indexes.{told_at, work_named, act_of, body_of, id_after}
 use Rattle.law_register.specs.Register.KnownIds.{IdFacts}
-use Rattle.law_register.specs.Register.Verdicts.{is_of, concerns}
+use Rattle.law_register.specs.Register.Concerns.{is_of, concerns}
 
 -- the numbers of those of these law entries that concern a work, behind others and before those that were found, newest first
 abbrev pub numbers_from : List Command → List ℕ → List ℕ → List Command → List ℕ

@@ -55,6 +55,17 @@ impl Destination {
     }
 }
 
+/// The kinds of modifications.
+#[derive(Clone, Copy, Debug, PartialEq, Eq)]
+pub enum Kind {
+    /// It makes an edit of the text.
+    Textual,
+    /// It changes when something is in force.
+    Force,
+    /// It changes when something has efficacy.
+    Efficacy,
+}
+
 /// A modification of an act.
 #[derive(Debug, PartialEq, Eq, Drop)]
 pub enum Modification {
@@ -93,6 +104,18 @@ pub enum Modification {
 
 impl Modification {
     ghost use Rattle.std.specs.Prelude.{IfOk};
+    ghost use Rattle.law_register.specs.Law.Kinds.{kind_of};
+
+    /// Its kind.
+    pub fn kind(&self) -> Kind
+        ensures { result ≡ kind_of self.now }
+    {
+        match self {
+            Modification::Textual { .. } => Kind::Textual,
+            Modification::Force { .. } => Kind::Force,
+            Modification::Efficacy { .. } => Kind::Efficacy,
+        }
+    }
 
     /// The same modification; its texts are shared.
     pub fn copy(&self, alloc: Global) -> Result<Modification, Memory>

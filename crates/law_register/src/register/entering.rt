@@ -64,7 +64,6 @@ impl Register {
         }
     }
 
-    // Appends a command that is accepted with this law number, and gives this reply.
     fn enter_accepted(
         &mut self,
         drafter: &Drafter,
@@ -98,7 +97,6 @@ impl Register {
         }
     }
 
-    // Makes room for an entry that is accepted and appends it, and gives this reply.
     fn append(&mut self, entry: Entry, reply: Reply) -> Result<Reply, EnterFault>
         requires accepted { is_accepted entry.law (verdict self.old.entries entry.drafter entry.request entry.command) ≡ true }
         requires spelled { is_well_spelled entry.command ≡ true }

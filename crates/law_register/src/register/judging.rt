@@ -2,38 +2,25 @@
 
 ghost use Rattle.std.specs.Prelude.{◌≡◌, ◌+◌, List, IfOk, Some, None, option_map, is_some};
 ghost use Rattle.law_register.specs.declared.register.entry.Entry.{Entry};
+ghost use Rattle.std.specs.Option.{option_or};
+ghost use Rattle.law_register.specs.Register.Concerns.{is_of};
 ghost use Rattle.law_register.specs.Register.Drafts.{draft_of};
-ghost use Rattle.law_register.specs.Register.KnownIds.{facts_of, enacted};
+ghost use Rattle.law_register.specs.Register.KnownIds.{facts_of};
 ghost use Rattle.law_register.specs.Register.LawList.{laws};
 ghost use Rattle.law_register.specs.Register.Verdicts as verdicts;
 
 use crate::law::bounds::{bad_modification, bad_period, bad_tree};
 use crate::law::sizes::size_of;
-use crate::register::telling;
-use crate::{Command, Destination, Drafter, Entry, Modification, Register, Reply, Rule, Verdict};
+use crate::register::limits::{
+    MOST_DRAFT_ITEMS, MOST_DRAFTERS, MOST_ENTRY_BYTES, MOST_IDS, MOST_LAWS, MOST_REGISTER_BYTES,
+};
+use crate::{
+    Command, Destination, Drafter, Entry, Kind, Modification, Register, Reply, Rule, Verdict,
+};
 use desk_base::{Id, Memory};
 use frbr_names::WorkName;
 use std::alloc::Global;
 
-/// The most drafters that have an entry.
-const MOST_DRAFTERS: u16 = 256;
-
-/// The most items of a draft.
-const MOST_DRAFT_ITEMS: u16 = 64;
-
-/// The most ids of a work.
-const MOST_IDS: u16 = 512;
-
-/// The most law entries.
-const MOST_LAWS: u32 = 65_535;
-
-/// The most bytes of an entry.
-const MOST_ENTRY_BYTES: u64 = 16_777_216;
-
-/// The most bytes of all entries.
-const MOST_REGISTER_BYTES: u32 = 536_870_912;
-
-// What is said of a command whose request is that of this entry, which got this reply.
 #[tactic(auto, unfolding(crate::specs::Law::Same::same_command))]
 fn again(entry: &Entry, reply: Reply, command: &Command) -> Verdict
     ensures { result ≡ verdicts.again command.now (entry.now, reply) }
@@ -47,7 +34,6 @@ fn again(entry: &Entry, reply: Reply, command: &Command) -> Verdict
     }
 }
 
-// Whether a command makes a law entry.
 fn is_law(command: &Command) -> bool
     ensures { (es : List Entry) → is_some (verdicts.law_number es command.now) ≡ result }
 {
@@ -83,7 +69,6 @@ impl Register {
         }
     }
 
-    // What is said of a command whose request was accepted before. `None`: it is a new one.
     fn judge_again(&self, drafter: &Drafter, request: u64, command: &Command) -> Option<Verdict>
         ensures { result ≡ option_map (λ found. verdicts.again command.now found) (verdicts.request_of self.now.entries drafter.now request) }
     {
@@ -94,7 +79,6 @@ impl Register {
         }
     }
 
-    // The first rule that a new command of a drafter breaks.
     fn first_rule(
         &self,
         alloc: Global,
@@ -124,7 +108,6 @@ impl Register {
         Ok(self.rule_of_ids(drafter, command)?)
     }
 
-    // The first rule broken of those on what is recorded, and behind them on drafts and limits.
     fn rule_of_ids(&self, drafter: &Drafter, command: &Command) -> Result<Option<Rule>, Memory>
         ensures { IfOk result (λ rule. rule ≡ verdicts.rule_of_ids self.now.entries drafter.now command.now) }
     {
@@ -143,7 +126,6 @@ impl Register {
         Ok(self.rule_of_drafts(drafter, command)?)
     }
 
-    // The first rule broken of those on drafts and limits.
     fn rule_of_drafts(&self, drafter: &Drafter, command: &Command) -> Result<Option<Rule>, Memory>
         ensures { IfOk result (λ rule. rule ≡ verdicts.rule_of_drafts self.now.entries drafter.now command.now) }
     {
@@ -165,7 +147,6 @@ impl Register {
         Ok(self.register_full(drafter, command))
     }
 
-    // The reply to a command of a drafter, once it is an entry.
     pub(crate) fn reply_to(&self, drafter: &Drafter, command: &Command) -> Reply
         ensures { result ≡ verdicts.reply_to self.now.entries drafter.now command.now }
     {
@@ -176,7 +157,6 @@ impl Register {
         }
     }
 
-    // The law number that a command gets.
     fn law_number(&self, command: &Command) -> Option<u32>
         ensures { result ≡ verdicts.law_number self.now.entries command.now }
     {
@@ -187,7 +167,6 @@ impl Register {
         }
     }
 
-    // A drafter without an entry, where as many as there may be have one.
     fn drafters_full(&self, drafter: &Drafter) -> Option<Rule>
         ensures { result ≡ verdicts.drafters_full self.now.entries drafter.now }
     {
@@ -198,9 +177,8 @@ impl Register {
         }
     }
 
-    // A work that no law entry enacts.
     fn unknown_in(&self, work: &WorkName) -> Result<Option<Rule>, Memory>
-        ensures { IfOk result (λ rule. rule ≡ verdicts.unknown_in work.now (enacted work.now (laws self.now.entries))) }
+        ensures { IfOk result (λ rule. rule ≡ verdicts.unknown_in (laws self.now.entries) work.now) }
     {
         match self.enacted(work) {
             Some(_) => Ok(None),
@@ -208,7 +186,6 @@ impl Register {
         }
     }
 
-    // A command that names a work that no law entry enacts.
     fn unknown_work(&self, command: &Command) -> Result<Option<Rule>, Memory>
         ensures { IfOk result (λ rule. rule ≡ verdicts.unknown_work (laws self.now.entries) command.now) }
     {
@@ -220,7 +197,6 @@ impl Register {
         }
     }
 
-    // An act of a work that a law entry enacts already.
     fn work_exists(&self, command: &Command) -> Option<Rule>
         ensures { result ≡ verdicts.work_exists (laws self.now.entries) command.now }
     {
@@ -233,7 +209,6 @@ impl Register {
         }
     }
 
-    // An id that is not recorded.
     fn unknown_id(&self, id: Id) -> Option<Rule>
         ensures { result ≡ verdicts.unknown_id (laws self.now.entries) id }
     {
@@ -246,9 +221,8 @@ impl Register {
         }
     }
 
-    // Whether an id is recorded in a work.
     fn is_of(&self, work: &WorkName, id: Id) -> bool
-        ensures { result ≡ verdicts.is_of work.now (facts_of id (laws self.now.entries)) }
+        ensures { result ≡ is_of work.now (facts_of id (laws self.now.entries)) }
     {
         match self.work_of(id) {
             Some(own) => own == work,
@@ -256,7 +230,6 @@ impl Register {
         }
     }
 
-    // A destination that is not recorded in a work.
     fn unknown_thing(&self, work: &WorkName, thing: &Destination) -> Option<Rule>
         ensures { result ≡ verdicts.unknown_thing (laws self.now.entries) work.now thing.now }
     {
@@ -275,7 +248,6 @@ impl Register {
         }
     }
 
-    // A modification whose destination is not recorded in a work.
     fn unknown_destination(&self, work: &WorkName, body: &Modification) -> Option<Rule>
         ensures { result ≡ verdicts.unknown_destination (laws self.now.entries) work.now body.now }
     {
@@ -286,7 +258,6 @@ impl Register {
         }
     }
 
-    // The first of some modifications whose destination is not recorded in a work.
     fn unknown_item(&self, work: &WorkName, mods: &[Modification]) -> Option<Rule>
         ensures { result ≡ verdicts.first_item (λ number m. verdicts.unknown_destination (laws self.now.entries) work.now m) 1 mods.now }
     {
@@ -298,7 +269,6 @@ impl Register {
         None
     }
 
-    // A correction whose destination is not recorded in the work of the id.
     fn unknown_for(&self, id: Id, body: &Modification) -> Option<Rule>
         ensures { result ≡ verdicts.unknown_for (laws self.now.entries) (facts_of id (laws self.now.entries)) body.now }
     {
@@ -308,9 +278,8 @@ impl Register {
         }
     }
 
-    // A correction of an id that is not recorded, or whose destination is not.
     fn unknown_correction(&self, id: Id, body: &Modification) -> Option<Rule>
-        ensures { result ≡ verdicts.rule_or (verdicts.unknown_id (laws self.now.entries) id)
+        ensures { result ≡ option_or (verdicts.unknown_id (laws self.now.entries) id)
             (verdicts.unknown_for (laws self.now.entries) (facts_of id (laws self.now.entries)) body.now) }
     {
         match self.unknown_id(id) {
@@ -319,7 +288,6 @@ impl Register {
         }
     }
 
-    // An item that is not in the draft.
     fn unknown_draft_item(&self, drafter: &Drafter, item: u32) -> Option<Rule>
         ensures { result ≡ verdicts.unknown_item item (draft_of drafter.now self.now.entries) }
     {
@@ -330,7 +298,6 @@ impl Register {
         }
     }
 
-    // An id or an item that is not recorded.
     fn unknown_modification(&self, drafter: &Drafter, command: &Command) -> Option<Rule>
         ensures { result ≡ verdicts.unknown_modification (laws self.now.entries) (draft_of drafter.now self.now.entries) command.now }
     {
@@ -345,21 +312,18 @@ impl Register {
         }
     }
 
-    // A withdrawal of an id that does not stand.
     fn already_withdrawn(&self, command: &Command) -> Option<Rule>
         ensures { result ≡ verdicts.already_withdrawn (laws self.now.entries) command.now }
     {
         match command {
             Command::Withdraw { id } => match self.withdrawn(*id) {
                 Some(Some(number)) => Some(Rule::AlreadyWithdrawn(number)),
-                Some(None) => None,
-                None => None,
+                Some(None) | None => None,
             },
             _ => None,
         }
     }
 
-    // A restoring of an id that stands.
     fn not_withdrawn(&self, command: &Command) -> Option<Rule>
         ensures { result ≡ verdicts.not_withdrawn (laws self.now.entries) command.now }
     {
@@ -373,8 +337,7 @@ impl Register {
         }
     }
 
-    // Whether what an id says is of a kind, or it is not recorded.
-    fn is_kind(&self, kind: u8, id: Id) -> bool
+    fn is_kind(&self, kind: Kind, id: Id) -> bool
         ensures { result ≡ verdicts.is_kind kind (facts_of id (laws self.now.entries)) }
     {
         match self.kind_of(id) {
@@ -383,13 +346,12 @@ impl Register {
         }
     }
 
-    // A destination that is no textual modification.
     fn wrong_thing(&self, thing: &Destination) -> Option<Rule>
         ensures { result ≡ verdicts.wrong_thing (laws self.now.entries) thing.now }
     {
         match thing {
             Destination::Modification(id) => {
-                if self.is_kind(0, *id) {
+                if self.is_kind(Kind::Textual, *id) {
                     None
                 } else {
                     Some(Rule::WrongKind(*id))
@@ -399,7 +361,6 @@ impl Register {
         }
     }
 
-    // A modification whose destination is no textual modification.
     fn wrong_destination(&self, body: &Modification) -> Option<Rule>
         ensures { result ≡ verdicts.wrong_destination (laws self.now.entries) body.now }
     {
@@ -410,7 +371,6 @@ impl Register {
         }
     }
 
-    // The first of some modifications whose destination is no textual modification.
     fn wrong_item(&self, mods: &[Modification]) -> Option<Rule>
         ensures { result ≡ verdicts.first_item (λ number m. verdicts.wrong_destination (laws self.now.entries) m) 1 mods.now }
     {
@@ -422,17 +382,15 @@ impl Register {
         None
     }
 
-    // A correction of another kind than its id, or whose destination is no textual modification.
     fn wrong_correction(&self, id: Id, body: &Modification) -> Option<Rule>
         ensures { result ≡ verdicts.wrong_correction (laws self.now.entries) id body.now }
     {
-        if !self.is_kind(telling::kind_of(body), id) {
+        if !self.is_kind(body.kind(), id) {
             return Some(Rule::WrongKind(id));
         }
         self.wrong_destination(body)
     }
 
-    // A modification of the wrong kind.
     fn wrong_kind(&self, command: &Command) -> Option<Rule>
         ensures { result ≡ verdicts.wrong_kind (laws self.now.entries) command.now }
     {
@@ -444,7 +402,6 @@ impl Register {
         }
     }
 
-    // A filing whose drafter has not seen the last law entry on the work.
     fn stale(&self, command: &Command) -> Option<Rule>
         ensures { result ≡ verdicts.stale (laws self.now.entries) command.now }
     {
@@ -461,7 +418,6 @@ impl Register {
         }
     }
 
-    // A filing of a work of which the draft has no item.
     fn empty_draft(&self, drafter: &Drafter, command: &Command) -> Result<Option<Rule>, Memory>
         ensures { IfOk result (λ rule. rule ≡ verdicts.empty_draft (draft_of drafter.now self.now.entries) command.now) }
     {
@@ -477,7 +433,6 @@ impl Register {
         }
     }
 
-    // An addition to a draft that has as many items as it may.
     fn draft_full(&self, drafter: &Drafter, command: &Command) -> Option<Rule>
         ensures { result ≡ verdicts.draft_full (draft_of drafter.now self.now.entries) command.now }
     {
@@ -493,7 +448,6 @@ impl Register {
         }
     }
 
-    // A work that would have more ids than it may.
     fn full_with(&self, work: &WorkName, more: usize) -> Option<Rule>
         ensures { result ≡ verdicts.full_with (laws self.now.entries) work.now more }
     {
@@ -505,7 +459,6 @@ impl Register {
         }
     }
 
-    // A command after which a work would have more ids than it may.
     fn work_full(&self, drafter: &Drafter, command: &Command) -> Option<Rule>
         ensures { result ≡ verdicts.work_full (laws self.now.entries) (draft_of drafter.now self.now.entries) command.now }
     {
@@ -516,7 +469,6 @@ impl Register {
         }
     }
 
-    // One more law entry, where there are as many as there may be.
     fn law_full(&self, command: &Command) -> Option<Rule>
         ensures { result ≡ verdicts.law_full self.now.entries command.now }
     {
@@ -527,7 +479,6 @@ impl Register {
         }
     }
 
-    // An entry that is too large, alone or with all others.
     fn register_full(&self, drafter: &Drafter, command: &Command) -> Option<Rule>
         ensures { result ≡ verdicts.register_full self.now.entries drafter.now command.now }
     {

@@ -13,15 +13,14 @@ ghost use Rattle.law_register.specs.Register.LawList.{laws};
 ghost use Rattle.law_register.specs.Register.Registers.{IsKept};
 
 use crate::register::indexes::{BodyMark, EnactedMark, IdMark, Indexes, KnownIds, StepMark};
-use crate::register::noting::{last_on, note_ids};
-use crate::register::telling;
+use crate::register::marks::{last_on, note_ids};
+use crate::register::contents;
 use crate::{Entry, Known, KnownMod, KnownMods, Register};
 use desk_base::{Id, Memory};
 use frbr_names::WorkName;
 use indexmap::IndexMap;
 use std::alloc::Global;
 
-// The step of a law entry.
 fn step_of(steps: &[StepMark], number: u32) -> StepMark
     requires some { 0 < number }
     requires within { number ≤ length steps.now }
@@ -30,7 +29,6 @@ fn step_of(steps: &[StepMark], number: u32) -> StepMark
     steps[number as usize - 1]
 }
 
-// Adds a number that is at most a viewpoint.
 fn add_number(numbers: &mut Vec<u32>, number: u32, viewpoint: u32) -> Result<(), Memory>
     ensures { OnOk result (numbers.new.items ≡ numbers.old.items ++ number_within viewpoint number) }
 {
@@ -40,7 +38,6 @@ fn add_number(numbers: &mut Vec<u32>, number: u32, viewpoint: u32) -> Result<(),
     Ok(())
 }
 
-// The numbers of the law entries up to a viewpoint that concern a work, newest first.
 fn numbers_on(
     alloc: Global,
     indexes: &Indexes,
@@ -69,7 +66,6 @@ struct WorkIds {
     ids: Vec<Id>,
 }
 
-// Adds the ids of the modifications that a law entry records.
 fn add_ids(ids: &mut Vec<Id>, law: u32, bodies: &[BodyMark]) -> Result<(), Memory>
     requires { length bodies.now ≤ 64 }
     ensures { OnOk result (ids.new.items ≡ ids.old.items ++ ids_marked law 1 bodies.now) }
@@ -81,7 +77,6 @@ fn add_ids(ids: &mut Vec<Id>, law: u32, bodies: &[BodyMark]) -> Result<(), Memor
     Ok(())
 }
 
-// Notes law entry `number`, which stands at this index and records these modifications, in the marks of its work.
 fn note_marks(
     marks: &mut KnownIds,
     entries: &[Entry],
@@ -101,7 +96,6 @@ fn note_marks(
 }
 
 impl WorkIds {
-    // Notes the next law entry of the work.
     fn note(
         &mut self,
         entries: &[Entry],
@@ -122,7 +116,6 @@ impl WorkIds {
     }
 }
 
-// What the law entries up to a viewpoint make of the ids of a work.
 fn ids_of(
     alloc: Global,
     indexes: &Indexes,
@@ -146,7 +139,6 @@ fn ids_of(
     Ok(known)
 }
 
-// Adds an id as it is known, by its mark.
 fn add_known(
     alloc: Global,
     entries: &[Entry],
@@ -156,7 +148,7 @@ fn add_known(
 ) -> Result<(), Memory>
     ensures { OnOk result (mods.new ≡ mods.old ++ known_mark entries.now id (Some mark)) }
 {
-    match telling::body_at(entries, mark.entry, mark.place) {
+    match contents::body_at(entries, mark.entry, mark.place) {
         Some(body) => {
             let known = KnownMod {
                 id,
@@ -169,7 +161,6 @@ fn add_known(
     }
 }
 
-// The modifications of a work, as its ids are known.
 fn known_mods(alloc: Global, entries: &[Entry], known: &WorkIds) -> Result<KnownMods, Memory>
     ensures { IfOk result (λ mods. mods ≡ known_marks entries.now (λ i. get_by (is_same_id i) known.now.marks) known.now.ids.items) }
 {
@@ -182,7 +173,6 @@ fn known_mods(alloc: Global, entries: &[Entry], known: &WorkIds) -> Result<Known
     Ok(mods)
 }
 
-// The mark of the act of a work, if a law entry up to a viewpoint enacts it.
 fn enacted_within(indexes: &Indexes, work: &WorkName, viewpoint: u32) -> Option<EnactedMark>
     ensures { result ≡ enacted_within viewpoint (enacted_in (work_mark indexes.now work.now)) }
 {
@@ -213,7 +203,6 @@ pub fn known_at(
     }
 }
 
-// What is known of a work, whose act has this mark.
 fn known_of_act(
     alloc: Global,
     indexes: &Indexes,
@@ -227,7 +216,7 @@ fn known_of_act(
     ensures { IfOk result (λ known. known ≡ known_by work.now viewpoint front (take viewpoint (laws entries.now))
         (option_map (λ act. (mark.number, act)) (told_at entries.now mark.entry act_of))) }
 {
-    match telling::act_at(entries, mark.entry) {
+    match contents::act_at(entries, mark.entry) {
         Some(act) => {
             let known = ids_of(alloc, indexes, entries, work, viewpoint)?;
             Ok(Some(Known {

@@ -5,8 +5,8 @@ ghost use Rattle.law_register.specs.Register.LawList.{front};
 ghost use Rattle.law_register.specs.Register.Verdicts as verdicts;
 
 use crate::register::indexes::Indexes;
-use crate::register::telling;
-use crate::{Command, Draft, Drafter, Entry, Modification, Reply};
+use crate::register::contents;
+use crate::{Command, Draft, Drafter, Entry, Kind, Modification, Reply};
 use desk_base::{Id, Memory};
 use frbr_names::WorkName;
 use std::alloc::Global;
@@ -44,6 +44,7 @@ impl Register {
     ghost use Rattle.std.specs.Prelude.{IsPermutation, IsSorted};
     ghost use Rattle.std.specs.Ordering.{nat_cmp};
     ghost use Rattle.std.specs.Cmp.Lexicographic.{slice_cmp};
+    ghost use Rattle.law_register.specs.Law.Kinds.{kind_of};
     ghost use Rattle.law_register.specs.Law.Sizes.{entries_size};
     ghost use Rattle.law_register.specs.Law.Spelling.{is_well_spelled};
     ghost use Rattle.std.specs.List.{list_any};
@@ -105,7 +106,6 @@ impl Register {
         self.entries.push_reserved(entry);
     }
 
-    // How many bytes all entries take.
     pub(crate) fn size(&self) -> u64
         ensures value { result ≡ entries_size self.now.entries }
         ensures most { result ≤ 536870912 }
@@ -113,21 +113,18 @@ impl Register {
         self.indexes.size
     }
 
-    // Whether a drafter has an entry.
     pub(crate) fn has_drafter(&self, drafter: &Drafter) -> bool
         ensures { result ≡ list_any (bytes_eq drafter.now) (verdicts.drafters self.now.entries) }
     {
         self.indexes.drafter(drafter).is_some()
     }
 
-    // How many drafters have an entry.
     pub(crate) fn drafter_count(&self) -> usize
         ensures { result ≡ length (verdicts.drafters self.now.entries) }
     {
         self.indexes.drafters.len()
     }
 
-    // How many items a drafter has added.
     pub(crate) fn added(&self, drafter: &Drafter) -> u32
         ensures value { result ≡ added drafter.now self.now.entries }
         ensures most { result ≤ 536870912 }
@@ -138,7 +135,6 @@ impl Register {
         }
     }
 
-    // How many items a drafter's draft has.
     pub(crate) fn draft_len(&self, drafter: &Drafter) -> usize
         ensures { result ≡ length (draft_of drafter.now self.now.entries) }
     {
@@ -148,12 +144,11 @@ impl Register {
         }
     }
 
-    // Whether a drafter's draft has an item of a number.
     pub(crate) fn has_item(&self, drafter: &Drafter, item: u32) -> bool
         ensures { result ≡ verdicts.has_item item (draft_of drafter.now self.now.entries) }
     {
         match self.indexes.drafter(drafter) {
-            Some(mark) => telling::has_item(&mark.items, item),
+            Some(mark) => contents::has_item(&mark.items, item),
             None => false,
         }
     }
@@ -163,17 +158,16 @@ impl Register {
         ensures { IfOk result (λ draft. draft ≡ draft_of drafter.now self.now.entries) }
     {
         match self.indexes.drafter(drafter) {
-            Some(mark) => telling::items_told(alloc, &self.entries, &mark.items),
+            Some(mark) => contents::items_told(alloc, &self.entries, &mark.items),
             None => Ok(Draft::new(alloc)),
         }
     }
 
-    // How many items of a drafter's draft modify a work.
     pub(crate) fn items_of(&self, drafter: &Drafter, work: &WorkName) -> usize
         ensures { result ≡ length (items_of work.now (draft_of drafter.now self.now.entries)) }
     {
         match self.indexes.drafter(drafter) {
-            Some(mark) => telling::items_of(&self.entries, &mark.items, work).len(),
+            Some(mark) => contents::items_of(&self.entries, &mark.items, work).len(),
             None => 0,
         }
     }
@@ -193,12 +187,11 @@ impl Register {
         ensures all { IfOk result (λ works. IsPermutation (works_enacted (laws self.now.entries)) works.items) }
         ensures order { IfOk result (λ works. IsSorted (slice_cmp nat_cmp) works.items) }
     {
-        let mut works = telling::works_at(alloc, &self.entries, &self.indexes.acts)?;
+        let mut works = contents::works_at(alloc, &self.entries, &self.indexes.acts)?;
         works.sort()?;
         Ok(works)
     }
 
-    // The number of the last law entry that concerns a work, or 0.
     pub(crate) fn last_on(&self, work: &WorkName) -> u32
         ensures { result ≡ verdicts.last_on work.now (laws self.now.entries) }
     {
@@ -208,7 +201,6 @@ impl Register {
         }
     }
 
-    // How many ids a work has.
     pub(crate) fn id_count(&self, work: &WorkName) -> u32
         ensures { result ≡ length (ids_of work.now (laws self.now.entries)) }
     {
@@ -223,7 +215,7 @@ impl Register {
         ensures { option_map (λ work. work.now) result ≡ option_map (λ f. f.work) (facts_of id (laws self.now.entries)) }
     {
         match self.indexes.id(id) {
-            Some(mark) => telling::work_at(&self.entries, mark.recorded),
+            Some(mark) => contents::work_at(&self.entries, mark.recorded),
             None => None,
         }
     }
@@ -233,24 +225,21 @@ impl Register {
         ensures { option_map (λ body. body.now) result ≡ option_map (λ f. f.body) (facts_of id (laws self.now.entries)) }
     {
         match self.indexes.id(id) {
-            Some(mark) => telling::body_at(&self.entries, mark.entry, mark.place),
+            Some(mark) => contents::body_at(&self.entries, mark.entry, mark.place),
             None => None,
         }
     }
 
-    // The kind of what an id says. `None`: it is not recorded.
-    pub(crate) fn kind_of(&self, id: Id) -> Option<u8>
-        ensures { result ≡ option_map (λ f. verdicts.kind_of f.body) (facts_of id (laws self.now.entries)) }
+    pub(crate) fn kind_of(&self, id: Id) -> Option<Kind>
+        ensures { result ≡ option_map (λ f. kind_of f.body) (facts_of id (laws self.now.entries)) }
     {
-        let mark = self.indexes.id(id)?;
-        match telling::body_at(&self.entries, mark.entry, mark.place) {
-            Some(body) => Some(telling::kind_of(body)),
+        match self.body_of(id) {
+            Some(body) => Some(body.kind()),
             None => None,
         }
     }
 
-    /// The number of the law entry that withdrew an id, or `None` where the id stands. `None` in place of both: it is not recorded.
-    pub fn withdrawn(&self, id: Id) -> Option<Option<u32>>
+    pub(crate) fn withdrawn(&self, id: Id) -> Option<Option<u32>>
         ensures { result ≡ option_map (λ f. f.withdrawn) (facts_of id (laws self.now.entries)) }
     {
         match self.indexes.id(id) {
@@ -259,7 +248,6 @@ impl Register {
         }
     }
 
-    // The entry of a drafter's request.
     pub(crate) fn request(&self, drafter: &Drafter, request: u64) -> Option<&Entry>
         ensures { option_map (λ e. e.now) result ≡ option_map (λ found. found.0) (verdicts.request_of self.now.entries drafter.now request) }
     {
@@ -269,7 +257,6 @@ impl Register {
         }
     }
 
-    // The reply to a drafter's request.
     pub(crate) fn reply(&self, drafter: &Drafter, request: u64) -> Option<Reply>
         ensures { result ≡ option_map (λ found. found.1) (verdicts.request_of self.now.entries drafter.now request) }
     {

@@ -1,6 +1,6 @@
 use Rattle.std.proofs.Common.{◌≡◌, ◌∙◌, sym, ap, subst, List, true}
 use Rattle.law_register.specs.declared.register.entry.Entry.{Entry}
-use Rattle.law_register.specs.Register.Noting.{IsNoted}
+use Rattle.law_register.specs.Register.Marks.{IsNoted}
 use Rattle.law_register.specs.Register.Registers.{Contents, IsKept}
 use Rattle.law_register.specs.Register.Verdicts.{reply_to, is_accepted, verdict}
 use Rattle.law_register.proofs.Legal.{accepted_new}

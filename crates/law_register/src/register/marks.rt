@@ -1,0 +1,483 @@
+//! Marks: what one more entry makes of those of each index. None of these calls takes memory.
+
+ghost use Rattle.std.specs.Prelude.{◌≡◌, ◌||◌, ◌==◌, ◌&&◌, ◌+◌, ◌-◌, ◌<◌, ◌≤◌, ◌^◌, ℕ, List, [], ◌∷◌, ◌++◌, length, map, slice_get, take, drop, Option, Some, None, option_map, is_some, if◌then◌else◌, vec_len, vec_capacity};
+ghost use Rattle.std.specs.Str.{bytes_eq};
+ghost use Rattle.indexmap.specs.IndexMap.{get_by, index_map_len, spare};
+ghost use Rattle.law_register.specs.Answer.Counted.{is_same_id};
+ghost use Rattle.law_register.specs.Register.Indexes as spec;
+ghost use Rattle.law_register.specs.Register.Concerns.{is_named};
+ghost use Rattle.law_register.specs.Register.Marks as marking;
+ghost use Rattle.law_register.specs.Register.Indexes.{is_request, recorded_from, added_of, items_in, ids_in};
+ghost use Rattle.law_register.specs.Register.Drafts.{additions};
+
+use crate::law::sizes::entry_size;
+use crate::register::indexes::{
+    BodyMark, BodyMarks, DrafterKey, DrafterMark, Drafters, EnactedMark, IdMark, Indexes, ItemMark,
+    ItemMarks, KnownIds, RequestKey, RequestMark, Requests, StepMark, WorkKey, WorkMark, Works,
+    drafter_key, work_key,
+};
+use crate::register::contents;
+use crate::{Command, Drafter, Entry, Modification, Reply};
+use arrayvec::ArrayVec;
+use desk_base::Id;
+use frbr_names::WorkName;
+
+/// Gives a request a mark.
+pub fn put_request(requests: &mut Requests, drafter: DrafterKey, request: u64, mark: RequestMark)
+    requires { 0 < spare requests.old }
+    ensures marks { (d : List ℕ) (r : ℕ) → get_by (is_request d r) requests.new
+        ≡ (if bytes_eq drafter.items d && (request == r) then Some mark else get_by (is_request d r) requests.old) }
+    ensures room { spare requests.old ≤ spare requests.new + 1 }
+{
+    let key = RequestKey { drafter, request };
+    let _ = requests.insert(key, mark);
+}
+
+/// Gives a drafter a mark, and gives back the one that it had.
+pub fn put_drafter(
+    drafters: &mut Drafters,
+    drafter: DrafterKey,
+    mark: DrafterMark,
+) -> Option<DrafterMark>
+    requires { 0 < spare drafters.old }
+    ensures had { result ≡ get_by (λ k. bytes_eq drafter.items k.items) drafters.old }
+    ensures marks { (d : List ℕ) → get_by (λ k. bytes_eq d k.items) drafters.new
+        ≡ (if bytes_eq drafter.items d then Some mark else get_by (λ k. bytes_eq d k.items) drafters.old) }
+    ensures count { index_map_len drafters.new ≡ index_map_len drafters.old + (if is_some result then 0 else 1) }
+    ensures room { spare drafters.old ≤ spare drafters.new + 1 }
+{
+    match drafters.insert(drafter, mark) {
+        Ok(had) => had,
+        Err(_) => None,
+    }
+}
+
+/// Gives a work a mark.
+pub fn put_work(works: &mut Works, work: WorkKey, mark: WorkMark)
+    requires { 0 < spare works.old }
+    ensures marks { (w : List ℕ) → get_by (λ k. bytes_eq w k.items) works.new
+        ≡ (if bytes_eq work.items w then Some mark else get_by (λ k. bytes_eq w k.items) works.old) }
+    ensures room { spare works.old ≤ spare works.new + 1 }
+{
+    let _ = works.insert(work, mark);
+}
+
+/// Gives an id a mark.
+pub fn put_id(ids: &mut KnownIds, id: Id, mark: IdMark)
+    requires { 0 < spare ids.old }
+    ensures marks { (i : Id) → get_by (is_same_id i) ids.new ≡ (if is_same_id id i then Some mark else get_by (is_same_id i) ids.old) }
+    ensures room { spare ids.old ≤ spare ids.new + 1 }
+{
+    let _ = ids.insert(id, mark);
+}
+
+/// Records modifications as the items of a law entry, from 1 on.
+pub fn record(ids: &mut KnownIds, number: u32, recorded: usize, bodies: &[BodyMark])
+    requires few { length bodies.now ≤ 64 }
+    requires room { 64 ≤ spare ids.old }
+    ensures { (i : Id) → get_by (is_same_id i) ids.new ≡ recorded_from number recorded 1 bodies.now i (get_by (is_same_id i) ids.old) }
+{
+    let mut item = 1;
+    for body in bodies {
+        let id = Id { law: number, item };
+        let mark = IdMark {
+            recorded,
+            entry: body.entry,
+            place: body.place,
+            withdrawn: None,
+        };
+        put_id(ids, id, mark);
+        item += 1;
+    }
+}
+
+fn items_after(
+    items: ItemMarks,
+    entries: &[Entry],
+    at: usize,
+    number: u32,
+    command: &Command,
+) -> ItemMarks
+    requires few { length items.items + additions command.now ≤ 64 }
+    ensures { result.items ≡ spec.items_after entries.now at number command.now items.items }
+{
+    match command {
+        Command::DraftAdd { .. } => {
+            let mut items = items;
+            let item = ItemMark {
+                item: number,
+                entry: at,
+            };
+            items.push(item);
+            items
+        }
+        Command::DraftDrop { item } => contents::without_item(&items, *item),
+        Command::File { work, .. } => contents::items_but(entries, &items, work),
+        _ => items,
+    }
+}
+
+fn additions(command: &Command) -> u32
+    ensures { result ≡ additions command.now }
+{
+    match command {
+        Command::DraftAdd { .. } => 1,
+        _ => 0,
+    }
+}
+
+fn mark_or_none(had: Option<DrafterMark>) -> DrafterMark
+    ensures added { result.added ≡ added_of had }
+    ensures items { result.items.items ≡ items_in had }
+{
+    match had {
+        Some(mark) => mark,
+        None => DrafterMark {
+            added: 0,
+            items: ArrayVec::new(),
+        },
+    }
+}
+
+fn redrafted(mark: DrafterMark, entries: &[Entry], at: usize, command: &Command) -> DrafterMark
+    requires few { length mark.items.items + additions command.now ≤ 64 }
+    requires small { mark.added ≤ 536870912 }
+    ensures added { result.added ≡ mark.added + additions command.now }
+    ensures items { result.items.items ≡ spec.items_after entries.now at (mark.added + 1) command.now mark.items.items }
+{
+    let added = mark.added;
+    DrafterMark {
+        added: added + additions(command),
+        items: items_after(mark.items, entries, at, added + 1, command),
+    }
+}
+
+/// Notes what a command of a drafter, at this index, makes of the draft.
+pub fn note_draft(
+    drafters: &mut Drafters,
+    drafter: &Drafter,
+    entries: &[Entry],
+    at: usize,
+    command: &Command,
+)
+    requires room { 2 ≤ spare drafters.old }
+    requires few { length (items_in (get_by (λ k. bytes_eq drafter.now k.items) drafters.old)) + additions command.now ≤ 64 }
+    requires small { added_of (get_by (λ k. bytes_eq drafter.now k.items) drafters.old) ≤ 536870912 }
+    ensures added { (d : List ℕ) → added_of (get_by (λ k. bytes_eq d k.items) drafters.new)
+        ≡ (if bytes_eq drafter.now d then added_of (get_by (λ k. bytes_eq d k.items) drafters.old) + additions command.now
+        else added_of (get_by (λ k. bytes_eq d k.items) drafters.old)) }
+    ensures items { (d : List ℕ) → items_in (get_by (λ k. bytes_eq d k.items) drafters.new)
+        ≡ (if bytes_eq drafter.now d
+        then spec.items_after entries.now at (added_of (get_by (λ k. bytes_eq d k.items) drafters.old) + 1) command.now (items_in (get_by (λ k. bytes_eq d k.items) drafters.old))
+        else items_in (get_by (λ k. bytes_eq d k.items) drafters.old)) }
+    ensures present { (d : List ℕ) → is_some (get_by (λ k. bytes_eq d k.items) drafters.new)
+        ≡ bytes_eq drafter.now d || is_some (get_by (λ k. bytes_eq d k.items) drafters.old) }
+    ensures count { index_map_len drafters.new
+        ≡ index_map_len drafters.old + (if is_some (get_by (λ k. bytes_eq drafter.now k.items) drafters.old) then 0 else 1) }
+{
+    let had = put_drafter(drafters, drafter_key(drafter), mark_or_none(None));
+    let mark = redrafted(mark_or_none(had), entries, at, command);
+    put_drafter(drafters, drafter_key(drafter), mark);
+}
+
+fn correct(ids: &mut KnownIds, id: Id, at: usize)
+    requires { 0 < spare ids.old }
+    ensures { (i : Id) → get_by (is_same_id i) ids.new ≡ (if is_same_id id i then option_map (spec.corrected at) (get_by (is_same_id i) ids.old) else get_by (is_same_id i) ids.old) }
+{
+    if let Some(mark) = ids.get(&id).copied() {
+        let corrected = IdMark {
+            recorded: mark.recorded,
+            entry: at,
+            place: 0,
+            withdrawn: mark.withdrawn,
+        };
+        put_id(ids, id, corrected);
+    }
+}
+
+fn set_withdrawn(ids: &mut KnownIds, id: Id, withdrawn: Option<u32>)
+    requires { 0 < spare ids.old }
+    ensures { (i : Id) → get_by (is_same_id i) ids.new ≡ (if is_same_id id i then option_map (spec.with_withdrawn withdrawn) (get_by (is_same_id i) ids.old) else get_by (is_same_id i) ids.old) }
+{
+    if let Some(mark) = ids.get(&id).copied() {
+        let changed = IdMark {
+            recorded: mark.recorded,
+            entry: mark.entry,
+            place: mark.place,
+            withdrawn,
+        };
+        put_id(ids, id, changed);
+    }
+}
+
+/// Notes what the command of law entry `number`, which stands at this index and records these modifications, makes of the ids.
+pub fn note_ids(ids: &mut KnownIds, number: u32, at: usize, command: &Command, bodies: &[BodyMark])
+    requires few { length bodies.now ≤ 64 }
+    requires room { 64 ≤ spare ids.old }
+    ensures { (i : Id) → get_by (is_same_id i) ids.new ≡ spec.id_after number at command.now bodies.now i (get_by (is_same_id i) ids.old) }
+{
+    match command {
+        Command::Record { .. } => record(ids, number, at, bodies),
+        Command::File { .. } => record(ids, number, at, bodies),
+        Command::Correct { id, .. } => correct(ids, *id, at),
+        Command::Withdraw { id } => set_withdrawn(ids, *id, Some(number)),
+        Command::Restore { id } => set_withdrawn(ids, *id, None),
+        _ => {}
+    }
+}
+
+fn work_after(
+    mark: Option<WorkMark>,
+    number: u32,
+    at: usize,
+    command: &Command,
+    count: u32,
+) -> WorkMark
+    requires { ids_in mark + count < 2 ^ 32 }
+    ensures { result ≡ spec.work_after number at command.now count mark }
+{
+    let (enacted, ids) = match mark {
+        Some(mark) => (mark.enacted, mark.ids),
+        None => (None, 0),
+    };
+    WorkMark {
+        enacted: enacted_after(enacted, number, at, command),
+        last: number,
+        ids: ids + count,
+    }
+}
+
+fn enacted_after(
+    enacted: Option<EnactedMark>,
+    number: u32,
+    at: usize,
+    command: &Command,
+) -> Option<EnactedMark>
+    ensures { result ≡ spec.enacted_after number at command.now enacted }
+{
+    if let Some(mark) = enacted {
+        return Some(mark);
+    }
+    match command {
+        Command::Enact { .. } => Some(EnactedMark { entry: at, number }),
+        _ => None,
+    }
+}
+
+/// Notes what the command of law entry `number`, which stands at this index and records so many modifications, makes of the work that
+/// it concerns.
+pub fn note_work(
+    works: &mut Works,
+    work: &WorkName,
+    number: u32,
+    at: usize,
+    command: &Command,
+    count: u32,
+)
+    requires room { 0 < spare works.old }
+    requires few { ids_in (get_by (λ k. bytes_eq work.now k.items) works.old) + count < 2 ^ 32 }
+    ensures { (w : List ℕ) → get_by (λ k. bytes_eq w k.items) works.new
+        ≡ (if bytes_eq work.now w then Some (spec.work_after number at command.now count (get_by (λ k. bytes_eq w k.items) works.old))
+        else get_by (λ k. bytes_eq w k.items) works.old) }
+{
+    let key = work_key(work);
+    let mark = work_after(works.get(&key).copied(), number, at, command, count);
+    put_work(works, key, mark);
+}
+
+fn places(at: usize, mods: &[Modification]) -> BodyMarks
+    requires { length mods.now ≤ 64 }
+    ensures { result.items ≡ marking.places at 0 mods.now }
+{
+    let mut bodies = ArrayVec::new();
+    for (place, _) in mods.iter().enumerate() {
+        bodies.push(BodyMark { entry: at, place });
+    }
+    bodies
+}
+
+fn item_bodies(items: &[ItemMark]) -> BodyMarks
+    requires { length items.now ≤ 64 }
+    ensures { result.items ≡ map marking.item_body items.now }
+{
+    let mut bodies = ArrayVec::new();
+    for item in items {
+        bodies.push(BodyMark {
+            entry: item.entry,
+            place: 0,
+        });
+    }
+    bodies
+}
+
+fn bodies_of(entries: &[Entry], at: usize, draft: &[ItemMark], command: &Command) -> BodyMarks
+    requires few { length draft.now ≤ 64 }
+    requires mods { length (marking.mods_of command.now) ≤ 64 }
+    ensures { result.items ≡ marking.bodies_of entries.now at draft.now command.now }
+{
+    match command {
+        Command::Record { mods, .. } => places(at, mods.as_slice()),
+        Command::File { work, .. } => item_bodies(&contents::items_of(entries, draft, work)),
+        _ => ArrayVec::new(),
+    }
+}
+
+fn work_of_id<'a>(ids: &KnownIds, entries: &'a [Entry], id: Id) -> Option<&'a WorkName>
+    ensures { option_map (λ w. w.now) result ≡ spec.work_of_mark entries.now (get_by (is_same_id id) ids.now) }
+{
+    match ids.get(&id) {
+        Some(mark) => contents::work_at(entries, mark.recorded),
+        None => None,
+    }
+}
+
+fn concerned<'a>(ids: &KnownIds, entries: &'a [Entry], command: &'a Command) -> Option<&'a WorkName>
+    ensures { option_map (λ w. w.now) result ≡ spec.concerned_by entries.now (λ id. get_by (is_same_id id) ids.now) command.now }
+{
+    match command {
+        Command::Enact { act } => Some(&act.work),
+        Command::Record { work, .. } => Some(work),
+        Command::File { work, .. } => Some(work),
+        Command::Correct { id, .. } => work_of_id(ids, entries, *id),
+        Command::Withdraw { id } => work_of_id(ids, entries, *id),
+        Command::Restore { id } => work_of_id(ids, entries, *id),
+        _ => None,
+    }
+}
+
+fn note_concerned(
+    works: &mut Works,
+    work: Option<&WorkName>,
+    number: u32,
+    at: usize,
+    command: &Command,
+    count: u32,
+)
+    requires room { 0 < spare works.old }
+    requires few { (w : List ℕ) → ids_in (get_by (λ k. bytes_eq w k.items) works.old) ≤ 512 }
+    requires count { count ≤ 64 }
+    ensures { (w : List ℕ) → get_by (λ k. bytes_eq w k.items) works.new
+        ≡ (if is_named w (option_map (λ n. n.now) work.entry) then Some (spec.work_after number at command.now count (get_by (λ k. bytes_eq w k.items) works.old))
+        else get_by (λ k. bytes_eq w k.items) works.old) }
+{
+    match work {
+        Some(work) => note_work(works, work, number, at, command, count),
+        None => {}
+    }
+}
+
+/// The number of the last law entry that concerns a work, or 0.
+pub fn last_on(works: &Works, work: &WorkName) -> u32
+    ensures { result ≡ spec.last_in (get_by (λ k. bytes_eq work.now k.items) works.now) }
+{
+    match works.get(&work_key(work)) {
+        Some(mark) => mark.last,
+        None => 0,
+    }
+}
+
+fn last_before(works: &Works, work: Option<&WorkName>) -> u32
+    ensures { result ≡ marking.last_before (λ w. get_by (λ k. bytes_eq w k.items) works.now) (option_map (λ n. n.now) work.entry) }
+{
+    match work {
+        Some(work) => last_on(works, work),
+        None => 0,
+    }
+}
+
+fn note_step(steps: &mut Vec<StepMark>, command: &Command, step: StepMark)
+    requires { vec_len steps.old < vec_capacity steps.old }
+    ensures { steps.new.items ≡ marking.with_step command.now step steps.old.items }
+{
+    match command {
+        Command::DraftAdd { .. } => {}
+        Command::DraftDrop { .. } => {}
+        _ => steps.push_reserved(step),
+    }
+}
+
+fn note_bodies(all: &mut Vec<BodyMark>, bodies: &[BodyMark])
+    requires { vec_len all.old + length bodies.now ≤ vec_capacity all.old }
+    ensures { all.new.items ≡ all.old.items ++ bodies.now }
+{
+    for body in bodies {
+        all.push_reserved(*body);
+    }
+}
+
+fn note_act(acts: &mut Vec<usize>, command: &Command, at: usize)
+    requires { vec_len acts.old < vec_capacity acts.old }
+    ensures { acts.new.items ≡ marking.with_act command.now at acts.old.items }
+{
+    match command {
+        Command::Enact { .. } => acts.push_reserved(at),
+        _ => {}
+    }
+}
+
+/// 1 for a law entry, 0 for an entry of a draft.
+pub fn law_count(command: &Command) -> u32
+    ensures { result ≡ marking.law_count command.now }
+{
+    match command {
+        Command::DraftAdd { .. } => 0,
+        Command::DraftDrop { .. } => 0,
+        _ => 1,
+    }
+}
+
+impl Indexes {
+    ghost use Rattle.law_register.specs.Register.Registers.{index_room};
+    ghost use Rattle.law_register.specs.Register.Marks.{CanNote, IsNoted, new_bodies};
+    ghost use Rattle.law_register.specs.Register.Indexes.{drafter_mark};
+
+    fn new_bodies(&self, entries: &[Entry], entry: &Entry) -> BodyMarks
+        requires { CanNote self.now entry.now }
+        ensures { result.items ≡ new_bodies self.now entries.now entry.now }
+    {
+        match self.drafter(&entry.drafter) {
+            Some(mark) => bodies_of(entries, entries.len(), &mark.items, &entry.command),
+            None => bodies_of(entries, entries.len(), &[], &entry.command),
+        }
+    }
+
+    /// Notes an entry behind others, which gets this reply. It takes no memory.
+    pub fn note(&mut self, entries: &[Entry], entry: &Entry, reply: Reply)
+        requires fits { CanNote self.old entry.now }
+        requires room { 1 ≤ index_room self.old }
+        ensures { IsNoted self.old self.new entries.now entry.now reply }
+    {
+        let at = entries.len();
+        let number = self.front + 1;
+        let command = &entry.command;
+        let bodies = self.new_bodies(entries, entry);
+        let work = concerned(&self.ids, entries, command);
+        let step = StepMark {
+            entry: at,
+            first: self.bodies.len(),
+            until: self.bodies.len() + bodies.len(),
+            before: last_before(&self.works, work),
+        };
+        note_step(&mut self.steps, command, step);
+        note_bodies(&mut self.bodies, &bodies);
+        note_act(&mut self.acts, command, at);
+        note_concerned(
+            &mut self.works,
+            work,
+            number,
+            at,
+            command,
+            bodies.len() as u32,
+        );
+        note_ids(&mut self.ids, number, at, command, &bodies);
+        put_request(
+            &mut self.requests,
+            drafter_key(&entry.drafter),
+            entry.request,
+            RequestMark { entry: at, reply },
+        );
+        note_draft(&mut self.drafters, &entry.drafter, entries, at, command);
+        self.front += law_count(command);
+        self.size += entry_size(entry);
+    }
+}
