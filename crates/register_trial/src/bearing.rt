@@ -1,6 +1,6 @@
 //! The lines of what bears: the days on which a text may change, the modifications of a day in their order, and the flag of a provision.
 
-ghost use Rattle.std.specs.Prelude.{◌≡◌, ◌++◌, Some, IfOk, OnOk, codes, string_bytes};
+ghost use Rattle.std.specs.Prelude.{◌≡◌, ◌++◌, IfOk, OnOk, codes, string_bytes};
 ghost use Rattle.desk_base.specs.Days.{day_text};
 ghost use Rattle.desk_base.specs.Ids.{id_text};
 ghost use Rattle.law_register.specs.Answer.Answers.{asked_day};
