@@ -44,7 +44,13 @@ impl<T: Held> Turns<T> {
         }
         slots.push_reserved(Some(value));
         match Table::new(alloc, &words, slots, &opening) {
-            Ok((table, seat)) => Ok((Turns { table }, Pass { share: callers, seat })),
+            Ok((table, seat)) => Ok((
+                Turns { table },
+                Pass {
+                    share: callers,
+                    seat,
+                },
+            )),
             Err(Refused { slots }) => Err(TurnsRefused { value: only(slots) }),
         }
     }

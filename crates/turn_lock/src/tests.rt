@@ -1,4 +1,4 @@
-ghost use Rattle.std.specs.Prelude.{◌≡◌, ◌∷◌, [], IsTrue};
+ghost use Rattle.std.specs.Prelude.{◌≡◌, ◌∷◌, []};
 ghost use mathlib.Core.List.{IsPrefix};
 ghost use Rattle.turn_lock.specs.Passes.{share_of, IsPassOf};
 ghost use Rattle.turn_lock.specs.Turned.{id_of};
@@ -67,43 +67,4 @@ fn own_entries_are_found_and_joined_passes_know_them(rt: HostRuntime) -> Result<
     assert_eq!(rt; notes.entries.as_slice(), [5].as_slice());
     assert_eq!(rt; notes.from, 7);
     Ok(())
-}
-
-// A list that is lent: its origin is whose it is.
-#[derive(Drop)]
-struct Lent<'a> {
-    list: &'a mut Vec<u64>,
-}
-
-impl<'a> Held for Lent<'a> {
-    type Item = u64;
-
-    ghost history = { λ lent. lent.list.now.items };
-
-    ghost origin = { λ lent. lent.list.ghost_name ∷ [] };
-
-    fn count(&self) -> u64 {
-        self.list.len() as u64
-    }
-}
-
-impl<'a> Lent<'a> {
-    fn note(&mut self, entry: u64) -> bool
-        ensures entries { IsPrefix self.old.list.now.items self.new.list.now.items }
-        ensures same { self.new.list.ghost_name ≡ self.old.list.ghost_name }
-    {
-        self.list.push(entry).is_ok()
-    }
-}
-
-// What was lent comes back, and has only grown.
-fn noted_in_a_turn<H: Wait>(rt: &H, alloc: Global, list: &mut Vec<u64>) -> bool
-    ensures { IsTrue result → IsPrefix list.old.items list.new.items }
-{
-    let Ok((turns, mut pass)) = Turns::new(alloc, Lent { list }, 1) else {
-        return false;
-    };
-    turns.with_turn(rt, &mut pass, |lent| lent.note(5));
-    let Lent { list: _ } = turns.close(pass);
-    true
 }

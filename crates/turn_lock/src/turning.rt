@@ -5,9 +5,7 @@ ghost use mathlib.Core.List.{IsPrefix};
 ghost use Rattle.turn_lock.specs.Passes.{seen_by, share_of, IsPassOf, BeganAs, MayAct, TookTurn};
 ghost use Rattle.turn_lock.specs.Turned.{id_of, IsIdle, HasTaken, MayGive, HasGiven};
 
-use crate::steps::{
-    Draw, HOME, LENGTH, NEXT, NoteLength, PassOn, PutHome, Read, SERVED, TakeOut,
-};
+use crate::steps::{Draw, HOME, LENGTH, NEXT, NoteLength, PassOn, PutHome, Read, SERVED, TakeOut};
 use crate::view::View;
 use crate::{Held, Pass, Turns};
 use atomic_table::Seat;
@@ -64,7 +62,9 @@ impl<T: Held> Turns<T> {
         if tries < PATIENCE {
             thread::yield_now();
         } else {
-            self.table.shared.park(rt, SERVED, (served % (1 << 32)) as u32);
+            self.table
+                .shared
+                .park(rt, SERVED, (served % (1 << 32)) as u32);
         }
     }
 

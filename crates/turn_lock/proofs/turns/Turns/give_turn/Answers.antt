@@ -54,9 +54,8 @@ returns g c =
     let notes = c.store.ensures.2 r.ticket r.found c.args.value (ap (λ m. m.0.stage) bears ∙ r.stage) (ap (λ m. m.1) bears) in
     let home = c.load.ensures.2 r.ticket (g.T.Held.history c.args.value) (ap (λ m. m.0.stage) notes) in
     let passes = c.fetch_add-served.ensures.2 r.ticket (g.T.Held.history c.args.value) (ap (λ m. m.0.stage) home) in
-    given_back g.T.Held.history g.T.Held.origin _ _ _ _ _ r.ticket r.found c.args.value
-        (
-          c.fetch_add-served.ensures.0 ∙ (c.load.ensures.0 ∙ (c.store.ensures.0 ∙ put.0)),
-          c.fetch_add-served.ensures.1 ∙ (c.load.ensures.1 ∙ (c.store.ensures.1 ∙ put.1)),
-        )
-        r.stage bears notes home passes
+    given_back g.T.Held.history g.T.Held.origin _ _ _ _ _ r.ticket r.found c.args.value (
+      c.fetch_add-served.ensures.0 ∙ (c.load.ensures.0 ∙ (c.store.ensures.0 ∙ put.0)),
+      c.fetch_add-served.ensures.1 ∙ (c.load.ensures.1 ∙ (c.store.ensures.1 ∙ put.1)),
+    )
+    r.stage bears notes home passes

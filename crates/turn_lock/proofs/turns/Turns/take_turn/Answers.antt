@@ -68,12 +68,11 @@ returns-then-served-ticket g c =
     let serves = read.0 (same ∙ waits.1) in
     let took = c.load.ensures.2 _ _ (ap (λ m. m.0.stage) serves.2) in
     let put = c.exchange.ensures in
-    taken g.T.Held.history g.T.Held.origin _ _ _ _ _ waits.0 serves.0 took.0 _ _
-        (
-          put.0 ∙ (c.load.ensures.0 ∙ (c.load-served.ensures.0 ∙ c.loop.invariant.0.0)),
-          put.1 ∙ (c.load.ensures.1 ∙ (c.load-served.ensures.1 ∙ c.loop.invariant.0.1)),
-        )
-        waits.2 serves.1 serves.2 took.1 took.2 took.3 put.2 put.3 c.unwrap.ensures
+    taken g.T.Held.history g.T.Held.origin _ _ _ _ _ waits.0 serves.0 took.0 _ _ (
+      put.0 ∙ (c.load.ensures.0 ∙ (c.load-served.ensures.0 ∙ c.loop.invariant.0.0)),
+      put.1 ∙ (c.load.ensures.1 ∙ (c.load-served.ensures.1 ∙ c.loop.invariant.0.1)),
+    )
+    waits.2 serves.1 serves.2 took.1 took.2 took.3 put.2 put.3 c.unwrap.ensures
 
 pub loop-preserved : goal.loop-preserved
 loop-preserved g c =
