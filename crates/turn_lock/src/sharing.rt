@@ -65,7 +65,8 @@ impl<T: Held> Turns<T> {
         ensures rest { IfOk result (λ given. share_of pass.new + share ≡ share_of pass.old) }
         ensures seen { IfOk result (λ given. seen_by given ≡ seen_by pass.old) }
         ensures none_made { IfOk result (λ given. made_by given ≡ 0) }
-        ensures kept { (seen_by pass.new ≡ seen_by pass.old) × (made_by pass.new ≡ made_by pass.old) × BeganAs pass.new pass.old }
+        ensures kept { (seen_by pass.new ≡ seen_by pass.old) × (made_by pass.new ≡ made_by pass.old) }
+        ensures began { BeganAs pass.new pass.old }
         ensures err { OnErr result (pass.new ≡ pass.old) }
     {
         Ok(self.cut::<Brand>(pass, share))
