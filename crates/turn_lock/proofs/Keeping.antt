@@ -161,9 +161,9 @@ module _ {T I : Type 0} (history : T → List I) (origin : T → List ℕ) (key 
   at_home s r id v at has inside = ⊎_elim
       (λ (h : IsAtHome history origin first r.past s.homes s.views). h)
       (λ (a : IsAway s.homes s.views).
-          let theirs = out_has r.past r.served r.next a.view.stage a.out (r.known a.seat a.view a.there).stands in
-          let same : a.seat ≡ id = r.apart a.seat id r.served a.view v a.there at theirs has in
-          absurd (inside (subst (λ (z : View I). IsOut z.stage) (some-injective a.view v (sym a.there ∙ (ap (get_elem? s.views) same ∙ at))) a.out)))
+      let theirs = out_has r.past r.served r.next a.view.stage a.out (r.known a.seat a.view a.there).stands in
+      let same : a.seat ≡ id = r.apart a.seat id r.served a.view v a.there at theirs has in
+      absurd (inside (subst (λ (z : View I). IsOut z.stage) (some-injective a.view v (sym a.there ∙ (ap (get_elem? s.views) same ∙ at))) a.out)))
       r.place
 
   -- where the value is out with the pass, its home is empty

@@ -66,8 +66,7 @@ module _ {T I : Type 0} (history : T → List I) (origin : T → List ℕ) (key 
       let v : View I = m.0 in let w : View I = staged v (Waiting r.next) in
       let found : get_or s.words 0 0 ≡ r.next % 2 ^ 64 = ap (λ ws. get_or ws 0 0) r.words in
       let known = r.known id v at in let none_yet : tickets v ≡ 0 = ap tickets_at is in
-      let low : r.served ≤ r.next = (let q = r.queue in omega arith) in
-      (
+      let low : r.served ≤ r.next = (let q = r.queue in omega arith) in (
         w,
         keeps,
         tt,
@@ -106,30 +105,29 @@ module _ {T I : Type 0} (history : T → List I) (origin : T → List ℕ) (key 
       let one : tickets v ≡ 1 = ap tickets_at is in
       dite (ℕ_discrete (get_or s.words 1 0) (mine % 2 ^ 64))
       (λ (hit : get_or s.words 1 0 ≡ mine % 2 ^ 64).
-          let now : r.served ≡ mine = one_turn r.served mine (2 ^ 64) low (omega arith) (sym found ∙ hit) in
-          let w : View I = staged v (Serving mine r.past) in
-          let has : HasTicket r.served v.stage = subst (HasTicket r.served) (sym is) (sym now) in
-          (
-            w,
-            keeps,
-            tt,
-            changed history origin key s r id v w at (set s.words 1 (get_or s.words 1 0)) s.homes r.past r.served r.next (words_stay s r 1) refl (omega arith) refl
-                record {
-                  seen_first = known.seen_first;
-                  stands = (sym now, omega arith, refl);
-                  alone = (let k = known.alone in omega arith);
-                  began = known.began;
-                  empty = λ none_left. absurd (omega arith);
-                }
-                (λ j d other there k. k)
-                (λ j ticket d other there ours. subst (λ (t : ℕ). ¬ HasTicket t d.stage) (now ∙ ours) (the_served history origin key s r id v at has j d other there))
-                (place_stays history origin key s r id v w at (λ o. subst IsOut is o) (λ o. o)),
-            λ ticket is'. let same : mine ≡ ticket = ap (ticket_or 0) (sym is ∙ is') in subst
-                (λ (t : ℕ). (get_or s.words 1 0 ≡ t % 2 ^ 64 → (past : List I) × IsPrefix v.seen past × (◌≡◌ {A = Sat T I} (w, m.1) (staged v (Serving t past), m.1)))
-                × (get_or s.words 1 0 ≢ t % 2 ^ 64 → ◌≡◌ {A = Sat T I} (w, m.1) m))
-                same
-                ((λ _. (r.past, known.seen_first, refl)), λ miss. absurd (miss hit)),
-          ))
+      let now : r.served ≡ mine = one_turn r.served mine (2 ^ 64) low (omega arith) (sym found ∙ hit) in
+      let w : View I = staged v (Serving mine r.past) in
+      let has : HasTicket r.served v.stage = subst (HasTicket r.served) (sym is) (sym now) in (
+        w,
+        keeps,
+        tt,
+        changed history origin key s r id v w at (set s.words 1 (get_or s.words 1 0)) s.homes r.past r.served r.next (words_stay s r 1) refl (omega arith) refl
+            record {
+              seen_first = known.seen_first;
+              stands = (sym now, omega arith, refl);
+              alone = (let k = known.alone in omega arith);
+              began = known.began;
+              empty = λ none_left. absurd (omega arith);
+            }
+            (λ j d other there k. k)
+            (λ j ticket d other there ours. subst (λ (t : ℕ). ¬ HasTicket t d.stage) (now ∙ ours) (the_served history origin key s r id v at has j d other there))
+            (place_stays history origin key s r id v w at (λ o. subst IsOut is o) (λ o. o)),
+        λ ticket is'. let same : mine ≡ ticket = ap (ticket_or 0) (sym is ∙ is') in subst
+            (λ (t : ℕ). (get_or s.words 1 0 ≡ t % 2 ^ 64 → (past : List I) × IsPrefix v.seen past × (◌≡◌ {A = Sat T I} (w, m.1) (staged v (Serving t past), m.1)))
+            × (get_or s.words 1 0 ≢ t % 2 ^ 64 → ◌≡◌ {A = Sat T I} (w, m.1) m))
+            same
+            ((λ _. (r.past, known.seen_first, refl)), λ miss. absurd (miss hit)),
+      ))
       (λ (miss : get_or s.words 1 0 ≢ mine % 2 ^ 64). (
         v,
         keeps,
@@ -152,8 +150,7 @@ module _ {T I : Type 0} (history : T → List I) (origin : T → List ℕ) (key 
       let serves : (mine ≡ r.served) × (r.served < r.next) × (past ≡ r.past) = subst (Stands r.past r.served r.next) is known.stands in
       let one : tickets v ≡ 1 = ap tickets_at is in
       let has : HasTicket r.served v.stage = subst (HasTicket r.served) (sym is) serves.0 in
-      let home = at_home history origin key s r id v at has (λ o. subst IsOut is o) in
-      (
+      let home = at_home history origin key s r id v at has (λ o. subst IsOut is o) in (
         w,
         takes 0 (Some home.value),
         ap (λ (h : Homes history origin key). get_elem? h 0) home.home,
@@ -189,8 +186,7 @@ module _ {T I : Type 0} (history : T → List I) (origin : T → List ℕ) (key 
       let one : tickets v ≡ 1 = ap tickets_at is in
       let has : HasTicket r.served v.stage = subst (HasTicket r.served) (sym is) serves.0 in
       let grows' : IsPrefix r.past after = subst (λ (l : List I). IsPrefix l after) serves.2 grows in
-      let longer_by : length past ≤ length after = prefix_length past after grows in let like : length past ≡ length r.past = ap length serves.2 in
-      (
+      let longer_by : length past ≤ length after = prefix_length past after grows in let like : length past ≡ length r.past = ap length serves.2 in (
         w,
         keeps,
         tt,
@@ -233,8 +229,7 @@ module _ {T I : Type 0} (history : T → List I) (origin : T → List ℕ) (key 
       let serves : (mine ≡ r.served) × (r.served < r.next) × (past ≡ r.past) = subst (Stands r.past r.served r.next) is known.stands in
       let one : tickets v ≡ 1 = ap tickets_at is in
       let has : HasTicket r.served v.stage = subst (HasTicket r.served) (sym is) serves.0 in
-      let empty = home_empty history origin key s r id v at (subst IsOut (sym is) tt) in
-      (
+      let empty = home_empty history origin key s r id v at (subst IsOut (sym is) tt) in (
         w,
         gives,
         tt,
@@ -269,8 +264,7 @@ module _ {T I : Type 0} (history : T → List I) (origin : T → List ℕ) (key 
       let known = r.known id v at in
       let serves : (mine ≡ r.served) × (r.served < r.next) × (past ≡ r.past) = subst (Stands r.past r.served r.next) is known.stands in
       let one : tickets v ≡ 1 = ap tickets_at is in
-      let has : HasTicket r.served v.stage = subst (HasTicket r.served) (sym is) serves.0 in
-      (
+      let has : HasTicket r.served v.stage = subst (HasTicket r.served) (sym is) serves.0 in (
         w,
         keeps,
         tt,
@@ -305,8 +299,7 @@ module _ {T I : Type 0} (history : T → List I) (origin : T → List ℕ) (key 
       let known = r.known id v at in
       let told_first : IsPrefix told r.past = subst (Stands r.past r.served r.next) is known.stands in
       let both = longer_begins v.seen told r.past known.seen_first told_first in
-      let none_yet : tickets v ≡ 0 = ap tickets_at is in
-      (
+      let none_yet : tickets v ≡ 0 = ap tickets_at is in (
         w,
         keeps,
         tt,
@@ -321,11 +314,10 @@ module _ {T I : Type 0} (history : T → List I) (origin : T → List ℕ) (key 
             (λ j d other there k. k)
             (λ j ticket d other there ours theirs. ours)
             (place_stays history origin key s r id v w at (λ o. subst IsOut is o) (λ o. o)),
-        λ told' is'. let like : told ≡ told' = ap (past_or []) (sym is ∙ is') in
-            (
-              (λ i. (compared v (like i), m.1)),
-              small_share history origin key s r id v at,
-              subst (λ (l : List I). IsPrefix v.seen (longer v.seen l)) like both.1,
-              subst (λ (l : List I). IsPrefix l (longer v.seen l)) like both.2,
-            ),
+        λ told' is'. let like : told ≡ told' = ap (past_or []) (sym is ∙ is') in (
+          (λ i. (compared v (like i), m.1)),
+          small_share history origin key s r id v at,
+          subst (λ (l : List I). IsPrefix v.seen (longer v.seen l)) like both.1,
+          subst (λ (l : List I). IsPrefix l (longer v.seen l)) like both.2,
+        ),
       )

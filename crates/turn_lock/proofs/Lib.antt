@@ -4,3 +4,4 @@ mod Keeping
 mod Ladder
 mod Parting
 mod WholeTurn
+mod Readings

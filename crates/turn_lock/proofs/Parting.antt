@@ -72,9 +72,9 @@ module _ {T I : Type 0} (history : T → List I) (origin : T → List ℕ) (key 
         apart = λ one other ticket a b at_one at_other has also.
             let without : (z : View I) → new ≡ z → ¬ HasTicket ticket z.stage = λ z t h. subst (λ (z : View I). HasTicket ticket z.stage) (sym t) h in
             let still : (j : ℕ) (z : View I) → get_elem? views j ≡ some z → HasTicket ticket z.stage → get_elem? s.views j ≡ some z = λ j z there h. ⊎_elim
-                (λ (t : (j ≡ id) × (w ≡ z)). absurd (subst (HasTicket ticket) is (subst (λ (y : View I). HasTicket ticket y.stage) (sym t.1) h)))
-                (λ (t : (j ≢ id) × (get_elem? s.views j ≡ some z)). t.1)
-                (at_set s.views id j w z there) in
+            (λ (t : (j ≡ id) × (w ≡ z)). absurd (subst (HasTicket ticket) is (subst (λ (y : View I). HasTicket ticket y.stage) (sym t.1) h)))
+            (λ (t : (j ≢ id) × (get_elem? s.views j ≡ some z)). t.1)
+            (at_set s.views id j w z there) in
             ⊎_elim
             (λ (t : get_elem? views one ≡ some a). ⊎_elim
             (λ (u : get_elem? views other ≡ some b). r.apart one other ticket a b (still one a t has) (still other b u also) has also)
@@ -93,7 +93,7 @@ module _ {T I : Type 0} (history : T → List I) (origin : T → List ℕ) (key 
       let mine = r.known id v at in let theirs = r.known other e was in
       let none_yet : tickets v ≡ 0 = ap tickets_at is in let nor_they : tickets e ≡ 0 = ap tickets_at is' in
       let alike : (K : ℕ → View I → Type 0) → K id w → K other spent → ((j : ℕ) (d : View I) → j ≢ id → get_elem? s.views j ≡ some d → K j d) → (j : ℕ) (d : View I) → get_elem? (set mid other spent) j ≡ some d → K j d
-          = λ K a b c. each_then K mid other spent b (λ j d _ h. each_then K s.views id w a c j d h) in
+      = λ K a b c. each_then K mid other spent b (λ j d _ h. each_then K s.views id w a c j d h) in
       record {
         past = r.past;
         served = r.served;
@@ -121,7 +121,7 @@ module _ {T I : Type 0} (history : T → List I) (origin : T → List ℕ) (key 
             (λ j d _ h. r.known j d h);
         apart = λ one two ticket a b at_one at_two has also.
             let still : (j : ℕ) (d : View I) → get_elem? (set mid other spent) j ≡ some d → HasTicket ticket d.stage → get_elem? s.views j ≡ some d
-                = alike (λ j d. HasTicket ticket d.stage → get_elem? s.views j ≡ some d) (λ h. absurd h) (λ h. absurd h) (λ j d _ h _. h) in
+            = alike (λ j d. HasTicket ticket d.stage → get_elem? s.views j ≡ some d) (λ h. absurd h) (λ h. absurd h) (λ j d _ h _. h) in
             r.apart one two ticket a b (still one a at_one has) (still two b at_two also) has also;
         place = ⊎_elim
             (λ (h : IsAtHome history origin (first history origin key) r.past s.homes s.views). inl record {
@@ -132,15 +132,15 @@ module _ {T I : Type 0} (history : T → List I) (origin : T → List ℕ) (key 
               with_none = alike (λ j (d : View I). ¬ IsOut d.stage) (λ o. o) (λ o. o) (λ j d _ h'. h.with_none j d h');
             })
             (λ (a : IsAway s.homes s.views).
-                let out_of : (k : ℕ) (z : View I) → get_elem? s.views k ≡ some z → z.stage ≡ Between → ¬ (a.seat ≡ k) = λ k z h b same.
-                    subst IsOut b (subst (λ (y : View I). IsOut y.stage) (some-injective a.view z (sym a.there ∙ (ap (get_elem? s.views) same ∙ h))) a.out) in
-                inr record {
-                  home = a.home;
-                  seat = a.seat;
-                  view = a.view;
-                  there = set_else mid other a.seat spent (out_of other e was is') ∙ (set_else s.views id a.seat w (out_of id v at is) ∙ a.there);
-                  out = a.out;
-                })
+            let out_of : (k : ℕ) (z : View I) → get_elem? s.views k ≡ some z → z.stage ≡ Between → ¬ (a.seat ≡ k) = λ k z h b same.
+            subst IsOut b (subst (λ (y : View I). IsOut y.stage) (some-injective a.view z (sym a.there ∙ (ap (get_elem? s.views) same ∙ h))) a.out) in
+            inr record {
+              home = a.home;
+              seat = a.seat;
+              view = a.view;
+              there = set_else mid other a.seat spent (out_of other e was is') ∙ (set_else s.views id a.seat w (out_of id v at is) ∙ a.there);
+              out = a.out;
+            })
             r.place;
       }
 
@@ -151,15 +151,14 @@ module _ {T I : Type 0} (history : T → List I) (origin : T → List ℕ) (key 
       let s : St history origin key = last.0 in let r = last.1.0 in let at : get_elem? s.views id ≡ some v = last.1.1 in
       let known = r.known id v at in let began = known.began some_share in
       let spent_else : (j : ℕ) (d : View I) → j ≢ id → get_elem? s.views j ≡ some d → d ≡ spent = λ j d other there.
-          (r.known j d there).empty (let t = sum_two (λ (z : View I). z.share) s.views id j v d other at there in let q = r.shares in omega arith) in
+      (r.known j d there).empty (let t = sum_two (λ (z : View I). z.share) s.views id j v d other at there in let q = r.shares in omega arith) in
       let made : sum_by (λ (z : View I). z.made) s.views ≡ v.made = sum_alone (λ (z : View I). z.made) s.views id v at (λ j d other there. ap (λ (z : View I). z.made) (spent_else j d other there)) in
       let home : IsAtHome history origin (first history origin key) r.past s.homes s.views = ⊎_elim
-          (λ (h : IsAtHome history origin (first history origin key) r.past s.homes s.views). h)
-          (λ (a : IsAway s.homes s.views). absurd (dite (ℕ_discrete a.seat id)
-          (λ (same : a.seat ≡ id). subst IsOut is (subst (λ (y : View I). IsOut y.stage) (some-injective a.view v (sym a.there ∙ (ap (get_elem? s.views) same ∙ at))) a.out))
-          (λ (other : a.seat ≢ id). subst (λ (y : View I). IsOut y.stage) (spent_else a.seat a.view other a.there) a.out)))
-          r.place in
-      (
+      (λ (h : IsAtHome history origin (first history origin key) r.past s.homes s.views). h)
+      (λ (a : IsAway s.homes s.views). absurd (dite (ℕ_discrete a.seat id)
+      (λ (same : a.seat ≡ id). subst IsOut is (subst (λ (y : View I). IsOut y.stage) (some-injective a.view v (sym a.there ∙ (ap (get_elem? s.views) same ∙ at))) a.out))
+      (λ (other : a.seat ≢ id). subst (λ (y : View I). IsOut y.stage) (spent_else a.seat a.view other a.there) a.out)))
+      r.place in (
         home.value,
         last.4 0 (Some home.value) (ap (λ (h : Homes history origin key). get_elem? h 0) home.home),
         subst (IsPrefix v.seen) (sym home.has_history) known.seen_first,

@@ -7,6 +7,7 @@ use mathlib.Core.Option.{none, some}
 use mathlib.Core.Option as maybe
 use lib.ListN.{get_elem?}
 use Rattle.atomic_table.specs.Table.{State, Me, Step, rest}
+use Rattle.turn_lock.specs.declared.view.TheConstants.{MOST_CALLERS}
 use Rattle.turn_lock.specs.declared.view.View.{View}
 use Rattle.turn_lock.specs.declared.view.Opening.{Opening}
 use Rattle.turn_lock.specs.declared.view.Stage.{Stage}
@@ -31,6 +32,12 @@ module _ {I : Type 0} where
 
   abbrev pub tickets : View I → ℕ
   tickets v = tickets_at v.stage
+
+  -- the pass has the turn
+  abbrev pub HasTurn : Stage I → Type 0
+  HasTurn (Serving mine past) = Unit {0}
+  HasTurn (Holding mine past) = Unit {0}
+  HasTurn _ = ⊥
 
   -- the value is out with a pass at this stage
   abbrev pub IsOut : Stage I → Type 0
@@ -82,7 +89,7 @@ module _ {T I : Type 0} (history : T → List I) (origin : T → List ℕ) where
     pub next : ℕ
     pub words : s.words ≡ next % 2 ^ 64 ∷ served % 2 ^ 64 ∷ length past ∷ []
     pub queue : served + sum_by tickets s.views ≡ next
-    pub few : opening.callers ≤ 64
+    pub few : opening.callers ≤ MOST_CALLERS
     pub shares : sum_by (λ v. v.share) s.views ≡ opening.callers
     pub grown : length (history opening.value.value) + sum_by (λ v. v.made) s.views ≡ length past
     pub known : (seat : ℕ) (v : View I) → get_elem? s.views seat ≡ some v → Knows past served next (origin opening.value.value) (length (history opening.value.value)) v
@@ -143,7 +150,7 @@ At T = Step (Option T)
 module _ {T I : Type 0} where
   -- its end: the longer of both lists stays, and begins with the other. No share passes the most callers
   abbrev pub compares : At T → Sat T I → ℕ → Sat T I → Type 0
-  compares st m found m' = (told : List I) → m.0.stage ≡ Joined told → (m' ≡ (compared m.0 told, m.1)) × (m.0.share ≤ 64)
+  compares st m found m' = (told : List I) → m.0.stage ≡ Joined told → (m' ≡ (compared m.0 told, m.1)) × (m.0.share ≤ MOST_CALLERS)
       × IsPrefix m.0.seen (longer m.0.seen told) × IsPrefix told (longer m.0.seen told)
 
   -- 3 draw: the number found is the ticket

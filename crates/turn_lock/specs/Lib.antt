@@ -1,3 +1,4 @@
 pub mod Ladder
 pub mod Passes
 pub mod Turned
+pub mod OneHistory

@@ -3,6 +3,7 @@
 #![tactic(auto)]
 
 mod held;
+pub mod laws;
 mod pass;
 mod sharing;
 mod steps;
@@ -15,3 +16,4 @@ mod view;
 pub use held::Held;
 pub use pass::Pass;
 pub use turns::{Turns, TurnsRefused};
+pub use view::MOST_CALLERS;

@@ -6,8 +6,8 @@ ghost use Rattle.turn_lock.specs.Ladder.{longer};
 ghost use Rattle.turn_lock.specs.Passes.{seen_by, share_of, made_by, origin_of, start_of, IsPassOf, BeganAs};
 ghost use Rattle.turn_lock.specs.Turned.{id_of, callers_of};
 
-use crate::steps::{Compare, Cut, Merge, Portion};
-use crate::view::Opening;
+use crate::steps::{Compare, Cut, HOME, Merge, NEXT, Portion};
+use crate::view::{MOST_CALLERS, Opening};
 use crate::{Held, Pass, Turns, TurnsRefused};
 use atomic_table::{Refused, Table};
 use desk_base::Memory;
@@ -16,14 +16,14 @@ use std::marker::Brand;
 use std::snapshot::Snapshot;
 
 impl<T: Held> Turns<T> {
-    /// The turns of a value for 1 to 64 callers, and the pass that stands for all of them. It has seen all entries of
+    /// The turns of a value for at least one caller, and the pass that stands for all of them. It has seen all entries of
     /// the value.
     pub fn new(
         alloc: Global,
         value: T,
         callers: u16,
     ) -> Result<(Turns<T>, Pass<T>), TurnsRefused<T>>
-        requires { (0 < callers) × (callers ≤ 64) }
+        requires { (0 < callers) × (callers ≤ MOST_CALLERS) }
         ensures own { IfOk result (λ r. IsPassOf (id_of r.0) r.1) }
         ensures share { IfOk result (λ r. (share_of r.1 ≡ callers) × (callers_of r.0 ≡ callers)) }
         ensures seen { IfOk result (λ r. seen_by r.1 ≡ T.history value) }
@@ -44,7 +44,13 @@ impl<T: Held> Turns<T> {
         }
         slots.push_reserved(Some(value));
         match Table::new(alloc, &words, slots, &opening) {
-            Ok((table, seat)) => Ok((Turns { table }, Pass { share: callers, seat })),
+            Ok((table, seat)) => Ok((
+                Turns { table },
+                Pass {
+                    share: callers,
+                    seat,
+                },
+            )),
             Err(Refused { slots }) => Err(TurnsRefused { value: only(slots) }),
         }
     }
@@ -59,7 +65,8 @@ impl<T: Held> Turns<T> {
         ensures rest { IfOk result (λ given. share_of pass.new + share ≡ share_of pass.old) }
         ensures seen { IfOk result (λ given. seen_by given ≡ seen_by pass.old) }
         ensures none_made { IfOk result (λ given. made_by given ≡ 0) }
-        ensures kept { (seen_by pass.new ≡ seen_by pass.old) × (made_by pass.new ≡ made_by pass.old) × BeganAs pass.new pass.old }
+        ensures kept { (seen_by pass.new ≡ seen_by pass.old) × (made_by pass.new ≡ made_by pass.old) }
+        ensures began { BeganAs pass.new pass.old }
         ensures err { OnErr result (pass.new ≡ pass.old) }
     {
         Ok(self.cut::<Brand>(pass, share))
@@ -93,7 +100,7 @@ impl<T: Held> Turns<T> {
         let Pass { share, seat } = other;
         let shared = &self.table.shared;
         shared.join_seat::<Merge>(&mut pass.seat, seat);
-        shared.load::<Compare>(&mut pass.seat, 0);
+        shared.load::<Compare>(&mut pass.seat, NEXT);
         pass.share += share;
     }
 
@@ -108,7 +115,7 @@ impl<T: Held> Turns<T> {
         let Turns { table } = self;
         let Pass { share: _, seat } = pass;
         let mut closed = table.close_with(seat);
-        let value = closed.take(0).unwrap();
+        let value = closed.take(HOME).unwrap();
         closed.free();
         value
     }

@@ -8,8 +8,19 @@ use crate::view::{Opening, View};
 use atomic_table::{Join, Play, Split, TableRule};
 use std::marker::{Brand, PhantomData};
 
-/// The rule: word 0 is the next ticket, word 1 the ticket that is served, word 2 the length of the history. The one slot
-/// is the value's home.
+/// The word with the next ticket.
+pub(crate) const NEXT: usize = 0;
+
+/// The word with the ticket that is served.
+pub(crate) const SERVED: usize = 1;
+
+/// The word with the length of the history.
+pub(crate) const LENGTH: usize = 2;
+
+/// The slot that is the value's home.
+pub(crate) const HOME: usize = 0;
+
+/// The rule of the words, the value's home and the passes.
 pub struct Ladder;
 
 impl<T: Held> TableRule<Option<T>, View<T::Item>, Opening<T>> for Ladder {

@@ -5,12 +5,15 @@ ghost use mathlib.Core.List.{IsPrefix};
 ghost use Rattle.turn_lock.specs.Passes.{seen_by, share_of, IsPassOf, BeganAs, MayAct, TookTurn};
 ghost use Rattle.turn_lock.specs.Turned.{id_of, IsIdle, HasTaken, MayGive, HasGiven};
 
-use crate::steps::{Draw, NoteLength, PassOn, PutHome, Read, TakeOut};
+use crate::steps::{Draw, HOME, LENGTH, NEXT, NoteLength, PassOn, PutHome, Read, SERVED, TakeOut};
 use crate::view::View;
 use crate::{Held, Pass, Turns};
 use atomic_table::Seat;
 use std::sync::Wait;
 use std::thread;
+
+/// So often a caller yields to the system before he sleeps.
+const PATIENCE: u32 = 64;
 
 impl<T: Held> Turns<T> {
     /// Waits for a turn, and calls `act` at the value in it.
@@ -40,15 +43,29 @@ impl<T: Held> Turns<T> {
         ensures { HasTaken T.history T.origin seat.old result seat.new }
     {
         let shared = &self.table.shared;
-        let ticket = shared.fetch_add::<Draw>(seat, 0, 1);
+        let ticket = shared.fetch_add::<Draw>(seat, NEXT, 1);
+        let mut tries = 0u32;
         for _ in rt.forever() {
-            if shared.load::<Read>(seat, 1) == ticket {
-                shared.load::<TakeOut>(seat, 1);
-                return shared.exchange(seat, 0, None).unwrap();
+            let served = shared.load::<Read>(seat, SERVED);
+            if served == ticket {
+                shared.load::<TakeOut>(seat, SERVED);
+                return shared.exchange(seat, HOME, None).unwrap();
             }
-            thread::yield_now();
+            tries = tries.saturating_add(1);
+            self.await_change(rt, served, tries);
         }
         unreachable!()
+    }
+
+    // Yields to the system, or sleeps after many tries while this ticket is served.
+    fn await_change<H: Wait>(&self, rt: &H, served: u64, tries: u32) {
+        if tries < PATIENCE {
+            thread::yield_now();
+        } else {
+            self.table
+                .shared
+                .park(rt, SERVED, (served % (1 << 32)) as u32);
+        }
     }
 
     // Puts the value home, and passes the turn on.
@@ -58,10 +75,19 @@ impl<T: Held> Turns<T> {
     {
         let shared = &self.table.shared;
         let length = value.count();
-        let nothing = shared.exchange(seat, 0, Some(value));
+        let nothing = shared.exchange(seat, HOME, Some(value));
         let None = nothing else { unreachable!() };
-        shared.store::<NoteLength>(seat, 2, length);
-        shared.load::<PutHome>(seat, 1);
-        shared.fetch_add::<PassOn>(seat, 1, 1);
+        shared.store::<NoteLength>(seat, LENGTH, length);
+        shared.load::<PutHome>(seat, SERVED);
+        let served = shared.fetch_add::<PassOn>(seat, SERVED, 1);
+        self.wake_behind(served);
+    }
+
+    // Wakes those that sleep, if there is a ticket behind the one that was served. Whoever draws one later finds the
+    // word changed, and doesn't sleep on the old number.
+    fn wake_behind(&self, served: u64) {
+        if self.table.shared.peek(NEXT) != served.wrapping_add(1) {
+            self.table.shared.wake_all(SERVED);
+        }
     }
 }

@@ -3,6 +3,9 @@
 use std::collections::LinkedList;
 use std::snapshot::Snapshot;
 
+/// The most callers of some turns.
+pub const MOST_CALLERS: u16 = 64;
+
 /// Where a pass stands on the way through its turn.
 pub enum Stage<I> {
     /// Between two calls.

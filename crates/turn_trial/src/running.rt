@@ -10,11 +10,10 @@ use crate::course::{Course, MOST_CALLERS};
 use crate::notes::{Mark, Notes};
 use crate::worker::Worker;
 use std::alloc::{AllocError, Global};
-use std::fmt;
 use std::fmt::{Display, Formatter, Write};
 use std::sync::Wait;
-use std::thread;
 use std::thread::Threads;
+use std::{fmt, thread};
 use turn_lock::{Pass, Turns};
 
 /// What came of a course.
@@ -37,7 +36,10 @@ impl Display for Outcome {
             has_fronts,
         } = self;
         let fronts = if *has_fronts { "fronts" } else { "no fronts" };
-        write!(f, "seed {seed} callers {callers} turns {turns} entries {entries} {fronts}")
+        write!(
+            f,
+            "seed {seed} callers {callers} turns {turns} entries {entries} {fronts}"
+        )
     }
 }
 
@@ -83,7 +85,11 @@ fn all_fronts(course: &Course, notes: &Notes, seen: &[Vec<Mark>]) -> bool {
 }
 
 fn kept_marks(course: &Course) -> usize {
-    if course.is_kept { course.turns as usize } else { 0 }
+    if course.is_kept {
+        course.turns as usize
+    } else {
+        0
+    }
 }
 
 // A worker for each caller, with passes that were split as the course says.
@@ -162,7 +168,12 @@ fn work_all<R: Threads + Wait + Sync>(
     requires { AllOf (id_of turns.now) workers.old }
     ensures { AllOf (id_of turns.now) workers.new }
 {
-    thread::for_each_mut(rt, workers, MOST_CALLERS, &|_, worker| worker.work(rt, turns, count));
+    thread::for_each_mut(
+        rt,
+        workers,
+        MOST_CALLERS,
+        &|_, worker| worker.work(rt, turns, count),
+    );
 }
 
 // What each worker has seen, and the pass into which all were joined in the order of the course.

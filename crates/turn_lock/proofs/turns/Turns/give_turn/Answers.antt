@@ -32,8 +32,8 @@ load-requires g c =
           (r.has_origin ∙ sym (ap (λ m. m.0.origin) notes ∙ ap (λ m. m.0.origin) bears)),
     )
 
-pub fetch_add-requires : goal.fetch_add-requires
-fetch_add-requires g c =
+pub fetch_add-served-requires : goal.fetch_add-served-requires
+fetch_add-served-requires g c =
     let r = c.requires in
     let put = c.exchange-nothing.ensures in
     let bears = put.3 ∙ ap (λ cs. (c.args.seat.now.me.0, (0, Some c.args.value) ∷ rest cs)) r.hands in
@@ -53,10 +53,9 @@ returns g c =
     let bears = put.3 ∙ ap (λ cs. (c.args.seat.now.me.0, (0, Some c.args.value) ∷ rest cs)) r.hands in
     let notes = c.store.ensures.2 r.ticket r.found c.args.value (ap (λ m. m.0.stage) bears ∙ r.stage) (ap (λ m. m.1) bears) in
     let home = c.load.ensures.2 r.ticket (g.T.Held.history c.args.value) (ap (λ m. m.0.stage) notes) in
-    let passes = c.fetch_add.ensures.2 r.ticket (g.T.Held.history c.args.value) (ap (λ m. m.0.stage) home) in
-    given_back g.T.Held.history g.T.Held.origin _ _ _ _ _ r.ticket r.found c.args.value
-        (
-          c.fetch_add.ensures.0 ∙ (c.load.ensures.0 ∙ (c.store.ensures.0 ∙ put.0)),
-          c.fetch_add.ensures.1 ∙ (c.load.ensures.1 ∙ (c.store.ensures.1 ∙ put.1)),
-        )
-        r.stage bears notes home passes
+    let passes = c.fetch_add-served.ensures.2 r.ticket (g.T.Held.history c.args.value) (ap (λ m. m.0.stage) home) in
+    given_back g.T.Held.history g.T.Held.origin _ _ _ _ _ r.ticket r.found c.args.value (
+      c.fetch_add-served.ensures.0 ∙ (c.load.ensures.0 ∙ (c.store.ensures.0 ∙ put.0)),
+      c.fetch_add-served.ensures.1 ∙ (c.load.ensures.1 ∙ (c.store.ensures.1 ∙ put.1)),
+    )
+    r.stage bears notes home passes

@@ -8,7 +8,7 @@ pub give_turn-requires : goal.give_turn-requires
 give_turn-requires g c =
     let took = c.take_turn-value.ensures in
     let left = (c.requires.act c.take_turn-value.result (took.begins, took.has_origin)).1 c.act-result.result c.act-result.new.arg2
-        record { shown = _; shows = refl; left = _; met = c.act-result.ensures; leaves = refl } in
+    record { shown = _; shows = refl; left = _; met = c.act-result.ensures; leaves = refl } in
     let share : c.args.pass.now.seat.me.0.share ≡ c.args.pass.now.share = c.requires.own.share in record {
       named = took.same.0 ∙ c.requires.own.named;
       ticket = took.ticket;
@@ -36,7 +36,7 @@ returns-clause-turn g c =
     let took = c.take_turn-value.ensures in
     let gave = c.give_turn.ensures.holds took.ticket _ (ap (λ m. m.0.stage) took.holds) in
     let left = (c.requires.act c.take_turn-value.result (took.begins, took.has_origin)).1 c.act-result.result c.act-result.new.arg2
-        record { shown = _; shows = refl; left = _; met = c.act-result.ensures; leaves = refl } in
+    record { shown = _; shows = refl; left = _; met = c.act-result.ensures; leaves = refl } in
     let grown = prefix_length _ _ left.0 in
     let made = ap (λ m. m.0.made) gave in
     let was = ap (λ m. m.0.made) took.holds in record {
@@ -60,5 +60,5 @@ returns-clause-forward g c =
     let took = c.take_turn-value.ensures in
     let gave = c.give_turn.ensures.holds took.ticket _ (ap (λ m. m.0.stage) took.holds) in
     let left = (c.requires.act c.take_turn-value.result (took.begins, took.has_origin)).1 c.act-result.result c.act-result.new.arg2
-        record { shown = _; shows = refl; left = _; met = c.act-result.ensures; leaves = refl } in
+    record { shown = _; shows = refl; left = _; met = c.act-result.ensures; leaves = refl } in
     subst (IsPrefix c.args.pass.now.seat.me.0.seen) (sym (ap (λ m. m.0.seen) gave)) (prefix_on _ _ _ took.begins left.0)
