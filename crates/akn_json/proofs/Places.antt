@@ -72,7 +72,7 @@ work_within most d = within_on most (text_in d) _ (text_within most d) (λ text 
   where
     by : (r : NameRead Work) → IsWithin most (work_read r)
     by (Ok work) = within_ok most _
-    by (Err fault) = within_broken most _
+    by (Err fault) = within_broken _ most _
 
 expression_within : (most : ℕ) (d : Data) → IsWithin most (expression_in d)
 unfolding expression_in
@@ -102,11 +102,11 @@ own_within most d =
 
 mutual
   node_within : (most : ℕ) (d : Data) → IsWithin most (node_in d)
-  node_within most null = within_broken most _
-  node_within most (boolean b) = within_broken most _
-  node_within most (number n) = within_broken most _
-  node_within most (string s) = within_broken most _
-  node_within most (array ds) = within_broken most _
+  node_within most null = within_broken _ most _
+  node_within most (boolean b) = within_broken _ most _
+  node_within most (number n) = within_broken _ most _
+  node_within most (string s) = within_broken _ most _
+  node_within most (array ds) = within_broken _ most _
   node_within most (object ms) =
       within_on most (own_in (object ms)) _ (own_within most (object ms))
       (λ own _. within_on most (children_in ms) _ (children_within most ms) (λ below _. within_ok most _))
@@ -117,12 +117,12 @@ mutual
       within_either most (bytes_eq name (key_name key.Children)) (nodes_in d) (children_in ms) (nodes_within most d) (children_within most ms)
 
   nodes_within : (most : ℕ) (d : Data) → IsWithin most (nodes_in d)
-  nodes_within most null = within_broken most _
-  nodes_within most (boolean b) = within_broken most _
-  nodes_within most (number n) = within_broken most _
-  nodes_within most (string s) = within_broken most _
+  nodes_within most null = within_broken _ most _
+  nodes_within most (boolean b) = within_broken _ most _
+  nodes_within most (number n) = within_broken _ most _
+  nodes_within most (string s) = within_broken _ most _
   nodes_within most (array ds) = each_node_within most ds
-  nodes_within most (object ms) = within_broken most _
+  nodes_within most (object ms) = within_broken _ most _
 
   each_node_within : (most : ℕ) (ds : Items) → IsWithin most (each_node ds)
   each_node_within most no_items = within_ok most _

@@ -14,9 +14,9 @@ pub within_ok : {A : Type 0} (most : ℕ) (a : A) → IsWithin most (Ok a)
 unfolding IsWithin
 within_ok most a = tt
 
-pub within_broken : {A : Type 0} (most : ℕ) (rule : FormRule) → IsWithin {A = A} most (Err (broken rule))
+pub within_broken : (A : Type 0) (most : ℕ) (rule : FormRule) → IsWithin {A = A} most (Err (broken rule))
 unfolding IsWithin
-within_broken most rule = omega arith
+within_broken A most rule = omega arith
 
 -- something was found, or a rule was kept
 pub within_found : {A : Type 0} (most : ℕ) (rule : FormRule) (o : Option A) → IsWithin most (or_fault (broken rule) o)

@@ -14,6 +14,7 @@ returns-clause-tokens c =
       c.in_ok-begin_object.ensures.ok,
       append_assoc,
       c.name.ensures,
+      c.from-2.ensures,
       c.from.ensures,
       c.number.ensures,
     )
