@@ -22,3 +22,8 @@ pub mod Ascending
 pub mod Sound
 pub mod Spellable
 pub mod Enacting
+pub mod InsertedKeys
+pub mod ApartIds
+pub mod Continuing
+pub mod DueOnce
+pub mod NamedDays

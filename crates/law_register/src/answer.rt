@@ -3,17 +3,21 @@
 mod answer;
 mod answer_node;
 mod days;
+mod due;
 mod ids;
 mod queries;
 mod question;
 mod replayer;
+mod replaying;
 mod version;
 
 pub use answer::Answer;
 pub use answer_node::{AnswerNode, AnswerNodes};
 pub use days::Days;
+pub use due::Due;
 pub use ids::{Ids, Unapplied};
 pub use queries::{AskFault, QueryRule};
 pub use question::{Question, Reading};
 pub use replayer::Replayer;
+pub use replaying::{continue_replay, enact};
 pub use version::Version;

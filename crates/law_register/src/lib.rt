@@ -5,10 +5,11 @@ mod answer;
 mod law;
 pub mod laws;
 mod register;
+pub mod replay_laws;
 
 pub use answer::{
-    Answer, AnswerNode, AnswerNodes, AskFault, Days, Ids, QueryRule, Question, Reading, Replayer,
-    Unapplied, Version,
+    Answer, AnswerNode, AnswerNodes, AskFault, Days, Due, Ids, QueryRule, Question, Reading,
+    Replayer, Unapplied, Version, continue_replay, enact,
 };
 pub use law::{Act, Command, Destination, Kind, ModSource, Modification, Mods, entry_size};
 pub use register::{

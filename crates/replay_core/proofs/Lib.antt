@@ -1,10 +1,4 @@
 mod Grouping
 mod Turning
-mod Listing
-mod Bytes
-mod Places
-mod Comparing
 mod ShowingLaws
 mod HeldFlags
-mod Ids
-mod Stepping

@@ -1,4 +1,1 @@
 pub mod Groups
-pub mod Ascending
-pub mod Dues
-pub mod Replaying

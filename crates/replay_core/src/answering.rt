@@ -5,7 +5,7 @@ ghost use Rattle.std.specs.List.{All};
 ghost use Rattle.act_tree.specs.Branches.{branches_of, listed};
 ghost use Rattle.act_tree.specs.Seen.{tree_view, has_node, provision_at, branch_at};
 ghost use Rattle.law_register.specs.Answer.Answers as spec;
-ghost use Rattle.law_register.specs.Answer.Answers.{Answers, all_shown, portion_among};
+ghost use Rattle.law_register.specs.Answer.Answers.{Answers, portion_among};
 ghost use Rattle.law_register.specs.Answer.ShownNodes.{shown_view};
 ghost use Rattle.law_register.specs.Answer.Flags as flags;
 ghost use Rattle.law_register.specs.Answer.Replay.{replay_on};
@@ -16,49 +16,9 @@ use crate::showing::{find_flag, find_portion, show_all};
 use act_tree::{NodeId, Tree};
 use desk_base::{Day, Memory, Text};
 use law_register::{
-    Act, Answer, AnswerNode, AnswerNodes, AskFault, Known, QueryRule, Question, Reading, Version,
+    Answer, AnswerNode, AnswerNodes, AskFault, Known, QueryRule, Question, Reading, Version,
 };
 use std::alloc::Global;
-
-// Whether the day of a version is before that of the act.
-fn is_too_early(version: Option<Day>, act: &Act) -> bool
-    ensures { result ≡ spec.is_too_early version act.now }
-{
-    match version {
-        Some(day) => day < act.day,
-        None => false,
-    }
-}
-
-// The first rule that a question breaks before its text is looked at.
-fn first_rule(known: &Known, question: &Question) -> Result<Option<QueryRule>, Memory>
-    ensures { IfOk result (λ rule. rule ≡ spec.first_rule known.now question.now) }
-{
-    if question.viewpoint < known.enacted {
-        let work = question.work.copy()?;
-        return Ok(Some(QueryRule::UnknownWork(work)));
-    }
-    if known.front < question.viewpoint {
-        return Ok(Some(QueryRule::ViewpointAhead(known.front)));
-    }
-    if is_too_early(question.version, &known.act) {
-        return Ok(Some(QueryRule::NotYetEnacted(known.act.day)));
-    }
-    if question.language != known.act.language {
-        return Ok(Some(QueryRule::OtherLanguage(known.act.language)));
-    }
-    Ok(None)
-}
-
-// The day on which a question is answered.
-fn asked_day(version: Option<Day>, act: &Act) -> Day
-    ensures { result ≡ spec.asked_day version act.now }
-{
-    match version {
-        Some(day) => day,
-        None => act.day,
-    }
-}
 
 // The nodes right below the root.
 fn top(tree: &Tree) -> &[NodeId]
@@ -70,7 +30,8 @@ fn top(tree: &Tree) -> &[NodeId]
 
 // The whole text, below a root of the flag.
 fn whole(alloc: Global, on: &OnDay<'_>, tree: &Tree, flag: bool) -> Result<AnswerNodes, Memory>
-    ensures { IfOk result (λ nodes. nodes ≡ listed (all_shown on.now.known.now on.now.reading on.now.day (tree_view tree.now).numbering flag None (tree_view tree.now).body)) }
+    ensures { IfOk result (λ nodes. nodes ≡ listed
+        (spec.shown_tree on.now.known.now on.now.reading on.now.day flag (tree_view tree.now))) }
 {
     show_all(alloc, on, tree, flag, None, top(tree))
 }
@@ -93,7 +54,7 @@ fn portion_of(
     eid: &str,
 ) -> Result<Option<AnswerNode>, Memory>
     ensures { IfOk result (λ found. option_map shown_view found
-        ≡ portion_among eid.now (all_shown on.now.known.now on.now.reading on.now.day (tree_view tree.now).numbering flag None (tree_view tree.now).body)) }
+        ≡ portion_among eid.now (spec.shown_tree on.now.known.now on.now.reading on.now.day flag (tree_view tree.now))) }
 {
     find_portion(alloc, on, tree, flag, None, eid, top(tree))
 }
@@ -107,7 +68,7 @@ fn part_of(
     eid: &Text,
 ) -> Result<AnswerNodes, AskFault>
     ensures { Answers result (spec.found_portion eid.now (portion_among eid.now
-        (all_shown on.now.known.now on.now.reading on.now.day (tree_view tree.now).numbering flag None (tree_view tree.now).body))) }
+        (spec.shown_tree on.now.known.now on.now.reading on.now.day flag (tree_view tree.now)))) }
 {
     match portion_of(alloc, on, tree, flag, eid.as_str())? {
         Some(node) => Ok(alone(alloc, node)?),
@@ -124,7 +85,7 @@ fn asked_part(
     portion: &Option<Text>,
 ) -> Result<AnswerNodes, AskFault>
     ensures { Answers result (spec.asked_part portion.now
-        (all_shown on.now.known.now on.now.reading on.now.day (tree_view tree.now).numbering flag None (tree_view tree.now).body)) }
+        (spec.shown_tree on.now.known.now on.now.reading on.now.day flag (tree_view tree.now))) }
 {
     match portion {
         Some(eid) => part_of(alloc, on, tree, flag, eid),
@@ -141,8 +102,7 @@ fn answer_on_day(
 ) -> Result<Answer, AskFault>
     requires reading { on.now.reading ≡ question.now.reading }
     requires day { on.now.day ≡ spec.asked_day question.now.version on.now.known.now.act }
-    ensures { Answers result (spec.answer_part on.now.known.now (version_view version) question.now (spec.asked_part question.now.portion
-        (spec.shown_text on.now.known.now question.now.reading (spec.asked_day question.now.version on.now.known.now.act) (version_view version)))) }
+    ensures { Answers result (spec.answer_of_text on.now.known.now (version_view version) question.now) }
 {
     let bears = on.root_flag(alloc)?;
     let nodes = asked_part(alloc, on, &version.tree, bears, &question.portion)?;
@@ -163,10 +123,9 @@ fn answer_from(
     version: Version,
     question: &Question,
 ) -> Result<Answer, AskFault>
-    ensures { Answers result (spec.answer_part known.now (version_view version) question.now (spec.asked_part question.now.portion
-        (spec.shown_text known.now question.now.reading (spec.asked_day question.now.version known.now.act) (version_view version)))) }
+    ensures { Answers result (spec.answer_of_text known.now (version_view version) question.now) }
 {
-    let day = asked_day(question.version, &known.act);
+    let day = question.asked_day(&known.act);
     let on = OnDay::new(alloc, known, question.reading, day)?;
     answer_on_day(alloc, &on, version, question)
 }
@@ -182,7 +141,7 @@ pub fn answer(
     requires { version_view version ≡ replay_on known.now question.now.reading (spec.asked_day question.now.version known.now.act) }
     ensures { Answers result (spec.answer_on known.now question.now) }
 {
-    match first_rule(known, question)? {
+    match question.first_rule(known)? {
         Some(rule) => Err(AskFault::Query(rule)),
         None => answer_from(alloc, known, version, question),
     }

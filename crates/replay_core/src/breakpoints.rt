@@ -1,46 +1,25 @@
 //! The days on which the text of a work may change.
 
-ghost use Rattle.std.specs.Prelude.{◌≡◌, [], ◌++◌, ◌∷◌, ◌≤◌, IfOk, OnOk, IfSome, IfNone, if◌then◌else◌, length, take, drop};
+ghost use Rattle.std.specs.Prelude.{◌≡◌, [], IfOk, OnOk, if◌then◌else◌};
+ghost use Rattle.std.specs.BTreeSet.{insert_key};
+ghost use Rattle.std.specs.Ordering.{nat_cmp};
 ghost use Rattle.law_register.specs.Answer.Breakpoints as spec;
 
 use bearing_mods::{EfficacyEffect, ForceEffect};
 use desk_base::{Day, Memory, Period};
 use law_register::{Days, Known, KnownMod, Modification};
 use std::alloc::Global;
+use std::collections::BTreeSet;
 
-// The index of the first that is after the new one, or the length where there is none. `None`: the new one stands there already.
-fn place_of(days: &[Day], new: Day) -> Option<usize>
-    ensures there { IfNone result (spec.insert_day new days.now ≡ days.now) }
-    ensures within { IfSome result (λ place. place ≤ length days.now) }
-    ensures place { IfSome result (λ place. spec.insert_day new days.now ≡ take place days.now ++ new ∷ drop place days.now) }
+fn insert(days: &mut BTreeSet<Day>, new: Day) -> Result<(), Memory>
+    ensures { OnOk result (days.new.keys ≡ insert_key nat_cmp days.old.keys new) }
 {
-    for (index, day) in days.iter().enumerate() {
-        if new < *day {
-            return Some(index);
-        }
-        if new == *day {
-            return None;
-        }
-    }
-    Some(days.len())
+    days.insert(new)?;
+    Ok(())
 }
 
-// Puts a day in its place among others that ascend, once.
-fn insert(days: &mut Vec<Day>, new: Day) -> Result<(), Memory>
-    ensures { OnOk result (days.new.items ≡ spec.insert_day new days.old.items) }
-{
-    match place_of(days.as_slice(), new) {
-        Some(place) => {
-            days.insert(place, new)?;
-            Ok(())
-        }
-        None => Ok(()),
-    }
-}
-
-// Puts the bounds of a period in their places.
-fn insert_period(days: &mut Vec<Day>, period: Period) -> Result<(), Memory>
-    ensures { OnOk result (days.new.items ≡ spec.insert_days (spec.period_days period) days.old.items) }
+fn insert_period(days: &mut BTreeSet<Day>, period: Period) -> Result<(), Memory>
+    ensures { OnOk result (days.new.keys ≡ spec.insert_days (spec.period_days period) days.old.keys) }
 {
     let start = period.start;
     match period.end {
@@ -52,7 +31,6 @@ fn insert_period(days: &mut Vec<Day>, period: Period) -> Result<(), Memory>
     }
 }
 
-// The date of a force effect.
 fn force_date(effect: ForceEffect) -> Day
     ensures { result ≡ spec.force_date effect }
 {
@@ -65,9 +43,8 @@ fn force_date(effect: ForceEffect) -> Day
     }
 }
 
-// Puts the days of an efficacy effect in their places.
-fn insert_efficacy(days: &mut Vec<Day>, effect: EfficacyEffect) -> Result<(), Memory>
-    ensures { OnOk result (days.new.items ≡ spec.insert_days (spec.efficacy_days effect) days.old.items) }
+fn insert_efficacy(days: &mut BTreeSet<Day>, effect: EfficacyEffect) -> Result<(), Memory>
+    ensures { OnOk result (days.new.keys ≡ spec.insert_days (spec.efficacy_days effect) days.old.keys) }
 {
     match effect {
         EfficacyEffect::Entry(day) => insert(days, day),
@@ -80,9 +57,8 @@ fn insert_efficacy(days: &mut Vec<Day>, effect: EfficacyEffect) -> Result<(), Me
     }
 }
 
-// Puts the days of a modification in their places.
-fn insert_body(days: &mut Vec<Day>, body: &Modification) -> Result<(), Memory>
-    ensures { OnOk result (days.new.items ≡ spec.insert_days (spec.days_of body.now) days.old.items) }
+fn insert_body(days: &mut BTreeSet<Day>, body: &Modification) -> Result<(), Memory>
+    ensures { OnOk result (days.new.keys ≡ spec.insert_days (spec.days_of body.now) days.old.keys) }
 {
     match body {
         Modification::Textual { force, .. } => insert_period(days, *force),
@@ -98,8 +74,8 @@ fn insert_body(days: &mut Vec<Day>, body: &Modification) -> Result<(), Memory>
 }
 
 // Puts the days of a known modification in their places, if it stands.
-fn insert_known(days: &mut Vec<Day>, known: &KnownMod) -> Result<(), Memory>
-    ensures { OnOk result (days.new.items ≡ spec.insert_days (if known.now.live then spec.days_of known.now.body else []) days.old.items) }
+fn insert_known(days: &mut BTreeSet<Day>, known: &KnownMod) -> Result<(), Memory>
+    ensures { OnOk result (days.new.keys ≡ spec.insert_days (if known.now.live then spec.days_of known.now.body else []) days.old.keys) }
 {
     if known.live {
         insert_body(days, &known.body)
@@ -108,15 +84,24 @@ fn insert_known(days: &mut Vec<Day>, known: &KnownMod) -> Result<(), Memory>
     }
 }
 
-// The days of the modifications that stand.
-fn live_days(alloc: Global, mods: &[KnownMod]) -> Result<Vec<Day>, Memory>
-    ensures { IfOk result (λ days. days.items ≡ spec.live_days mods.now) }
+fn live_days(alloc: Global, mods: &[KnownMod]) -> Result<BTreeSet<Day>, Memory>
+    ensures { IfOk result (λ days. days.keys ≡ spec.live_days mods.now) }
 {
-    let mut days = Vec::new(alloc);
+    let mut days = BTreeSet::new(alloc);
     for index in (0..mods.len()).rev() {
         insert_known(&mut days, &mods[index])?;
     }
     Ok(days)
+}
+
+fn listed(alloc: Global, days: &BTreeSet<Day>) -> Result<Days, Memory>
+    ensures { IfOk result (λ list. list ≡ days.now.keys) }
+{
+    let mut items = Vec::new(alloc);
+    for day in days {
+        items.push(*day)?;
+    }
+    Ok(Days::from_vec(items))
 }
 
 /// The days of the act's force period and of the modifications that stand, ascending, each once.
@@ -125,5 +110,5 @@ pub fn breakpoints(alloc: Global, known: &Known) -> Result<Days, Memory>
 {
     let mut days = live_days(alloc, known.mods.as_slice())?;
     insert_period(&mut days, known.act.force)?;
-    Ok(Days::from_vec(days))
+    listed(alloc, &days)
 }

@@ -2,11 +2,10 @@
 
 ghost use Rattle.std.specs.Prelude.{◌≡◌, ℕ, List, IfOk};
 ghost use Rattle.law_register.specs.Answer.Bearing as bearing;
-ghost use Rattle.law_register.specs.Answer.Bearing.{force_of_act};
+ghost use Rattle.law_register.specs.Answer.Bearing.{force_of_act, start_on};
 ghost use Rattle.law_register.specs.Answer.Counted.{forces_on, efficacies_on};
 ghost use Rattle.law_register.specs.Answer.Flags as flags;
 ghost use Rattle.law_register.specs.declared.law.modification.Destination.TheVariants as to;
-ghost use Rattle.replay_core.specs.Dues.{start_on};
 ghost use Rattle.replay_core.specs.Groups.{CountsForce, CountsEfficacy};
 
 use crate::counted::{Groups, efficacies, forces, gather};

@@ -1,16 +1,13 @@
 //! Past: answers at every viewpoint, by what the law entries up to it make known.
 
-ghost use Rattle.std.specs.Prelude.{◌≡◌, ◌+◌, ◌≤◌, length, IfOk, IfSome};
-ghost use Rattle.law_register.specs.Answer.Answers.{Answers, answer_on, asked_day};
+ghost use Rattle.std.specs.Prelude.{◌≡◌, ◌+◌, ◌≤◌, IfOk, IfSome};
+ghost use Rattle.law_register.specs.Answer.Answers.{Answers, answer_on};
 ghost use Rattle.law_register.specs.Answer.Asking.{answer_at, known_for};
-ghost use Rattle.law_register.specs.Answer.Order.{order};
 ghost use Rattle.law_register.specs.Answer.Soundness.{IsSound};
-ghost use Rattle.viewpoints.specs.Costs.{bearing_at};
+ghost use Rattle.viewpoints.specs.Costs.{bearing_at, bearing_by};
 
-use desk_base::{Day, Memory, Steps};
-use law_register::{
-    Act, Answer, AskFault, Known, QueryRule, Question, Register, Replayer, known_at,
-};
+use desk_base::{Memory, Steps};
+use law_register::{Answer, AskFault, Known, QueryRule, Question, Register, Replayer, known_at};
 use std::alloc::Global;
 use std::sync::ledger::Ledger;
 
@@ -36,17 +33,8 @@ fn known_for(
     }
 }
 
-// The day on which a question is answered: that of its version, or without one the act's own.
-fn asked_day(version: Option<Day>, act: &Act) -> Day
-    ensures { result ≡ asked_day version act.now }
-{
-    match version {
-        Some(day) => day,
-        None => act.day,
-    }
-}
-
 // The answer to a question, by what is known of its work.
+#[tactic(auto, unfolding(law_register::specs::Answer::Answers::answer_on))]
 fn answer_known<P: Replayer, L: Ledger>(
     alloc: Global,
     replayer: &P,
@@ -56,11 +44,16 @@ fn answer_known<P: Replayer, L: Ledger>(
 ) -> Result<Answer, AskFault>
     requires { IsSound known.now }
     ensures answer { Answers result (answer_on known.now question.now) }
-    ensures steps { steps.new ≤ steps.old + length (order known.now question.now.reading (asked_day question.now.version known.now.act)) }
+    ensures steps { steps.new ≤ steps.old + bearing_by question.now known.now }
 {
-    let day = asked_day(question.version, &known.act);
-    let version = replayer.replay(alloc, known, question.reading, day, steps)?;
-    replayer.answer_of(alloc, known, version, question)
+    match question.first_rule(known)? {
+        Some(rule) => Err(AskFault::Query(rule)),
+        None => {
+            let day = question.asked_day(&known.act);
+            let version = replayer.replay(alloc, known, question.reading, day, steps)?;
+            replayer.answer_of(alloc, known, version, question)
+        }
+    }
 }
 
 impl Past {
@@ -70,7 +63,7 @@ impl Past {
     }
 
     /// The answer to a question at its viewpoint, or the first rule that it breaks. It takes one step at most for each modification
-    /// that bears.
+    /// that bears, and none where a rule is broken that can be judged without a text.
     #[tactic(auto, unfolding(law_register::specs::Answer::Asking::answer_at, crate::specs::Costs::bearing_at))]
     pub fn answer_past<P: Replayer, L: Ledger>(
         &mut self,

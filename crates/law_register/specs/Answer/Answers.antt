@@ -5,6 +5,7 @@ use Rattle.eid_paths.specs.declared.numbering.Numbering.{Numbering}
 use Rattle.act_tree.specs.Branches.{Branch, Branches, branch, no_branches, more_branches, listed}
 use Rattle.act_tree.specs.Eids.{eid_below}
 use Rattle.act_tree.specs.Provisions.{Provision}
+use Rattle.act_tree.specs.Trees.{TreeValue}
 use Rattle.law_register.specs.Answer.Shown.{Shown}
 use Rattle.law_register.specs.declared.law.act.Act.{Act}
 use Rattle.law_register.specs.declared.answer.answer.Answer.{Answer}
@@ -36,10 +37,13 @@ abbrev mutual
   all_shown known reading day numbering flag above (more_branches b bs) =
       more_branches (shown known reading day numbering flag above b) (all_shown known reading day numbering flag above bs)
 
+-- the whole text of a tree as an answer shows it, below a root of that flag
+abbrev pub shown_tree : Known → Reading → ℕ → Bool → TreeValue → Branches Shown
+shown_tree known reading day flag tree = all_shown known reading day tree.numbering flag None tree.body
+
 -- the whole text of a version as an answer shows it
 abbrev pub shown_text : Known → Reading → ℕ → VersionValue → Branches Shown
-shown_text known reading day version =
-    all_shown known reading day version.tree.numbering (root_flag known reading day) None version.tree.body
+shown_text known reading day version = shown_tree known reading day (root_flag known reading day) version.tree
 
 -- the first of two, or the second where there is no first
 abbrev pub or_else : Option (Branch Shown) → Option (Branch Shown) → Option (Branch Shown)
@@ -104,11 +108,14 @@ abbrev pub unless_broken : Option QueryRule → Result Answer QueryRule → Resu
 unless_broken None answer = answer
 unless_broken (Some rule) answer = Err rule
 
+-- the answer to a question that breaks no rule before its text is looked at, from a version of its work
+abbrev pub answer_of_text : Known → VersionValue → Question → Result Answer QueryRule
+answer_of_text known version q =
+    answer_part known version q (asked_part q.portion (shown_text known q.reading (asked_day q.version known.act) version))
+
 -- the answer to a question from a version of its work, or the first rule that it breaks
 abbrev pub answer_from : Known → VersionValue → Question → Result Answer QueryRule
-answer_from known version q =
-    unless_broken (first_rule known q)
-    (answer_part known version q (asked_part q.portion (shown_text known q.reading (asked_day q.version known.act) version)))
+answer_from known version q = unless_broken (first_rule known q) (answer_of_text known version q)
 
 -- the answer to a question by what is known of its work, replayed on the day that it asks for
 unfoldable pub answer_on : Known → Question → Result Answer QueryRule

@@ -1,5 +1,5 @@
 -- When a thing is in force and has efficacy, and whether it bears on a day.
-use Rattle.std.specs.Prelude.{ℕ, Bool, List, if◌then◌else◌}
+use Rattle.std.specs.Prelude.{ℕ, Bool, List, Option, Some, None, if◌then◌else◌}
 use Rattle.std.specs.Str.{bytes_eq}
 use Rattle.desk_base.specs.declared.period.Period.{Period}
 use Rattle.desk_base.specs.Periods.{includes}
@@ -50,3 +50,10 @@ bears_on reading.Efficacy mods thing force day = (efficacy_on mods thing force d
 -- a provision bears on the day
 abbrev pub node_bears : Known → Reading → ℕ → List ℕ → Bool
 node_bears known reading day wid = bears_on reading known.mods (to.Node wid) (force_of_node known wid day) day
+
+-- the day from which a thing bears that has this period of itself, if it bears on the day
+abbrev pub start_on : Reading → ℕ → List KnownMod → Destination → Period → Option ℕ
+start_on reading day mods thing own =
+    if bears_on reading mods thing (force_on mods thing own day) day
+    then Some (period_on reading mods thing (force_on mods thing own day) day).start
+    else None

@@ -1,5 +1,8 @@
 -- The days on which the text of a work may change.
-use Rattle.std.specs.Prelude.{ℕ, ◌==◌, nat_lt, List, [], ◌∷◌, Option, Some, None, if◌then◌else◌}
+use Rattle.std.specs.Prelude.{ℕ, ◌==◌, ◌||◌, ◌&&◌, Bool, List, [], ◌∷◌, Option, Some, None, if◌then◌else◌}
+use Rattle.std.specs.BTreeSet.{insert_key}
+use Rattle.std.specs.List.{list_any}
+use Rattle.std.specs.Ordering.{nat_cmp}
 use Rattle.desk_base.specs.declared.period.Period.{Period}
 use Rattle.bearing_mods.specs.declared.force.ForceEffect.{ForceEffect}
 use Rattle.bearing_mods.specs.declared.force.ForceEffect.TheVariants as force
@@ -43,16 +46,10 @@ days_of (Textual source force edit) = period_days force
 days_of (Force source destination on effect) = on ∷ force_date effect ∷ []
 days_of (Efficacy source destination on effect) = on ∷ efficacy_days effect
 
--- a day takes its place in an ascending list, once
-abbrev pub insert_day : ℕ → List ℕ → List ℕ
-insert_day new [] = new ∷ []
-insert_day new (day ∷ days) =
-    if nat_lt new day then new ∷ day ∷ days else (if new == day then day ∷ days else day ∷ insert_day new days)
-
--- these days take their places in an ascending list
+-- these days take their places in an ascending list, each once
 abbrev pub insert_days : List ℕ → List ℕ → List ℕ
 insert_days [] days = days
-insert_days (new ∷ news) days = insert_day new (insert_days news days)
+insert_days (new ∷ news) days = insert_key nat_cmp (insert_days news days) new
 
 -- the days of the modifications that stand
 abbrev pub live_days : List KnownMod → List ℕ
@@ -62,3 +59,11 @@ live_days (m ∷ ms) = insert_days (if m.live then days_of m.body else []) (live
 -- the days of the act's force period and of the modifications that stand, ascending, each once
 abbrev pub breakpoints : Known → List ℕ
 breakpoints known = insert_days (period_days known.act.force) (live_days known.mods)
+
+-- a day is one of these
+abbrev pub has_day : ℕ → List ℕ → Bool
+has_day day days = list_any (λ d. day == d) days
+
+-- a day is named by what is known of a work: by the act's force period, or by a modification that stands
+abbrev pub is_named : Known → ℕ → Bool
+is_named known day = has_day day (period_days known.act.force) || list_any (λ m. m.live && has_day day (days_of m.body)) known.mods

@@ -1,5 +1,6 @@
 -- Replay: an act as enacted, with the modifications that bear applied one after another.
-use Rattle.std.specs.Prelude.{ℕ, List, [], ◌∷◌, ◌++◌, None, Result, Ok, Err}
+use Rattle.std.specs.Prelude.{ℕ, List, [], ◌∷◌, ◌++◌, Option, Some, None, option_and_then, Result, Ok, Err}
+use Rattle.std.specs.List.{find}
 use Rattle.desk_base.specs.declared.id.Id.{Id}
 use Rattle.act_tree.specs.declared.cause.Cause.{Cause}
 use Rattle.act_tree.specs.Branches.{Branches, branches_of}
@@ -7,10 +8,15 @@ use Rattle.act_tree.specs.Provisions.{Provision}
 use Rattle.act_tree.specs.Trees.{TreeValue}
 use Rattle.act_tree.specs.Eids.{all_enacted}
 use Rattle.textual_mods.specs.Edits.{applied, tree_after}
+use Rattle.textual_mods.specs.declared.edit.TextualMod.{TextualMod}
 use Rattle.law_register.specs.declared.law.act.Act.{Act}
+use Rattle.law_register.specs.declared.law.modification.Modification.{Modification}
+use Rattle.law_register.specs.declared.law.modification.Modification.TheVariants.{Textual, Force, Efficacy}
 use Rattle.law_register.specs.declared.register.known.Known.{Known}
+use Rattle.law_register.specs.declared.register.known.KnownMod.{KnownMod}
 use Rattle.law_register.specs.declared.answer.question.Reading.{Reading}
-use Rattle.law_register.specs.Answer.Order.{Due, due_on}
+use Rattle.law_register.specs.Answer.Counted.{is_same_id}
+use Rattle.law_register.specs.Answer.Order.{order}
 
 -- a version: the text, the ids of the modifications that were applied, and the ids of the others, each with its cause
 pub record VersionValue : Type 0 where
@@ -39,11 +45,26 @@ taken version id (Err cause) = record {
   unapplied = version.unapplied ++ (id, cause) ∷ [];
 }
 
--- the modifications are applied in order, each to the text so far
-abbrev pub replayed : VersionValue → List Due → VersionValue
-replayed version [] = version
-replayed version (due ∷ dues) = replayed (taken version due.id (applied version.tree due.id due.edit)) dues
+-- the edit of a textual modification
+abbrev pub edit_in : Modification → Option TextualMod
+edit_in (Textual source own edit) = Some edit
+edit_in (Force source destination on effect) = None
+edit_in (Efficacy source destination on effect) = None
+
+-- the edit of the known modification of this id, if it is a textual one
+abbrev pub edit_of : List KnownMod → Id → Option TextualMod
+edit_of mods id = option_and_then (λ m. edit_in m.body) (find (λ m. is_same_id m.id id) mods)
+
+-- a version with the edit of a modification tried on its text, if there is one
+abbrev pub edited_by : VersionValue → Id → Option TextualMod → VersionValue
+edited_by version id None = version
+edited_by version id (Some edit) = taken version id (applied version.tree id edit)
+
+-- the modifications of these ids are applied in order, each to the text so far
+abbrev pub replayed : List KnownMod → VersionValue → List Id → VersionValue
+replayed mods version [] = version
+replayed mods version (id ∷ ids) = replayed mods (edited_by version id (edit_of mods id)) ids
 
 -- the version of a work on a day, in a reading: always from the act as enacted
 abbrev pub replay_on : Known → Reading → ℕ → VersionValue
-replay_on known reading day = replayed (as_enacted known.act) (due_on known reading day)
+replay_on known reading day = replayed known.mods (as_enacted known.act) (order known reading day)

@@ -1,6 +1,6 @@
 //! Lists of ids: what was applied, and what was not, with its cause.
 
-ghost use Rattle.std.specs.Prelude.{◌≡◌, [], ◌++◌, ◌∷◌, OnOk, OnErr};
+ghost use Rattle.std.specs.Prelude.{◌≡◌, [], ◌++◌, ◌∷◌, IfOk, OnOk, OnErr};
 
 use act_tree::Cause;
 use desk_base::{Id, Memory};
@@ -39,6 +39,15 @@ impl Ids {
     {
         self.items.push(id)?;
         Ok(())
+    }
+
+    /// The same ids.
+    pub fn copy(&self) -> Result<Ids, Memory>
+        ensures { IfOk result (λ ids. ids ≡ self.now) }
+    {
+        Ok(Ids {
+            items: self.items.clone()?,
+        })
     }
 
     /// The ids as a slice.
@@ -82,6 +91,15 @@ impl Unapplied {
     {
         self.items.push((id, cause))?;
         Ok(())
+    }
+
+    /// The same modifications, with their causes.
+    pub fn copy(&self) -> Result<Unapplied, Memory>
+        ensures { IfOk result (λ unapplied. unapplied ≡ self.now) }
+    {
+        Ok(Unapplied {
+            items: self.items.clone()?,
+        })
     }
 
     /// The modifications as a slice.

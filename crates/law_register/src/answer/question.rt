@@ -1,8 +1,10 @@
 //! A question: which text of which act is asked for.
 
 ghost use Rattle.std.specs.Prelude.{◌≡◌};
+ghost use Rattle.law_register.specs.Answer.Answers as answers;
 ghost use Rattle.law_register.specs.Answer.Questions.{reading_name, reading_named};
 
+use crate::{Act, Known, QueryRule};
 use desk_base::{Day, Memory, Text};
 use frbr_names::WorkName;
 
@@ -37,6 +39,16 @@ impl Reading {
         } else {
             None
         }
+    }
+}
+
+// Whether the day of a version is before that of the act.
+fn is_too_early(version: Option<Day>, act: &Act) -> bool
+    ensures { result ≡ answers.is_too_early version act.now }
+{
+    match version {
+        Some(day) => day < act.day,
+        None => false,
     }
 }
 
@@ -76,5 +88,35 @@ impl Question {
             viewpoint: self.viewpoint,
             reading: self.reading,
         })
+    }
+
+    /// The day on which it is answered: that of its version, or without one the act's own.
+    pub fn asked_day(&self, act: &Act) -> Day
+        ensures { result ≡ answers.asked_day self.now.version act.now }
+    {
+        match self.version {
+            Some(day) => day,
+            None => act.day,
+        }
+    }
+
+    /// The first rule that it breaks before any text is looked at, by what is known of its work: any but that of the portion.
+    pub fn first_rule(&self, known: &Known) -> Result<Option<QueryRule>, Memory>
+        ensures { IfOk result (λ rule. rule ≡ answers.first_rule known.now self.now) }
+    {
+        if self.viewpoint < known.enacted {
+            let work = self.work.copy()?;
+            return Ok(Some(QueryRule::UnknownWork(work)));
+        }
+        if known.front < self.viewpoint {
+            return Ok(Some(QueryRule::ViewpointAhead(known.front)));
+        }
+        if is_too_early(self.version, &known.act) {
+            return Ok(Some(QueryRule::NotYetEnacted(known.act.day)));
+        }
+        if self.language != known.act.language {
+            return Ok(Some(QueryRule::OtherLanguage(known.act.language)));
+        }
+        Ok(None)
     }
 }

@@ -4,4 +4,4 @@ use Rattle.law_register.specs.Answer.Breakpoints.{live_days}
 use Rattle.replay_core.proofs.breakpoints.live_days.Given as goal
 
 abbrev pub invariant-loop-index : goal.invariant-loop-index
-invariant-loop-index l = l.days.items ≡ live_days (drop l.index l.mods)
+invariant-loop-index l = l.days.keys ≡ live_days (drop l.index l.mods)
