@@ -12,9 +12,9 @@ ghost use Rattle.law_register.specs.Register.Listing.{enacted_within, id_told, i
 ghost use Rattle.law_register.specs.Register.LawList.{laws};
 ghost use Rattle.law_register.specs.Register.Registers.{IsKept};
 
+use crate::register::contents;
 use crate::register::indexes::{BodyMark, EnactedMark, IdMark, Indexes, KnownIds, StepMark};
 use crate::register::marks::{last_on, note_ids};
-use crate::register::contents;
 use crate::{Entry, Known, KnownMod, KnownMods, Register};
 use desk_base::{Id, Memory};
 use frbr_names::WorkName;

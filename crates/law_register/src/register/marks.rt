@@ -11,12 +11,12 @@ ghost use Rattle.law_register.specs.Register.Indexes.{is_request, recorded_from,
 ghost use Rattle.law_register.specs.Register.Drafts.{additions};
 
 use crate::law::sizes::entry_size;
+use crate::register::contents;
 use crate::register::indexes::{
     BodyMark, BodyMarks, DrafterKey, DrafterMark, Drafters, EnactedMark, IdMark, Indexes, ItemMark,
     ItemMarks, KnownIds, RequestKey, RequestMark, Requests, StepMark, WorkKey, WorkMark, Works,
     drafter_key, work_key,
 };
-use crate::register::contents;
 use crate::{Command, Drafter, Entry, Modification, Reply};
 use arrayvec::ArrayVec;
 use desk_base::Id;

@@ -4,8 +4,8 @@ ghost use Rattle.std.specs.Prelude.{◌≡◌, ◌+◌, ◌<◌, ◌≤◌, ◌�
 ghost use Rattle.law_register.specs.Register.LawList.{front};
 ghost use Rattle.law_register.specs.Register.Verdicts as verdicts;
 
-use crate::register::indexes::Indexes;
 use crate::register::contents;
+use crate::register::indexes::Indexes;
 use crate::{Command, Draft, Drafter, Entry, Kind, Modification, Reply};
 use desk_base::{Id, Memory};
 use frbr_names::WorkName;
