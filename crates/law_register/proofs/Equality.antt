@@ -1,5 +1,5 @@
 -- `==` holds of acts, modifications and commands exactly where they are equal.
-use Rattle.std.proofs.Common.{◌≡◌, ℕ, true, List, ap, subst, rules}
+use Rattle.std.proofs.Common.{◌≡◌, true, List, ap, subst, rules}
 use Rattle.std.specs.Bool.{Decides}
 use Rattle.std.specs.Cmp.{unsigned_Decides}
 use Rattle.std.specs.Cmp.Lexicographic.{pointwise, pointwise_decides, bytes_decides}
@@ -79,8 +79,16 @@ acts_decide a b =
       force = h.1.1.1.1.0 i;
       body = h.1.1.1.1.1 i;
     })
-    (λ e. (ap (λ (x : Act). x.work) e, (ap (λ (x : Act). x.language) e, (ap (λ (x : Act). x.day) e,
-    (ap (λ (x : Act). x.numbering) e, (ap (λ (x : Act). x.force) e, ap (λ (x : Act). x.body) e))))))
+    (λ e. (
+      ap (λ (x : Act). x.work) e,
+      (
+        ap (λ (x : Act). x.language) e,
+        (
+          ap (λ (x : Act). x.day) e,
+          (ap (λ (x : Act). x.numbering) e, (ap (λ (x : Act). x.force) e, ap (λ (x : Act). x.body) e)),
+        ),
+      ),
+    ))
     (Decides-and _ _ (bytes_decides a.work b.work) (Decides-and _ _ (bytes_decides a.language b.language)
     (Decides-and _ _ (unsigned_Decides a.day b.day) (Decides-and _ _ (numberings_decide a.numbering b.numbering)
     (Decides-and _ _ (periods_decide a.force b.force) (nodes_decide a.body b.body))))))

@@ -31,8 +31,8 @@ impl Modification {
     {
         match self {
             Modification::Textual { edit, .. } => edit.fits(),
-            Modification::Force { destination, .. }
-            | Modification::Efficacy { destination, .. } => destination.fits(),
+            Modification::Force { destination, .. } | Modification::Efficacy { destination, .. } =>
+                destination.fits(),
         }
     }
 
