@@ -1,5 +1,5 @@
 -- Nodes side by side that are not as many are not the same.
-use Rattle.std.proofs.Common.{◌≡◌, suc, Bool, true, false, List, [], ◌∷◌, length, map, refl, ap, ◌∙◌, sym}
+use Rattle.std.proofs.Common.{◌≡◌, suc, Bool, true, false, List, [], ◌∷◌, length, refl, ap, ◌∙◌, sym}
 use Rattle.act_tree.specs.Branches.{Branch}
 use Rattle.act_tree.specs.Provisions.{Own}
 use Rattle.act_tree.specs.SameNodes.{same_nodes, nodes_decide}

@@ -75,8 +75,16 @@ own_decides : (a b : Own) → Decides (same_own a b) (a ≡ b)
 own_decides a b =
     Decides-like (same_own a b)
     (λ h i. record { element = h.0 i; num = h.1.0 i; heading = h.1.1.0 i; content = h.1.1.1.0 i; refs = h.1.1.1.1 i })
-    (λ e. (ap (λ (o : Own). o.element) e, (ap (λ (o : Own). o.num) e, (ap (λ (o : Own). o.heading) e,
-    (ap (λ (o : Own). o.content) e, ap (λ (o : Own). o.refs) e)))))
+    (λ e. (
+      ap (λ (o : Own). o.element) e,
+      (
+        ap (λ (o : Own). o.num) e,
+        (
+          ap (λ (o : Own). o.heading) e,
+          (ap (λ (o : Own). o.content) e, ap (λ (o : Own). o.refs) e),
+        ),
+      ),
+    ))
     (Decides-and _ _ (elements_decide a.element b.element)
     (Decides-and _ _ (bytes_eq-Decides a.num b.num)
     (Decides-and _ _ (bytes_eq-Decides a.heading b.heading)

@@ -1,5 +1,5 @@
 -- `==` holds of acts, modifications and commands exactly where they are equal.
-use Rattle.std.proofs.Common.{◌≡◌, ℕ, true, List, ap, subst, rules}
+use Rattle.std.proofs.Common.{◌≡◌, true, List, ap, subst, rules}
 use Rattle.std.specs.Bool.{Decides}
 use Rattle.std.specs.Cmp.{unsigned_Decides}
 use Rattle.std.specs.Cmp.Lexicographic.{pointwise, pointwise_decides, bytes_decides}
