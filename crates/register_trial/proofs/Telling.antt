@@ -21,16 +21,25 @@ grows n m h = grind (arith, nat_tests)
 stays : (n : ℕ) → nat_lt n n ≡ false
 stays n = grind (arith, nat_tests)
 
+-- the entries and the reply of what was made
+abbrev entries_in : List Entry → Result (List Entry × Reply) Rule → List Entry
+entries_in es (Ok made) = made.0
+entries_in es (Err rule) = es
+
+abbrev reply_in : Reply → Result (List Entry × Reply) Rule → Reply
+reply_in other (Ok made) = made.1
+reply_in other (Err rule) = other
+
 reply_by : (es new : List Entry) (d : List ℕ) (r day : ℕ) (c : Command) (v : Verdict) (reply : Reply) → entered_by es d r day c v ≡ Ok (new, reply)
     → reply_line (nat_lt (length es) (length new)) reply ≡ verdict_line v
 reply_by es new d r day c (Accepted law first) reply h =
-    let made : es ++ entry_of d r day law c ∷ [] ≡ new = cc in
-    let same : first ≡ reply = cc in
+    let made : es ++ entry_of d r day law c ∷ [] ≡ new = ap (entries_in es) h in
+    let same : first ≡ reply = ap (reply_in reply) h in
     let more : length new ≡ length es + 1 = sym (ap length made) ∙ length-append es (entry_of d r day law c ∷ []) in
     ap (λ b. reply_line b reply) (grows (length es) (length new) more) ∙ ap (reply_line true) (sym same)
 reply_by es new d r day c (Repeat first) reply h =
-    let made : es ≡ new = cc in
-    let same : first ≡ reply = cc in
+    let made : es ≡ new = ap (entries_in es) h in
+    let same : first ≡ reply = ap (reply_in reply) h in
     ap (λ n. reply_line (nat_lt (length es) n) reply) (sym (ap length made)) ∙ ap (λ b. reply_line b reply) (stays (length es)) ∙ ap (reply_line false) (sym same)
 reply_by es new d r day c (Refused rule) reply h = cc
 
