@@ -18,8 +18,8 @@ use desk_base::{Memory, Steps, Text};
 use std::alloc::Global;
 use std::sync::ledger::Ledger;
 
-// The most bytes that a content has.
-const MOST_BYTES: usize = 16_384;
+/// The most bytes that a content has.
+pub(crate) const MOST_BYTES: usize = 16_384;
 
 /// Puts a text in the place of an occurrence in the content of the target.
 pub fn substitute_text<L: Ledger>(
