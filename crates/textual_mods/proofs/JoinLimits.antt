@@ -1,27 +1,22 @@
 -- Of a text that keeps the limits only the levels of both parts' children, and the new content, can be held against a join.
-use Rattle.std.proofs.Common.{◌≡◌, ◌∙◌, sym, ap, refl, subst, ℕ, ◌+◌, ◌<◌, ◌≤◌, Bool, true, false, cond, ◌||◌, max, List, [], ◌∷◌, ◌++◌, length, nat_lt, Option, Some, None, inl, inr, arith}
-use Rattle.std.specs.Prelude.{option_map, Ok, Err}
+use Rattle.std.proofs.Common.{◌≡◌, ◌∙◌, sym, ap, refl, subst, ℕ, ◌+◌, ◌≤◌, Bool, true, false, cond, ◌||◌, max, List, [], ◌∷◌, ◌++◌, length, nat_lt, Some, None, inl, inr, arith}
 use Rattle.std.specs.Str.{bytes_eq}
-use Rattle.std.proofs.lemmas.Bool.{cases_Bool, cond_both, lt-ltb, le-ltb}
+use Rattle.std.proofs.lemmas.Bool.{cases_Bool, cond_both, le-ltb}
 use Rattle.eid_paths.specs.declared.numbering.Numbering.{Numbering}
-use Rattle.act_tree.specs.declared.build_fault.BuildFault.TheVariants.{EidTwice, TextTooLong}
-use Rattle.act_tree.specs.declared.cause.Cause.TheVariants as causes
 use Rattle.act_tree.specs.Branches.{Branch, Branches, branch, no_branches, more_branches, height, heights, count, counts}
 use Rattle.act_tree.specs.Changes.{has_wid, any_holds, inside_changed, changed, joined, merged, found, next_of, or_else}
 use Rattle.act_tree.specs.EidLevels.{begins, own_level, beginning, all_beginning, going_on, all_going_on, alike_inside, alike_beneath, levels_on}
-use Rattle.act_tree.specs.Faults.{owns, all_owns, all_eids, is_long, has_long, have_long, first_fault, first_cause, fault_cause}
+use Rattle.act_tree.specs.Faults.{owns, all_owns, is_long, has_long, have_long, first_fault}
 use Rattle.act_tree.specs.Numbered.{are_numbered}
 use Rattle.act_tree.specs.Provisions.{Provision}
-use Rattle.act_tree.specs.Trees.{TreeValue}
 use Rattle.act_tree.specs.Wids.{all_wids, is_among, one_twice}
 use Rattle.act_tree.proofs.Frames.{none_left, none_right, neither}
 use Rattle.act_tree.proofs.LevelsDiffer.{levels_decide}
 use Rattle.act_tree.proofs.Nums.{changed_kept, merged_keeps}
 use Rattle.act_tree.proofs.Texts.{same_text, equal_text}
-use Rattle.textual_mods.specs.Edits.{unless_for, within_limits}
 use Rattle.textual_mods.proofs.JoinChange.{IsFirst, is_first, head_at, only_first}
-use Rattle.textual_mods.proofs.Limits.{IsPlaced, is_placed, is_short, faultless, fault_by}
-use Rattle.textual_mods.proofs.OnePlace.{first_of, beneath_it, behind_it, found_past, AreDistinct, are_distinct, not_inside, not_changed, elsewhere, at_place}
+use Rattle.textual_mods.proofs.Limits.{IsPlaced, is_placed, is_short, fault_by}
+use Rattle.textual_mods.proofs.OnePlace.{first_of, beneath_it, behind_it, found_past, AreDistinct, are_distinct, not_changed, elsewhere, at_place}
 use Rattle.textual_mods.proofs.Readers.{next_past, next_none}
 
 abbrev one_if : Bool → ℕ

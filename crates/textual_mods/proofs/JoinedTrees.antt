@@ -1,8 +1,7 @@
 -- A join of two nodes of a tree is held back by its levels first, and then by its content.
-use Rattle.std.proofs.Common.{◌≡◌, ◌∙◌, sym, ap, nat_lt, ℕ, ◌<◌, ◌≤◌, Bool, true, false, List, length, Option, Some, None}
+use Rattle.std.proofs.Common.{◌≡◌, ◌∙◌, sym, ap, nat_lt, ℕ, ◌<◌, ◌≤◌, Bool, true, false, List, length, Some, None}
 use Rattle.std.specs.Prelude.{option_map, Ok, Err}
 use Rattle.std.proofs.lemmas.Bool.{lt-ltb, le-ltb}
-use Rattle.act_tree.specs.declared.cause.Cause.{Cause}
 use Rattle.act_tree.specs.declared.cause.Cause.TheVariants.{NumberTaken, TextTooLong}
 use Rattle.act_tree.specs.declared.tree.Tree.{Tree}
 use Rattle.act_tree.specs.Branches.{Branches, branch}
@@ -10,7 +9,7 @@ use Rattle.act_tree.specs.Changes.{changed, joined, merged, next_of}
 use Rattle.act_tree.specs.EidLevels.{levels_on}
 use Rattle.act_tree.specs.Faults.{first_cause, fault_cause}
 use Rattle.act_tree.specs.Provisions.{Provision}
-use Rattle.act_tree.specs.Seen.{tree_view, has_node, provision_at, branch_at, below_at}
+use Rattle.act_tree.specs.Seen.{tree_view, has_node, provision_at, below_at}
 use Rattle.act_tree.specs.Wids.{one_twice}
 use Rattle.act_tree.proofs.FoundNodes.{found_at, nums_kept}
 use Rattle.act_tree.proofs.Walking.{branch_is}
