@@ -1,8 +1,6 @@
 -- Levels of nodes side by side, noted one after another.
-use Rattle.std.proofs.Common.{◌≡◌, ◌∙◌, sym, ap, refl, subst, ℕ, ◌+◌, ◌<◌, Bool, true, false, not, ◌||◌, cond, List, [], ◌∷◌, ◌++◌, length, map, drop, get_or, Option, None, inl, inr}
-use Rattle.std.specs.List.{All, list_any}
-use Rattle.std.specs.Str.{bytes_eq}
-use Rattle.std.proofs.lemmas.Bool.{cases_Bool}
+use Rattle.std.proofs.Common.{◌≡◌, ◌∙◌, sym, ap, refl, ℕ, ◌+◌, ◌<◌, Bool, true, false, not, ◌||◌, cond, List, [], ◌∷◌, ◌++◌, length, map, drop, get_or}
+use Rattle.std.specs.List.{All}
 use Rattle.std.proofs.lemmas.List.{drop_more, append-nil}
 use Rattle.std.proofs.lemmas.List.Elements.{All-append}
 use Rattle.eid_paths.specs.declared.numbering.Numbering.{Numbering}
@@ -10,16 +8,16 @@ use Rattle.eid_paths.specs.Elements.{is_throughout}
 use Rattle.eid_paths.specs.Levels.{level_text}
 use Rattle.act_tree.specs.declared.tree.Tree.{Tree}
 use Rattle.act_tree.specs.Arena.{below_in}
-use Rattle.act_tree.specs.Branches.{Branch, Branches, branch, no_branches, more_branches, branches_of}
+use Rattle.act_tree.specs.Branches.{Branch, more_branches, branches_of}
 use Rattle.act_tree.specs.Changes.{joined}
 use Rattle.act_tree.specs.EidLevels.{going_on, levels_on}
 use Rattle.act_tree.specs.Faults.{owns}
 use Rattle.act_tree.specs.Provisions.{Provision}
 use Rattle.act_tree.specs.Seen.{tree_view, has_node, provision_at, children_at, branch_at, below_at}
 use Rattle.act_tree.specs.Slots.{at, number, size}
-use Rattle.act_tree.specs.Surveys.{with_eid, gathered, repeats}
+use Rattle.act_tree.specs.Surveys.{gathered, repeats}
 use Rattle.act_tree.specs.Wids.{is_among, one_twice}
-use Rattle.act_tree.proofs.FirstFaults.{repeats-append, repeats-is, untouched, touches}
+use Rattle.act_tree.proofs.FirstFaults.{repeats-append, repeats-is, untouched}
 use Rattle.act_tree.proofs.TreeNodes.{children_climb, children_branches}
 use Rattle.act_tree.proofs.Walking.{branch_is}
 

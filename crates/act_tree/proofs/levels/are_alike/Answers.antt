@@ -1,4 +1,4 @@
-use Rattle.std.proofs.Common.{rules, ◌≡◌, ◌∙◌, sym, ap, ℕ, ◌+◌, ◌<◌, true, false, List, [], ◌∷◌, ◌++◌, length, map, drop}
+use Rattle.std.proofs.Common.{rules, ◌∙◌, sym, ap, ℕ, ◌+◌, ◌<◌, List, [], ◌∷◌, ◌++◌, length, map, drop}
 use Rattle.std.proofs.lemmas.List.{drop_all}
 use Rattle.act_tree.specs.Branches.{branches_of}
 use Rattle.act_tree.specs.EidLevels.{levels_on}

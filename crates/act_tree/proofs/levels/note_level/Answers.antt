@@ -1,4 +1,4 @@
-use Rattle.std.proofs.Common.{◌≡◌, ◌∙◌, sym, ap, ℕ, true, false, List, [], ◌∷◌}
+use Rattle.std.proofs.Common.{◌≡◌, ◌∙◌, sym, ap, true, false, [], ◌∷◌}
 use Rattle.eid_paths.specs.Elements.{is_throughout}
 use Rattle.eid_paths.specs.Levels.{level_text}
 use Rattle.act_tree.specs.Seen.{tree_view, provision_at}
