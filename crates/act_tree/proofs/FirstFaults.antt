@@ -10,7 +10,7 @@ use Rattle.act_tree.specs.Branches.{Branch, Branches, branch, no_branches, more_
 use Rattle.act_tree.specs.Provisions.{Own}
 use Rattle.act_tree.specs.Eids.{eid_below, enacted, all_enacted}
 use Rattle.act_tree.specs.Faults.{eids, all_eids, is_long, has_long, have_long, first_fault}
-use Rattle.act_tree.specs.Surveys.{Surveyed, most, next_to, nothing, with_eid, noted, surveyed, all_surveyed, fault_in}
+use Rattle.act_tree.specs.Surveys.{Surveyed, most, next_to, nothing, with_eid, gathered, repeats, noted, surveyed, all_surveyed, fault_in}
 use Rattle.act_tree.specs.Wids.{wids, all_wids, is_among, one_twice}
 use Rattle.act_tree.proofs.Texts.{bytes_eq_sym}
 
@@ -28,27 +28,17 @@ or_swap false true true d = refl
 or_swap false true false d = refl
 or_swap false false c d = refl
 
--- the eIds after more of them
-abbrev gathered : List (List ℕ) → List (List ℕ) → List (List ℕ)
-gathered seen [] = seen
-gathered seen (x ∷ xs) = gathered (with_eid seen x) xs
-
--- one of these eIds was there before, or stands among them twice
-abbrev repeats : List (List ℕ) → List (List ℕ) → Bool
-repeats seen [] = false
-repeats seen (x ∷ xs) = is_among x seen || repeats (with_eid seen x) xs
-
 gathered-append : (seen xs ys : List (List ℕ)) → gathered seen (xs ++ ys) ≡ gathered (gathered seen xs) ys
 gathered-append seen [] ys = refl
 gathered-append seen (x ∷ xs) ys = gathered-append (with_eid seen x) xs ys
 
-repeats-append : (seen xs ys : List (List ℕ)) → repeats seen (xs ++ ys) ≡ (repeats seen xs || repeats (gathered seen xs) ys)
+pub repeats-append : (seen xs ys : List (List ℕ)) → repeats seen (xs ++ ys) ≡ (repeats seen xs || repeats (gathered seen xs) ys)
 repeats-append seen [] ys = refl
 repeats-append seen (x ∷ xs) ys =
     ap (λ b. is_among x seen || b) (repeats-append (with_eid seen x) xs ys) ∙ sym (or_assoc (is_among x seen) (repeats (with_eid seen x) xs) (repeats (gathered (with_eid seen x) xs) ys))
 
 -- one of these is among those
-abbrev touches : List (List ℕ) → List (List ℕ) → Bool
+abbrev pub touches : List (List ℕ) → List (List ℕ) → Bool
 touches seen xs = list_any (λ x. is_among x seen) xs
 
 touches-more : (seen : List (List ℕ)) (x : List ℕ) (xs : List (List ℕ)) → touches (seen ++ x ∷ []) xs ≡ (touches seen xs || is_among x xs)
@@ -58,7 +48,7 @@ touches-more seen x (y ∷ ys) =
     ∙ ap (λ b. (is_among y seen || bytes_eq x y) || b) (touches-more seen x ys)
     ∙ or_swap (is_among y seen) (bytes_eq x y) (touches seen ys) (is_among x ys)
 
-repeats-is : (seen xs : List (List ℕ)) → repeats seen xs ≡ (touches seen xs || one_twice xs)
+pub repeats-is : (seen xs : List (List ℕ)) → repeats seen xs ≡ (touches seen xs || one_twice xs)
 repeats-is seen [] = refl
 repeats-is seen (x ∷ xs) =
     elim (cases_Bool (is_among x seen)) [
@@ -73,7 +63,7 @@ repeats-is seen (x ∷ xs) =
           ∙ sym (ap (λ b. (b || touches seen xs) || (is_among x xs || one_twice xs)) new)
     ]
 
-untouched : (xs : List (List ℕ)) → touches [] xs ≡ false
+pub untouched : (xs : List (List ℕ)) → touches [] xs ≡ false
 untouched [] = refl
 untouched (x ∷ xs) = untouched xs
 

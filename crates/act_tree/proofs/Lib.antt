@@ -50,5 +50,7 @@ pub mod EidsDiffer
 pub mod Ways
 pub mod LevelsDiffer
 pub mod EidsOfTree
+pub mod FoundNodes
+pub mod LevelsNoted
 pub mod Copying
 pub mod NotAsMany

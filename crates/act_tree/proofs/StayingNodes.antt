@@ -24,7 +24,7 @@ abbrev pub LeadsStill : Arena → Arena → Type 0
 LeadsStill old new = (k : ℕ) → climbs (size old) (at old) k ≡ true → number new (provision_in (at old k)).wid ≡ Some k
 
 module _ (old : Arena) (whole : IsWhole (at old) (number old) (size old)) where
-  leads_node : (k : ℕ) → climbs (size old) (at old) k ≡ true → number old (provision_in (at old k)).wid ≡ Some k
+  pub leads_node : (k : ℕ) → climbs (size old) (at old) k ≡ true → number old (provision_in (at old k)).wid ≡ Some k
   leads_node k node =
       let seat : Seated (at old) (number old) (branch_from (size old) (at old) 0) k = node_seated (at old) (number old) (size old) whole k node in
       leads_there (at old) (number old) seat.it (above_in (at old k)) k seat.stands

@@ -5,7 +5,7 @@ use Rattle.eid_paths.specs.Elements.{is_throughout}
 use Rattle.eid_paths.specs.Levels.{level_text}
 use Rattle.act_tree.specs.Branches.{Branch, Branches, branch, no_branches, more_branches}
 use Rattle.act_tree.specs.Faults.{all_owns}
-use Rattle.act_tree.specs.Provisions.{Own}
+use Rattle.act_tree.specs.Provisions.{Own, Provision}
 use Rattle.act_tree.specs.Trees.{TreeValue}
 use Rattle.act_tree.specs.Wids.{one_twice}
 
@@ -35,6 +35,10 @@ going_on numbering top (branch own below) = if begins numbering top own then [] 
 abbrev pub all_going_on : Numbering → Bool → Branches Own → List (List ℕ)
 all_going_on numbering top no_branches = []
 all_going_on numbering top (more_branches b bs) = going_on numbering top b ++ all_going_on numbering top bs
+
+-- the levels that begin no eId, of provisions that stand below another and not right below the root
+abbrev pub levels_on : Numbering → Branches Provision → List (List ℕ)
+levels_on numbering bs = all_going_on numbering false (all_owns bs)
 
 -- somewhere two siblings that begin no eId have one level
 abbrev mutual

@@ -39,6 +39,16 @@ seen s = record { eids = s.eids.keys; twice = s.twice; count = s.count; deepest 
 abbrev pub with_eid : List (List ℕ) → List ℕ → List (List ℕ)
 with_eid eids eid = if is_among eid eids then eids else eids ++ eid ∷ []
 
+-- the texts after more of them
+abbrev pub gathered : List (List ℕ) → List (List ℕ) → List (List ℕ)
+gathered seen [] = seen
+gathered seen (x ∷ xs) = gathered (with_eid seen x) xs
+
+-- one of these texts was there before, or stands among them twice
+abbrev pub repeats : List (List ℕ) → List (List ℕ) → Bool
+repeats seen [] = false
+repeats seen (x ∷ xs) = is_among x seen || repeats (with_eid seen x) xs
+
 -- after a provision of this eId at this depth
 abbrev pub noted : Surveyed → List ℕ → Bool → ℕ → Surveyed
 noted s eid long depth =

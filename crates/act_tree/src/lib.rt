@@ -9,6 +9,7 @@ mod eids;
 mod grafting;
 pub mod laws;
 mod laying;
+mod levels;
 mod limits;
 mod moving;
 mod node_id;

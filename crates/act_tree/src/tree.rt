@@ -10,6 +10,7 @@ use crate::arena::{Arena, Slot};
 use crate::eids::eid_of_number;
 use crate::grafting::{bringer, place_in};
 use crate::laying::{lay, root_slot};
+use crate::levels::are_alike;
 use crate::survey::Survey;
 use crate::surveying::fault_of;
 use crate::walks::{count, find_eid, survey};
@@ -95,9 +96,10 @@ impl Tree {
     ghost use Rattle.act_tree.specs.Faults.{first_fault, first_cause, all_owns, FailsBy};
     ghost use Rattle.act_tree.specs.Slots.{provision_of};
     ghost use Rattle.act_tree.specs.Brought.{brought, has_brought, second_part};
-    ghost use Rattle.act_tree.specs.Changes.{after, before, changed, grafted, is_in, merged, next_of, parted, removed, renumbered, substituted, with_content};
+    ghost use Rattle.act_tree.specs.Changes.{after, before, changed, grafted, is_in, joined, merged, next_of, parted, removed, renumbered, substituted, with_content};
     ghost use Rattle.act_tree.specs.declared.surveying.TheConstants.{NONE_THROUGHOUT};
     ghost use Rattle.act_tree.specs.Eids.{all_enacted};
+    ghost use Rattle.act_tree.specs.EidLevels.{levels_on};
     ghost use Rattle.act_tree.specs.EidsOfNodes.{IsNodeOf};
     ghost use Rattle.act_tree.specs.EidsOfWids.{eid_of_wid, has_eid, level_of_own};
     ghost use Rattle.act_tree.specs.Trees.{one_more, changed_once};
@@ -321,6 +323,18 @@ impl Tree {
         ensures { result ≡ min (counts (tree_view self.now).body) (2 ^ 32 - 1) }
     {
         count(self, self.children(self.root()))
+    }
+
+    /// Whether two of the children of both nodes, of which neither is the root, begin no eId and have one level: as children
+    /// of one provision they would have one eId.
+    pub fn children_alike(&self, alloc: Global, one: NodeId, other: NodeId) -> Result<bool, Memory>
+        requires one { has_node self.now one ≡ true }
+        requires other { has_node self.now other ≡ true }
+        ensures { IfOk result (λ alike. alike ≡ one_twice (levels_on (tree_view self.now).numbering (joined (below_at self.now one) (below_at self.now other)))) }
+    {
+        let below = self.arena.below_both(alloc, one, other)?;
+        let alike = are_alike(alloc, self, below.as_slice())?;
+        Ok(alike)
     }
 
     /// The first cause for which the tree is not well-formed: two nodes have one eId, it is deeper than 12 levels, has more

@@ -23,11 +23,11 @@ use Rattle.textual_mods.proofs.Held.{none_joined, IsNamed, named_as, is_held}
 use Rattle.textual_mods.proofs.OneChange.{ReadsSame, IsChange}
 
 -- the first of provisions, and those behind it
-record IsFirst (b : Branch Provision) (bs : Branches Provision) : Type 0 where
+pub record IsFirst (b : Branch Provision) (bs : Branches Provision) : Type 0 where
   pub rest : Branches Provision
   pub is : bs ≡ more_branches b rest
 
-is_first : (b : Branch Provision) (bs : Branches Provision) → head_of bs ≡ Some b → IsFirst b bs
+pub is_first : (b : Branch Provision) (bs : Branches Provision) → head_of bs ≡ Some b → IsFirst b bs
 is_first b no_branches is = absurd cc
 is_first b (more_branches c cs) is = record { rest = cs; is = ap (λ x. more_branches x cs) (let one : c ≡ b = cc in one) }
 
@@ -40,7 +40,7 @@ either_gives : (one other : Option (Branch Provision)) (b : Branch Provision) �
 either_gives None other b is = second_gives refl is
 either_gives (Some c) other b is = first_gives is
 
-head_at : (v : List ℕ) (p : Provision) (below bs : Branches Provision) → bytes_eq p.wid v ≡ true → next_of v (more_branches (branch p below) bs) ≡ head_of bs
+pub head_at : (v : List ℕ) (p : Provision) (below bs : Branches Provision) → bytes_eq p.wid v ≡ true → next_of v (more_branches (branch p below) bs) ≡ head_of bs
 head_at v p below bs it = ap (λ t. cond t (head_of bs) (or_else (next_of v below) (next_of v bs))) it
 
 -- what stands right behind a provision is found at its wId
@@ -65,7 +65,7 @@ next_found v q deep (more_branches (branch p below) bs) once is =
     later p below bs d found_there =
         read_behind (found q.wid) q.wid (found_reads q.wid) (branch p below) bs (not_before p below bs d q.wid (is_held q.wid bs (branch q deep) found_there)) ∙ found_there
 
-only_first : (o other : Option (Branch Provision)) (b : Branch Provision) → other ≡ None → or_else o other ≡ Some b → o ≡ Some b
+pub only_first : (o other : Option (Branch Provision)) (b : Branch Provision) → other ≡ None → or_else o other ≡ Some b → o ≡ Some b
 only_first None other b none is = absurd cc
 only_first (Some c) other b none is = is
 

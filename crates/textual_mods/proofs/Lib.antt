@@ -5,6 +5,8 @@ pub mod EitherOrder
 pub mod Finding
 pub mod Held
 pub mod JoinChange
+pub mod JoinLimits
+pub mod JoinedTrees
 pub mod Keeping
 pub mod Limits
 pub mod Names

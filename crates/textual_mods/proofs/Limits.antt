@@ -22,7 +22,7 @@ pub record IsPlaced (n : Numbering) (bs : Branches Own) : Type 0 where
   pub few : counts bs ≤ 4096
 
 -- the first fault, of the four tests
-abbrev fault_by : Bool → Bool → Bool → Bool → Option BuildFault
+abbrev pub fault_by : Bool → Bool → Bool → Bool → Option BuildFault
 fault_by twice deep many long = cond twice (Some EidTwice) (cond deep (Some TooDeep) (cond many (Some TooManyNodes) (cond long (Some TextTooLong) None)))
 
 tests : (twice deep many long : Bool) → fault_by twice deep many long ≡ None → (twice ≡ false) × (deep ≡ false) × (many ≡ false) × (long ≡ false)

@@ -1,8 +1,9 @@
 //! Join: a provision takes in its next sibling.
 
-ghost use Rattle.std.specs.Prelude.{◌≡◌, ◌==◌, ◌+◌, ◌++◌, true, option_map, IfOk, IfSome, OnOk, OnErr};
+ghost use Rattle.std.specs.Prelude.{◌≡◌, ◌==◌, ◌+◌, ◌++◌, true, None, Some, Ok, option_map, IfOk, IfSome, OnOk, OnErr};
 ghost use Rattle.act_tree.specs.Branches.{branch};
-ghost use Rattle.act_tree.specs.Changes.{next_of};
+ghost use Rattle.act_tree.specs.Changes.{changed, merged, next_of};
+ghost use Rattle.act_tree.specs.Faults.{first_cause};
 ghost use Rattle.act_tree.specs.Seen.{tree_view, has_node, provision_at, below_at};
 ghost use Rattle.eid_paths.specs.Elements.{element_place};
 ghost use Rattle.textual_mods.specs.Edits.{within_limits, tree_after, outcome_of};
@@ -10,9 +11,8 @@ ghost use Rattle.textual_mods.specs.Joins.{joined_with, join_with_next, join_of_
 
 use crate::Outcome;
 use crate::held_back::{held_back, or_step};
-use crate::settling::settle;
 use crate::targets::provision_named;
-use act_tree::{Cause, NodeId, Tree};
+use act_tree::{Cause, MAX_TEXT_BYTES, NodeId, Tree};
 use desk_base::{Memory, Steps, Text};
 use eid_paths::Element;
 use std::alloc::Global;
@@ -27,6 +27,7 @@ pub fn join<L: Ledger>(
     separator: &str,
     steps: &mut Steps<L>,
 ) -> Result<Outcome, Memory>
+    requires { first_cause (tree_view tree.old) ≡ None }
     ensures outcome { IfOk result (λ o. o ≡ outcome_of (within_limits (tree_view tree.old) (joined_with wid.now second.now separator.now (tree_view tree.old).body))) }
     ensures tree { OnOk result (tree_view tree.new ≡ tree_after (tree_view tree.old) (within_limits (tree_view tree.old) (joined_with wid.now second.now separator.now (tree_view tree.old).body))) }
     ensures kept { OnErr result (tree_view tree.new ≡ tree_view tree.old) }
@@ -50,6 +51,7 @@ fn join_next<L: Ledger>(
     separator: &str,
     steps: &mut Steps<L>,
 ) -> Result<Outcome, Memory>
+    requires fits { first_cause (tree_view tree.old) ≡ None }
     requires node { has_node tree.old id ≡ true }
     requires provision { id ≡ 0 → ⊥ }
     ensures outcome { IfOk result (λ o. o ≡ outcome_of (within_limits (tree_view tree.old) (join_with_next (provision_at tree.old id).wid second.now separator.now
@@ -77,6 +79,7 @@ fn join_both<L: Ledger>(
     separator: &str,
     steps: &mut Steps<L>,
 ) -> Result<Outcome, Memory>
+    requires fits { first_cause (tree_view tree.old) ≡ None }
     requires node { has_node tree.old id ≡ true }
     requires provision { id ≡ 0 → ⊥ }
     requires other { has_node tree.old next ≡ true }
@@ -100,9 +103,39 @@ fn join_both<L: Ledger>(
         second.content.as_str(),
     );
     let content = or_step(content, steps)?;
-    let before = or_step(tree.copy(alloc), steps)?;
+    take_in(alloc, tree, id, next, content, steps)
+}
+
+// Takes the next sibling of a provision into it. Only the levels of both parts' children, and the content, can pass a limit by
+// that, and both are known before.
+fn take_in<L: Ledger>(
+    alloc: Global,
+    tree: &mut Tree,
+    id: NodeId,
+    next: NodeId,
+    content: Text,
+    steps: &mut Steps<L>,
+) -> Result<Outcome, Memory>
+    requires fits { first_cause (tree_view tree.old) ≡ None }
+    requires node { has_node tree.old id ≡ true }
+    requires provision { id ≡ 0 → ⊥ }
+    requires other { has_node tree.old next ≡ true }
+    requires next { next_of (provision_at tree.old id).wid (tree_view tree.old).body ≡ Some (branch (provision_at tree.old next) (below_at tree.old next)) }
+    ensures outcome { IfOk result (λ o. o ≡ outcome_of (within_limits (tree_view tree.old) (Ok (changed (merged content) (provision_at tree.old id).wid (tree_view tree.old).body)))) }
+    ensures tree { OnOk result (tree_view tree.new ≡ tree_after (tree_view tree.old)
+        (within_limits (tree_view tree.old) (Ok (changed (merged content) (provision_at tree.old id).wid (tree_view tree.old).body)))) }
+    ensures kept { OnErr result (tree_view tree.new ≡ tree_view tree.old) }
+    ensures step { steps.new ≡ steps.old + 1 }
+{
+    let alike = or_step(tree.children_alike(alloc, id, next), steps)?;
+    if alike {
+        return Ok(held_back(Cause::NumberTaken, steps));
+    }
+    if content.as_str().len() > MAX_TEXT_BYTES {
+        return Ok(held_back(Cause::TextTooLong, steps));
+    }
     tree.merge_next(alloc, id, content, steps)?;
-    settle(alloc, tree, before)
+    Ok(Outcome::Done)
 }
 
 // Whether two elements are the same.
