@@ -1,23 +1,21 @@
 -- What a step of one pass owes to keep the rule of the turns.
-use Rattle.std.proofs.Common.{◌≡◌, ◌≢◌, ◌⊎◌, ℕ, zero, suc, ◌+◌, ◌-◌, ◌%◌, ◌^◌, ◌<◌, ◌≤◌, List, [], ◌∷◌, ◌++◌, length, get_or, set, refl, sym, ap, ◌∙◌, subst, ⊎_elim, inl, inr, arith, Option, Some, None}
+use Rattle.std.proofs.Common.{◌≡◌, ◌≢◌, ◌⊎◌, ℕ, zero, suc, ◌+◌, ◌%◌, ◌^◌, ◌<◌, ◌≤◌, List, [], ◌∷◌, length, set, refl, sym, ap, ◌∙◌, subst, ⊎_elim, inl, inr, arith, Option}
 use Rattle.std.specs.List.{sum_by}
-use Rattle.std.proofs.lemmas.List.Sums.{sum_by_push}
 use mathlib.Core.List.{IsPrefix}
 use mathlib.Core.Logic.{dite}
 use mathlib.Core.Option.{none, some, some-injective, some-ne-none}
 use mathlib.Core.Option as maybe
 use native.Mathlib.Decide.{ℕ_discrete}
 use lib.ListN.{get_elem?}
-use lib.Seq.{set-get_or}
-use Rattle.atomic_table.specs.Table.{State, Me, step, keeps, takes, gives, stepped, put_back, rest, Allows, Splits, Joins, Seen, Final, opening}
-use Rattle.atomic_table.proofs.Lists.{at_set, set_else, set_again, at_snoc, at_longer, one_turn}
+use Rattle.atomic_table.specs.Table.{State}
+use Rattle.atomic_table.proofs.Lists.{at_set, set_else}
 use Rattle.turn_lock.specs.declared.view.View.{View}
 use Rattle.turn_lock.specs.declared.view.Opening.{Opening}
 use Rattle.turn_lock.specs.declared.view.Stage.{Stage}
 use Rattle.turn_lock.specs.declared.view.Stage.TheVariants.{Between, Joined, Waiting, Serving, Holding}
-use Rattle.turn_lock.specs.Ladder.{HasTicket, tickets_at, tickets, IsOut, spent, Stands, Knows, IsAtHome, IsAway, IsKept, first_view, staged, longer, remaining, given, merged, compared, extended, shown, Sat, compares, draws, reads, takes_out, notes_length, puts_home, passes_on}
-use Rattle.turn_lock.proofs.Sums.{sum_set, sum_one, sum_two, sum_none, sum_alone, sum_less}
-use Rattle.turn_lock.proofs.Prefixes.{prefix_self, prefix_on, prefix_length, prefix_shorter, longer_begins}
+use Rattle.turn_lock.specs.Ladder.{HasTicket, tickets, IsOut, Stands, Knows, IsAtHome, IsAway, IsKept, longer}
+use Rattle.turn_lock.proofs.Sums.{sum_set, sum_one, sum_less}
+use Rattle.turn_lock.proofs.Prefixes.{prefix_on}
 
 -- what stands at a place is what was put there
 pub set_there : {X : Type 0} (xs : List X) (i : ℕ) (x y : X) → get_elem? xs i ≡ some x → get_elem? (set xs i y) i ≡ some y

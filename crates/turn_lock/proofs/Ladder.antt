@@ -1,23 +1,21 @@
 -- Each kind of step in a turn keeps the rule.
-use Rattle.std.proofs.Common.{◌≡◌, ◌≢◌, ◌⊎◌, ℕ, zero, suc, ◌+◌, ◌-◌, ◌%◌, ◌^◌, ◌<◌, ◌≤◌, List, [], ◌∷◌, ◌++◌, length, get_or, set, refl, sym, ap, ◌∙◌, subst, ⊎_elim, inl, inr, arith, Option, Some, None}
-use Rattle.std.specs.List.{sum_by}
+use Rattle.std.proofs.Common.{◌≡◌, ◌≢◌, ℕ, ◌+◌, ◌%◌, ◌^◌, ◌<◌, ◌≤◌, List, [], ◌∷◌, length, get_or, set, refl, sym, ap, ◌∙◌, subst, inl, inr, arith, Option, Some, None}
 use Rattle.std.specs.Option.{IsSome}
 use mathlib.Core.List.{IsPrefix}
 use mathlib.Core.Logic.{dite}
 use mathlib.Core.Option.{none, some}
-use mathlib.Core.Option as maybe
 use native.Mathlib.Decide.{ℕ_discrete}
 use lib.ListN.{get_elem?}
 use lib.Seq.{set-get_or}
-use Rattle.atomic_table.specs.Table.{State, Me, step, keeps, takes, gives, stepped, put_back, rest, Allows}
-use Rattle.atomic_table.proofs.Lists.{set_again, one_turn}
+use Rattle.atomic_table.specs.Table.{step, keeps, takes, gives, put_back, rest, Allows}
+use Rattle.atomic_table.proofs.Lists.{one_turn}
 use Rattle.turn_lock.specs.declared.view.View.{View}
 use Rattle.turn_lock.specs.declared.view.Opening.{Opening}
 use Rattle.turn_lock.specs.declared.view.Stage.{Stage}
 use Rattle.turn_lock.specs.declared.view.Stage.TheVariants.{Between, Joined, Waiting, Serving, Holding}
-use Rattle.turn_lock.specs.Ladder.{HasTicket, tickets_at, tickets, IsOut, Stands, Knows, IsAtHome, IsAway, IsKept, staged, longer, compared, extended, shown, Sat, compares, draws, reads, takes_out, notes_length, puts_home, passes_on}
+use Rattle.turn_lock.specs.Ladder.{HasTicket, tickets_at, tickets, IsOut, Stands, staged, longer, compared, extended, shown, Sat, compares, draws, reads, takes_out, notes_length, puts_home, passes_on}
 use Rattle.turn_lock.proofs.Prefixes.{prefix_self, prefix_on, prefix_length, longer_begins}
-use Rattle.turn_lock.proofs.Keeping.{set_there, each_then, in_range, out_has, stands_on, stands_longer, stands_after, St, Homes, Rule, first, start, Known, Place, the_served, changed, place_stays, at_home, home_empty, short_queue, small_share}
+use Rattle.turn_lock.proofs.Keeping.{set_there, each_then, in_range, out_has, stands_on, stands_longer, stands_after, St, Homes, Rule, the_served, changed, place_stays, at_home, home_empty, short_queue, small_share}
 
 next_word : (n : ℕ) → (n % 2 ^ 64 + 1) % 2 ^ 64 ≡ (n + 1) % 2 ^ 64
 next_word n = omega arith

@@ -1,22 +1,20 @@
 -- Passes are split and joined, and the turns closed, under the rule.
-use Rattle.std.proofs.Common.{◌≡◌, ◌≢◌, ◌⊎◌, ℕ, zero, suc, ◌+◌, ◌-◌, ◌%◌, ◌^◌, ◌<◌, ◌≤◌, List, [], ◌∷◌, ◌++◌, length, get_or, set, refl, sym, ap, ◌∙◌, subst, ⊎_elim, inl, inr, arith, Option, Some, None}
+use Rattle.std.proofs.Common.{◌≡◌, ◌≢◌, ℕ, ◌+◌, ◌<◌, List, [], ◌∷◌, ◌++◌, length, set, refl, sym, ap, ◌∙◌, subst, ⊎_elim, inl, inr, arith, Option, Some}
 use Rattle.std.specs.List.{sum_by}
 use Rattle.std.proofs.lemmas.List.Sums.{sum_by_push}
 use mathlib.Core.List.{IsPrefix}
 use mathlib.Core.Logic.{dite}
-use mathlib.Core.Option.{none, some, some-injective}
-use mathlib.Core.Option as maybe
+use mathlib.Core.Option.{some, some-injective}
 use native.Mathlib.Decide.{ℕ_discrete}
 use lib.ListN.{get_elem?}
-use Rattle.atomic_table.specs.Table.{State, Splits, Joins, Seen, Final}
+use Rattle.atomic_table.specs.Table.{Splits, Joins, Seen, Final}
 use Rattle.atomic_table.proofs.Lists.{at_set, set_else, at_snoc, at_longer}
 use Rattle.turn_lock.specs.declared.view.View.{View}
 use Rattle.turn_lock.specs.declared.view.Opening.{Opening}
-use Rattle.turn_lock.specs.declared.view.Stage.{Stage}
-use Rattle.turn_lock.specs.declared.view.Stage.TheVariants.{Between, Joined, Waiting, Serving, Holding}
-use Rattle.turn_lock.specs.Ladder.{HasTicket, tickets_at, tickets, IsOut, spent, Stands, Knows, IsAtHome, IsAway, IsKept, remaining, given, merged}
-use Rattle.turn_lock.proofs.Sums.{sum_set, sum_one, sum_two, sum_alone}
-use Rattle.turn_lock.proofs.Keeping.{set_there, each_then, St, Homes, Rule, first, start, Known, Place, place_stays}
+use Rattle.turn_lock.specs.declared.view.Stage.TheVariants.{Between}
+use Rattle.turn_lock.specs.Ladder.{HasTicket, tickets_at, tickets, IsOut, spent, IsAtHome, IsAway, remaining, given, merged}
+use Rattle.turn_lock.proofs.Sums.{sum_set, sum_two, sum_alone}
+use Rattle.turn_lock.proofs.Keeping.{each_then, St, Homes, Rule, first, start, Known, Place, place_stays}
 
 module _ {T I : Type 0} (history : T → List I) (origin : T → List ℕ) (key : Opening T) where
   -- the value stays where it is, where the new view at the end does not have it

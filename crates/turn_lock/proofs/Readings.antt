@@ -1,6 +1,5 @@
 -- What the rule of the turns means.
-use Rattle.std.proofs.Common.{◌≡◌, ◌⊎◌, ℕ, ◌≤◌, List, length, inl, inr, arith}
-use mathlib.Core.List.{IsPrefix}
+use Rattle.std.proofs.Common.{ℕ, List, length, inl, inr, arith}
 use mathlib.Core.Logic.{dite}
 use native.Mathlib.Decide.{dec_le}
 use Rattle.turn_lock.specs.declared.view.Stage.{Stage}

@@ -1,10 +1,10 @@
 -- The steps of a turn, one after another.
-use Rattle.std.proofs.Common.{◌≡◌, ℕ, ◌+◌, ◌<◌, ◌-◌, ◌%◌, ◌^◌, List, [], ◌∷◌, length, refl, sym, ap, ◌∙◌, subst, arith, Option, Some, None}
+use Rattle.std.proofs.Common.{◌≡◌, ℕ, List, [], ◌∷◌, sym, ap, ◌∙◌, subst, Option, Some, None}
 use mathlib.Core.List.{IsPrefix}
 use Rattle.atomic_table.specs.Table.{rest}
 use Rattle.atomic_table.specs.declared.shared.Seat.{Seat}
 use Rattle.turn_lock.specs.declared.view.View.{View}
-use Rattle.turn_lock.specs.declared.view.Stage.TheVariants.{Between, Waiting, Serving, Holding}
+use Rattle.turn_lock.specs.declared.view.Stage.TheVariants.{Waiting, Serving, Holding}
 use Rattle.turn_lock.specs.Ladder.{Sat, staged, extended, shown}
 use Rattle.turn_lock.specs.Turned.{IsSameSeat, HasTaken, HasGiven}
 use Rattle.turn_lock.proofs.Ladder.{some_or, in_hand, past_or}

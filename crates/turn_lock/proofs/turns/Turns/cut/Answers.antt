@@ -1,4 +1,4 @@
-use Rattle.std.proofs.Common.{rules, ◌≡◌, ◌<◌, subst, arith}
+use Rattle.std.proofs.Common.{rules, ◌≡◌, ◌<◌, arith}
 use Rattle.turn_lock.proofs.Parting.{split_keeps}
 use Rattle.turn_lock.proofs.turns.Turns.cut.Goals as goal
 

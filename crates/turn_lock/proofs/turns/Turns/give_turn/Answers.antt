@@ -1,4 +1,4 @@
-use Rattle.std.proofs.Common.{rules, ◌≡◌, ℕ, ◌<◌, [], ◌∷◌, Some, refl, sym, ap, ◌∙◌, subst, arith}
+use Rattle.std.proofs.Common.{rules, ◌<◌, ◌∷◌, Some, refl, sym, ap, ◌∙◌, subst}
 use Rattle.atomic_table.specs.Table.{rest}
 use Rattle.turn_lock.proofs.Ladder.{note_length_keeps, put_home_keeps, pass_on_keeps}
 use Rattle.turn_lock.proofs.WholeTurn.{given_back}

@@ -1,7 +1,6 @@
-use Rattle.std.proofs.Common.{rules, ◌≡◌, ℕ, ◌+◌, ◌<◌, ◌≤◌, [], sym, ap, ◌∙◌, subst, arith}
+use Rattle.std.proofs.Common.{rules, ◌≡◌, ◌+◌, ◌<◌, ◌≤◌, sym, ap, ◌∙◌, subst, arith}
 use mathlib.Core.List.{IsPrefix}
 use Rattle.turn_lock.specs.Ladder.{longer}
-use Rattle.turn_lock.specs.Passes.{IsPassOf}
 use Rattle.turn_lock.proofs.Parting.{join_keeps}
 use Rattle.turn_lock.proofs.Ladder.{compare_keeps}
 use Rattle.turn_lock.proofs.turns.Turns.join.Goals as goal

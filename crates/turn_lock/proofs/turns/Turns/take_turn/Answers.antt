@@ -1,4 +1,4 @@
-use Rattle.std.proofs.Common.{rules, ◌≡◌, ◌≢◌, ℕ, ◌%◌, ◌^◌, ◌<◌, [], ◌∷◌, Some, refl, sym, ap, ◌∙◌, subst, arith}
+use Rattle.std.proofs.Common.{rules, ◌≡◌, ◌≢◌, ◌<◌, ◌∷◌, Some, sym, ap, ◌∙◌, subst}
 use Rattle.turn_lock.specs.declared.view.Stage.TheVariants.{Waiting}
 use Rattle.turn_lock.specs.Ladder.{staged}
 use Rattle.atomic_table.specs.Table.{rest}

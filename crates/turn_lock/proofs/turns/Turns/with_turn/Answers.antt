@@ -1,6 +1,5 @@
-use Rattle.std.proofs.Common.{rules, ◌≡◌, ℕ, ◌+◌, ◌-◌, ◌<◌, ◌≤◌, length, refl, sym, ap, ◌∙◌, subst, arith}
+use Rattle.std.proofs.Common.{◌≡◌, ◌<◌, refl, sym, ap, ◌∙◌, subst, arith}
 use mathlib.Core.List.{IsPrefix}
-use Rattle.turn_lock.specs.Passes.{Finds, OnlyAppends}
 use Rattle.turn_lock.proofs.Prefixes.{prefix_on, prefix_length}
 use Rattle.turn_lock.proofs.turns.Turns.with_turn.Goals as goal
 
