@@ -17,9 +17,7 @@ use akn_json::{
     read_dossier,
 };
 use desk_base::{Day, Memory, Steps};
-use law_register::{
-    Answer, AskFault, EnterFault, Question, Reading, Register, Replayer, Rule,
-};
+use law_register::{Answer, AskFault, EnterFault, Question, Reading, Register, Replayer, Rule};
 use std::alloc::Global;
 use std::sync::ledger::Ledger;
 use viewpoints::Past;
