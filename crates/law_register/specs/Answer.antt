@@ -11,4 +11,5 @@ pub mod Replay
 pub mod Shown
 pub mod ShownNodes
 pub mod Soundness
+pub mod Touched
 pub mod Versions

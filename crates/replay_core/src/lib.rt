@@ -9,5 +9,7 @@ mod on_day;
 mod order;
 mod replaying;
 mod showing;
+mod touched;
 
 pub use from_enacted::FromEnacted;
+pub use touched::touched_day;

@@ -1,0 +1,197 @@
+//! The touched day of an entry: before it, the entry leaves everything that was applied as it was.
+
+ghost use Rattle.std.specs.Prelude.{◌≡◌, IfOk, None, Some, if◌then◌else◌, map};
+ghost use Rattle.law_register.specs.Answer.Counted.{is_same};
+ghost use Rattle.law_register.specs.Answer.Touched as spec;
+ghost use Rattle.law_register.specs.Register.Drafts.{draft_of, items_of};
+ghost use Rattle.law_register.specs.Register.KnownIds.{facts_of};
+ghost use Rattle.law_register.specs.Register.LawList.{laws};
+ghost use Rattle.law_register.specs.declared.law.modification.Destination.TheVariants as to;
+
+use desk_base::{Day, Id, Memory};
+use frbr_names::WorkName;
+use law_register::{
+    Command, Destination, DraftItem, Drafter, Entry, KnownMod, Modification, Register, known_at,
+};
+use std::alloc::Global;
+
+fn sooner(first: Option<Day>, second: Option<Day>) -> Option<Day>
+    ensures { result ≡ spec.sooner first second }
+{
+    let Some(day) = first else {
+        return second;
+    };
+    match second {
+        Some(other) if other < day => Some(other),
+        _ => Some(day),
+    }
+}
+
+fn is_at(destination: &Destination, id: Id) -> bool
+    ensures { result ≡ is_same destination.now (to.Modification id) }
+{
+    match destination {
+        Destination::Modification(other) => *other == id,
+        Destination::Node(_) => false,
+    }
+}
+
+fn on_if(directed: bool, on: Day) -> Option<Day>
+    ensures { result ≡ (if directed then Some on else None) }
+{
+    if directed { Some(on) } else { None }
+}
+
+fn day_on(id: Id, body: &Modification) -> Option<Day>
+    ensures { result ≡ spec.day_on id body.now }
+{
+    match body {
+        Modification::Textual { .. } => None,
+        Modification::Force {
+            destination,
+            on,
+            ..
+        } => on_if(is_at(destination, id), *on),
+        Modification::Efficacy {
+            destination,
+            on,
+            ..
+        } => on_if(is_at(destination, id), *on),
+    }
+}
+
+fn first_on(id: Id, mods: &[KnownMod]) -> Option<Day>
+    ensures { result ≡ spec.first_on id mods.now }
+{
+    let mut first = None;
+    for index in (0..mods.len()).rev() {
+        first = sooner(day_on(id, &mods[index].body), first);
+    }
+    first
+}
+
+fn day_at(destination: &Destination, on: Day) -> Option<Day>
+    ensures { result ≡ spec.day_at destination.now on }
+{
+    match destination {
+        Destination::Modification(_) => Some(on),
+        Destination::Node(_) => None,
+    }
+}
+
+fn own_day(body: &Modification) -> Option<Day>
+    ensures { result ≡ spec.own_day body.now }
+{
+    match body {
+        Modification::Textual { force, .. } => Some(force.start),
+        Modification::Force {
+            destination,
+            on,
+            ..
+        } => day_at(destination, *on),
+        Modification::Efficacy {
+            destination,
+            on,
+            ..
+        } => day_at(destination, *on),
+    }
+}
+
+fn day_saying(mods: &[KnownMod], id: Id, body: &Modification) -> Option<Day>
+    ensures { result ≡ spec.day_saying mods.now id body.now }
+{
+    sooner(own_day(body), first_on(id, mods))
+}
+
+fn day_recorded(bodies: &[Modification]) -> Option<Day>
+    ensures { result ≡ spec.day_recorded bodies.now }
+{
+    let mut first = None;
+    for index in (0..bodies.len()).rev() {
+        first = sooner(own_day(&bodies[index]), first);
+    }
+    first
+}
+
+fn day_filed(items: &[DraftItem], work: &WorkName) -> Option<Day>
+    ensures { result ≡ spec.day_recorded (map (λ i. i.body) (items_of work.now items.now)) }
+{
+    let mut first = None;
+    for index in (0..items.len()).rev() {
+        let item = &items[index];
+        if item.work == *work {
+            first = sooner(own_day(&item.body), first);
+        }
+    }
+    first
+}
+
+// The day that an id touches once it says this, by what is known of the work that it modifies.
+fn day_in_work(
+    alloc: Global,
+    register: &Register,
+    work: &WorkName,
+    id: Id,
+    body: &Modification,
+) -> Result<Option<Day>, Memory>
+    ensures { IfOk result (λ day. day ≡ spec.day_saying (spec.mods_of register.now.entries work.now) id body.now) }
+{
+    match known_at(alloc, register, work, register.front())? {
+        Some(known) => Ok(day_saying(known.mods.as_slice(), id, body)),
+        None => Ok(day_saying(&[], id, body)),
+    }
+}
+
+fn day_corrected(
+    alloc: Global,
+    register: &Register,
+    id: Id,
+    body: &Modification,
+) -> Result<Option<Day>, Memory>
+    ensures { IfOk result (λ day. day ≡ spec.day_corrected register.now.entries id body.now (facts_of id (laws register.now.entries))) }
+{
+    match register.work_of(id) {
+        Some(work) => day_in_work(alloc, register, work, id, body),
+        None => Ok(None),
+    }
+}
+
+fn day_known(alloc: Global, register: &Register, id: Id) -> Result<Option<Day>, Memory>
+    ensures { IfOk result (λ day. day ≡ spec.day_known register.now.entries id (facts_of id (laws register.now.entries))) }
+{
+    match register.body_of(id) {
+        Some(body) => day_corrected(alloc, register, id, body),
+        None => Ok(None),
+    }
+}
+
+fn day_of_filing(
+    alloc: Global,
+    register: &Register,
+    drafter: &Drafter,
+    work: &WorkName,
+) -> Result<Option<Day>, Memory>
+    ensures { IfOk result (λ day. day ≡ spec.day_recorded (map (λ i. i.body) (items_of work.now (draft_of drafter.now register.now.entries)))) }
+{
+    let draft = register.draft(alloc, drafter)?;
+    Ok(day_filed(draft.as_slice(), work))
+}
+
+/// The touched day of an entry that comes behind those of a register: the least of the days from which the modifications that it
+/// changes may be applied, or are counted for others. `None`: it changes none, or flags alone.
+#[tactic(auto, unfolding(law_register::specs::Answer::Touched::touched_day))]
+pub fn touched_day(alloc: Global, register: &Register, entry: &Entry) -> Result<Option<Day>, Memory>
+    ensures { IfOk result (λ day. day ≡ spec.touched_day register.now.entries entry.now) }
+{
+    match &entry.command {
+        Command::Record { mods, .. } => Ok(day_recorded(mods.as_slice())),
+        Command::File { work, .. } => day_of_filing(alloc, register, &entry.drafter, work),
+        Command::Correct { id, body } => {
+            let old = day_known(alloc, register, *id)?;
+            let new = day_corrected(alloc, register, *id, body)?;
+            Ok(sooner(old, new))
+        }
+        Command::Withdraw { id } | Command::Restore { id } => day_known(alloc, register, *id),
+        Command::Enact { .. } | Command::DraftAdd { .. } | Command::DraftDrop { .. } => Ok(None),
+    }
+}
