@@ -68,3 +68,61 @@ fn own_entries_are_found_and_joined_passes_know_them(rt: HostRuntime) -> Result<
     assert_eq!(rt; notes.from, 7);
     Ok(())
 }
+
+// A list that is lent: its origin is whose it is.
+#[derive(Drop)]
+struct Lent<'a> {
+    list: &'a mut Vec<u64>,
+}
+
+impl<'a> Held for Lent<'a> {
+    type Item = u64;
+
+    ghost history = { λ lent. lent.list.now.items };
+
+    ghost origin = { λ lent. lent.list.ghost_name ∷ [] };
+
+    fn count(&self) -> u64 {
+        self.list.len() as u64
+    }
+}
+
+impl<'a> Lent<'a> {
+    fn note(&mut self, entry: u64) -> bool
+        ensures entries { IsPrefix self.old.list.now.items self.new.list.now.items }
+        ensures same { self.new.list.ghost_name ≡ self.old.list.ghost_name }
+    {
+        self.list.push(entry).is_ok()
+    }
+}
+
+// An entry is added in a turn, and what was lent is given back.
+fn turned<'a, H: Wait>(rt: &H, alloc: Global, lent: Lent<'a>) -> Lent<'a>
+    ensures same { result.list.ghost_name ≡ lent.entry.list.ghost_name }
+    ensures grown { IsPrefix lent.entry.list.now.items result.list.now.items }
+{
+    match Turns::new(alloc, lent, 1) {
+        Ok((turns, mut pass)) => {
+            turns.with_turn(rt, &mut pass, |lent| lent.note(5));
+            turns.close(pass)
+        }
+        Err(refused) => {
+            let TurnsRefused { value } = refused;
+            value
+        }
+    }
+}
+
+// The list of the caller is the one that was lent, and has only grown.
+fn note_in_turn<H: Wait>(rt: &H, alloc: Global, list: &mut Vec<u64>)
+    ensures { IsPrefix list.old.items list.new.items }
+{
+    let Lent { list: _ } = turned(rt, alloc, Lent { list });
+}
+
+#[test]
+fn a_list_that_was_lent_comes_back_grown(rt: HostRuntime) {
+    let mut list = Vec::new(rt.alloc());
+    note_in_turn(&rt, rt.alloc(), &mut list);
+    assert_eq!(rt; list.as_slice(), [5].as_slice());
+}

@@ -1,5 +1,5 @@
 -- What is known of callers with passes of one lock.
-use Rattle.std.specs.Prelude.{ℕ, List, length}
+use Rattle.std.specs.Prelude.{List, length}
 use Rattle.std.specs.List.{AllWithin}
 use Rattle.atomic_table.specs.Seated.{TableId}
 use Rattle.turn_lock.specs.Passes.{IsPassOf}
