@@ -100,6 +100,11 @@ pub fn register_of(alloc: Global, dossier: Dossier) -> Result<Register, EnterFau
     let drafter = sender(alloc)?;
     let commands = commands_of(alloc, dossier.act, dossier.mods)?;
     let mut register = Register::new(alloc);
-    enter_all(alloc, &mut register, &drafter, commands)?;
-    Ok(register)
+    match enter_all(alloc, &mut register, &drafter, commands) {
+        Ok(()) => Ok(register),
+        Err(fault) => {
+            drop(register);
+            Err(fault)
+        }
+    }
 }
