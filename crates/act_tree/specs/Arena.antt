@@ -7,8 +7,8 @@ use Rattle.act_tree.specs.Numbered.{are_numbered}
 use Rattle.act_tree.specs.Provisions.{Provision}
 use Rattle.act_tree.specs.Changes.{root_wid}
 
--- what is laid down for a number: what the provision says, the number of the one right above it, and the numbers of those
--- right below it in order
+-- what is laid down for a number: what the provision says, the number of the one right above it, and the numbers of
+-- those right below it in order
 pub record Laid : Type 0 where
   pub provision : Provision
   pub above : ℕ
@@ -16,7 +16,10 @@ pub record Laid : Type 0 where
 
 -- what the root says: nothing, under the wId that stands for the act; its element and num are never shown
 abbrev pub root_provision : Provision
-root_provision = record { wid = root_wid; own = record { element = Article; num = 48 ∷ []; heading = []; content = []; refs = [] } }
+root_provision = record {
+  wid = root_wid;
+  own = record { element = Article; num = 48 ∷ []; heading = []; content = []; refs = [] };
+}
 
 -- the provision that is laid down, or the root's where nothing is
 abbrev pub provision_in : Option Laid → Provision
@@ -69,7 +72,8 @@ abbrev mutual
   StandAll at number above [] no_branches = Unit {0}
   StandAll at number above (i ∷ numbers) no_branches = ⊥
   StandAll at number above [] (more_branches b bs) = ⊥
-  StandAll at number above (i ∷ numbers) (more_branches b bs) = Stands at number above i b × StandAll at number above numbers bs
+  StandAll at number above (i ∷ numbers) (more_branches b bs) =
+      Stands at number above i b × StandAll at number above numbers bs
 
 -- a number is its own number above, or is among those below the one above it
 abbrev pub is_hung : (ℕ → Option Laid) → ℕ → Option Laid → Bool
@@ -81,9 +85,9 @@ abbrev pub number_twice : List ℕ → Bool
 number_twice [] = false
 number_twice (i ∷ numbers) = list_any (λ j. j == i) numbers || number_twice numbers
 
--- an arena is whole: the text that is read from it stands there from the root down, each number is hung, no list names a number twice,
--- the text is not as deep as there are numbers, its nums keep the rule of nums, the index leads to provisions of the wId, and each
--- number fits 32 bits
+-- an arena is whole: the text that is read from it stands there from the root down, each number is hung, no list names
+-- a number twice, the text is not as deep as there are numbers, its nums keep the rule of nums, the index leads to
+-- provisions of the wId, and each number fits 32 bits
 pub record IsWhole (at : ℕ → Option Laid) (number : List ℕ → Option ℕ) (size : ℕ) : Type 0 where
   pub stands : Stands at number 0 0 (branch_from size at 0)
   pub root : provision_in (at 0) ≡ root_provision

@@ -96,8 +96,8 @@ abbrev pub with_content : List ℕ → Step
 with_content content (branch p below) rest =
     more_branches (branch (record p { own = record p.own { content = content } }) below) rest
 
--- the provision is parted: it keeps what it says under another content, and its first so many children; right behind it stands a
--- provision with the others
+-- the provision is parted: it keeps what it says under another content, and its first so many children; right behind it
+-- stands a provision with the others
 abbrev pub parted : ℕ → List ℕ → Provision → Step
 parted place head second (branch p below) rest =
     more_branches (branch (record p { own = record p.own { content = head } }) (first place below))
@@ -107,15 +107,19 @@ parted place head second (branch p below) rest =
 abbrev pub merged : List ℕ → Step
 merged content b no_branches = more_branches b no_branches
 merged content (branch p below) (more_branches (branch next under) rest) =
-    more_branches (branch (record p { own = record p.own { content = content; refs = p.own.refs ++ next.own.refs } }) (joined below under)) rest
+    more_branches (branch
+    (record p { own = record p.own { content = content; refs = p.own.refs ++ next.own.refs } })
+    (joined below under)) rest
 
 -- the provisions with others in the place of the one of this wId; where it is the root's, the others alone
 abbrev pub substituted : List ℕ → Branches Provision → Branches Provision → Branches Provision
 substituted wid new bs = if bytes_eq wid root_wid then new else changed (instead new) wid bs
 
--- the provisions with others among the children of the one of this wId, or among those of the root, behind the first so many
+-- the provisions with others among the children of the one of this wId, or among those of the root, behind the first so
+-- many
 abbrev pub grafted : List ℕ → ℕ → Branches Provision → Branches Provision → Branches Provision
-grafted wid place new bs = if bytes_eq wid root_wid then put_in place new bs else changed (among_children place new) wid bs
+grafted wid place new bs =
+    if bytes_eq wid root_wid then put_in place new bs else changed (among_children place new) wid bs
 
 -- the num that pairs of a wId and a num give to a wId, by the first of them that names it, or else the one that it had
 abbrev pub num_given : List (List ℕ × List ℕ) → List ℕ → List ℕ → List ℕ

@@ -1,4 +1,5 @@
--- How nested things are told apart: as the list of their labels in the order of the text, each with the number of branches below it.
+-- How nested things are told apart: as the list of their labels in the order of the text, each with the number of
+-- branches below it.
 use Rattle.std.specs.Prelude.{ℕ, ◌≡◌, refl, List, [], ◌∷◌, ◌++◌, take, drop, length}
 use Rattle.std.specs.Coded.{Coded, code_by, coded×, coded_ℕ, coded_list}
 use Rattle.std.proofs.Common.{ap, ◌∙◌, append_assoc}
@@ -28,16 +29,20 @@ branches_from (x ∷ xs) = built x (branches_from xs)
 built-listed : {L : Type 0} → (label : L) (below : Branches L) (rest : List (Branch L))
     → built (length (listed below), label) (listed below ++ rest) ≡ branch label below ∷ rest
 built-listed label below rest =
-    ap (λ bs. branch label (branches_of bs) ∷ drop (length (listed below)) (listed below ++ rest)) (take-append_seam (listed below) rest)
+    ap (λ bs. branch label (branches_of bs) ∷ drop (length (listed below)) (listed below ++ rest))
+    (take-append_seam (listed below) rest)
     ∙ ap (λ bs. branch label bs ∷ drop (length (listed below)) (listed below ++ rest)) (branches_of-listed below)
     ∙ ap (λ bs. branch label below ∷ bs) (drop-append_seam (listed below) rest)
 
 mutual
-  reads_branch : {L : Type 0} → (b : Branch L) (rest : List (ℕ × L)) → branches_from (tokens b ++ rest) ≡ b ∷ branches_from rest
+  reads_branch : {L : Type 0} → (b : Branch L) (rest : List (ℕ × L))
+      → branches_from (tokens b ++ rest) ≡ b ∷ branches_from rest
   reads_branch (branch label below) rest =
-      ap (built (length (listed below), label)) (reads_branches below rest) ∙ built-listed label below (branches_from rest)
+      ap (built (length (listed below), label)) (reads_branches below rest)
+      ∙ built-listed label below (branches_from rest)
 
-  reads_branches : {L : Type 0} → (bs : Branches L) (rest : List (ℕ × L)) → branches_from (all_tokens bs ++ rest) ≡ listed bs ++ branches_from rest
+  reads_branches : {L : Type 0} → (bs : Branches L) (rest : List (ℕ × L))
+      → branches_from (all_tokens bs ++ rest) ≡ listed bs ++ branches_from rest
   reads_branches no_branches rest = refl
   reads_branches (more_branches b bs) rest =
       ap branches_from (append_assoc (tokens b) (all_tokens bs) rest)
@@ -50,4 +55,5 @@ reads_all bs = reads_branches (branches_of bs) [] ∙ append-nil (listed (branch
 -- the code of a list of branches, by the code of their labels
 abbrev pub branches_code : {L : Type 0} → Coded L → Coded (List (Branch L))
 branches_code {L} label_code =
-    code_by (List (ℕ × L)) (coded_list (coded× coded_ℕ label_code)) (λ bs. all_tokens (branches_of bs) ++ []) branches_from reads_all
+    code_by (List (ℕ × L)) (coded_list (coded× coded_ℕ label_code)) (λ bs. all_tokens (branches_of bs) ++ [])
+    branches_from reads_all

@@ -17,7 +17,8 @@ begins numbering top own = top || is_throughout numbering own.element
 abbrev pub own_level : Own → List ℕ
 own_level own = level_text own.element own.num
 
--- the levels that begin an eId, at every depth; `top` says that the provisions side by side are the children of the root
+-- the levels that begin an eId, at every depth; `top` says that the provisions side by side are the children of the
+-- root
 abbrev mutual
   pub beginning : Numbering → Bool → Branch Own → List (List ℕ)
   beginning numbering top (branch own below) =
@@ -43,7 +44,8 @@ levels_on numbering bs = all_going_on numbering false (all_owns bs)
 -- somewhere two siblings that begin no eId have one level
 abbrev mutual
   pub alike_inside : Numbering → Branch Own → Bool
-  alike_inside numbering (branch own below) = one_twice (all_going_on numbering false below) || alike_beneath numbering below
+  alike_inside numbering (branch own below) =
+      one_twice (all_going_on numbering false below) || alike_beneath numbering below
 
   pub alike_beneath : Numbering → Branches Own → Bool
   alike_beneath numbering no_branches = false

@@ -13,7 +13,8 @@ abbrev pub eid_up : ℕ → Numbering → (ℕ → Option Laid) → ℕ → Opti
 eid_up zero numbering at i = None
 eid_up (suc steps) numbering at i =
     if i == 0 then None
-    else Some (eid_below numbering (eid_up steps numbering at (above_in (at i))) (provision_in (at i)).own.element (provision_in (at i)).own.num)
+    else Some (eid_below numbering (eid_up steps numbering at (above_in (at i)))
+    (provision_in (at i)).own.element (provision_in (at i)).own.num)
 
 -- the eId of a node, which is that of its wId; the root has none
 abbrev pub eid_at : Tree → ℕ → Option (List ℕ)
@@ -25,7 +26,8 @@ IsNodeOf t eid id = (has_node t id ≡ true) × ((id ≡ 0 → ⊥) × (eid_at t
 
 -- the eId of a node that stands below the eId `above`, or right below the root where that is `None`
 abbrev pub eid_under : Tree → Option (List ℕ) → ℕ → List ℕ
-eid_under t above id = eid_below (tree_view t).numbering above (provision_at t id).own.element (provision_at t id).own.num
+eid_under t above id =
+    eid_below (tree_view t).numbering above (provision_at t id).own.element (provision_at t id).own.num
 
 -- these are nodes that stand below the eId `above`
 abbrev pub AreUnder : Tree → Option (List ℕ) → List ℕ → Type 0

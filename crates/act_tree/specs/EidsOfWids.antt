@@ -16,7 +16,8 @@ abbrev pub or_way : Option (List Own) → Option (List Own) → Option (List Own
 or_way (Some way) other = Some way
 or_way None other = other
 
--- the way down to the provision of this wId, if one stands here or beneath: what each provision on it says of itself, the topmost first
+-- the way down to the provision of this wId, if one stands here or beneath: what each provision on it says of itself,
+-- the topmost first
 abbrev mutual
   pub way_in : List ℕ → Branch Provision → Option (List Own)
   way_in wid (branch p below) =
@@ -30,7 +31,8 @@ abbrev mutual
 abbrev pub level_of_own : Own → Level
 level_of_own own = record { element = own.element; num = own.num }
 
--- the levels of an eId that stand above a provision, and behind them its own: an element that is numbered throughout begins anew
+-- the levels of an eId that stand above a provision, and behind them its own: an element that is numbered throughout
+-- begins anew
 abbrev pub levels_with : Numbering → List Level → Own → List Level
 levels_with numbering above own =
     if is_throughout numbering own.element then level_of_own own ∷ [] else above ++ level_of_own own ∷ []
@@ -40,8 +42,8 @@ abbrev pub levels_along : Numbering → List Level → List Own → List Level
 levels_along numbering above [] = above
 levels_along numbering above (own ∷ way) = levels_along numbering (levels_with numbering above own) way
 
--- the eId of a wId: the levels on the way down to its provision, from the last that begins one, with `__` between them; none where
--- no provision has the wId
+-- the eId of a wId: the levels on the way down to its provision, from the last that begins one, with `__` between them;
+-- none where no provision has the wId
 unfoldable pub eid_of_wid : TreeValue → List ℕ → Option (List ℕ)
 eid_of_wid tree wid = option_map (λ way. eid_text (levels_along tree.numbering [] way)) (way_to wid tree.body)
 

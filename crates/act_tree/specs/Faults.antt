@@ -48,7 +48,8 @@ abbrev mutual
 abbrev mutual
   pub eids : Numbering → Option (List ℕ) → Branch Own → List (List ℕ)
   eids numbering above (branch own below) =
-      eid_below numbering above own.element own.num ∷ all_eids numbering (Some (eid_below numbering above own.element own.num)) below
+      eid_below numbering above own.element own.num
+      ∷ all_eids numbering (Some (eid_below numbering above own.element own.num)) below
 
   pub all_eids : Numbering → Option (List ℕ) → Branches Own → List (List ℕ)
   all_eids numbering above no_branches = []
@@ -84,3 +85,7 @@ FailsBy fault fails.Memory = Unit {0}
 -- the first cause for which a tree is not well-formed
 abbrev pub first_cause : TreeValue → Option Cause
 first_cause t = option_map fault_cause (first_fault t.numbering (all_owns t.body))
+
+-- the eIds of the provisions of a tree, in the order of the text
+abbrev pub eids_of : TreeValue → List (List ℕ)
+eids_of t = all_eids t.numbering None (all_owns t.body)

@@ -39,7 +39,8 @@ pub record IsReplanted (old new : Arena) (bs : Branches Provision) : Type 0 wher
   pub ids : List ℕ
   pub laid : AreLaid old between 0 ids bs
   pub root : at new 0 ≡ with_below ids (at old 0)
-  pub off : (k : ℕ) → (k ≡ 0 → ⊥) → list_any (λ j. j == k) (below_in (at old 0)) ≡ true → at new k ≡ with_above k (at between k)
+  pub off : (k : ℕ) → (k ≡ 0 → ⊥) → list_any (λ j. j == k) (below_in (at old 0)) ≡ true
+      → at new k ≡ with_above k (at between k)
   pub others : (k : ℕ) → (k ≡ 0 → ⊥) → list_any (λ j. j == k) (below_in (at old 0)) ≡ false → at new k ≡ at between k
   pub numbers : (w : List ℕ) → number new w ≡ number between w
   pub sizes : size new ≡ size between

@@ -30,4 +30,5 @@ pub mod EidsOfNodes
 pub mod Brought
 pub mod SameNodes
 pub mod NodeSizes
+pub mod LevelsOfNodes
 pub mod Limits

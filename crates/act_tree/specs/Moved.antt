@@ -12,7 +12,11 @@ pub record IsSettled (at next : ℕ → Option Laid) (i : ℕ) : Type 0 where
 
 -- a number says something else of itself, and other numbers stand right below it
 pub record IsFilled (at next : ℕ → Option Laid) (i : ℕ) (own : Own) (below : List ℕ) : Type 0 where
-  pub here : next i ≡ Some (record { provision = record (provision_in (at i)) { own = own }; above = above_in (at i); below = below })
+  pub here : next i ≡ Some (record {
+    provision = record (provision_in (at i)) { own = own };
+    above = above_in (at i);
+    below = below;
+  })
   pub others : (k : ℕ) → (k ≡ i → ⊥) → next k ≡ at k
 
 -- a number x can be taken off, and those of a list get another one i right above them
@@ -30,8 +34,14 @@ pub record CanJoin (at : ℕ → Option Laid) (size i x : ℕ) (below : List ℕ
 
 -- a number x is taken off, and another one i says something else of itself and has these numbers right below it
 pub record IsJoined (at next : ℕ → Option Laid) (i x : ℕ) (own : Own) (below : List ℕ) : Type 0 where
-  pub here : next i ≡ Some (record { provision = record (provision_in (at i)) { own = own }; above = above_in (at i); below = below })
+  pub here : next i ≡ Some (record {
+    provision = record (provision_in (at i)) { own = own };
+    above = above_in (at i);
+    below = below;
+  })
   pub gone : next x ≡ with_above x (at x)
-  pub over : next (above_in (at x)) ≡ with_below (filter (λ k. not (k == x)) (below_in (at (above_in (at x))))) (at (above_in (at x)))
+  pub over : next (above_in (at x))
+      ≡ with_below (filter (λ k. not (k == x)) (below_in (at (above_in (at x))))) (at (above_in (at x)))
   pub under : (k : ℕ) → list_any (λ j. j == k) below ≡ true → next k ≡ with_above i (at k)
-  pub others : (k : ℕ) → (k ≡ i → ⊥) → (k ≡ x → ⊥) → (k ≡ above_in (at x) → ⊥) → list_any (λ j. j == k) below ≡ false → next k ≡ at k
+  pub others : (k : ℕ) → (k ≡ i → ⊥) → (k ≡ x → ⊥) → (k ≡ above_in (at x) → ⊥)
+      → list_any (λ j. j == k) below ≡ false → next k ≡ at k

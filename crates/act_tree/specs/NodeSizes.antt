@@ -13,7 +13,8 @@ texts_size (text ∷ texts) = text_size text + texts_size texts
 abbrev mutual
   pub node_size : Branch Own → ℕ
   node_size (branch own below) =
-      1 + name_size own.num + text_size own.heading + text_size own.content + (2 + texts_size own.refs) + (2 + nodes_size below)
+      1 + name_size own.num + text_size own.heading + text_size own.content
+      + (2 + texts_size own.refs) + (2 + nodes_size below)
 
   pub nodes_size : Branches Own → ℕ
   nodes_size no_branches = 0

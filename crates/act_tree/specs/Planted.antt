@@ -14,14 +14,16 @@ abbrev pub Named : (ℕ → Option Laid) → (List ℕ → Option ℕ) → Type 
 Named at number = (wid : List ℕ) (i : ℕ) → number wid ≡ Some i → name_in (at i) ≡ Some wid
 
 -- what was there stays: the first numbers, and where the index leads from wIds that are not new
-pub record Grown (at next : ℕ → Option Laid) (number after : List ℕ → Option ℕ) (first : ℕ) (new : List (List ℕ)) : Type 0 where
+pub record Grown (at next : ℕ → Option Laid) (number after : List ℕ → Option ℕ) (first : ℕ)
+    (new : List (List ℕ)) : Type 0 where
   pub kept : (k : ℕ) → k < first → next k ≡ at k
   pub numbers : (w : List ℕ) → is_among w new ≡ false → after w ≡ number w
   pub named : Named at number → Named next after
 
--- a branch stands at the first new number, below `above`, if its wIds differ, its nums keep the rule of nums, all new numbers but that
--- one are hung, and no list at them names a number twice
-pub record Planted (at next : ℕ → Option Laid) (number after : List ℕ → Option ℕ) (first last above id : ℕ) (b : Branch Provision) : Type 0 where
+-- a branch stands at the first new number, below `above`, if its wIds differ, its nums keep the rule of nums, all new
+-- numbers but that one are hung, and no list at them names a number twice
+pub record Planted (at next : ℕ → Option Laid) (number after : List ℕ → Option ℕ) (first last above id : ℕ)
+    (b : Branch Provision) : Type 0 where
   pub grown : Grown at next number after first (wids b)
   pub place : id ≡ first
   pub rises : first < last
@@ -33,16 +35,18 @@ pub record Planted (at next : ℕ → Option Laid) (number after : List ℕ → 
   pub hung : (k : ℕ) → first ≤ k → k < last → (k ≡ id → ⊥) → is_hung next k (next k) ≡ true
   pub once : (k : ℕ) → first ≤ k → k < last → number_twice (below_in (next k)) ≡ false
 
--- branches stand at new numbers below `above`, which differ, if their wIds differ; their nums keep the rule of nums, all new numbers
--- but these are hung, and no list at them names a number twice
-pub record PlantedAll (at next : ℕ → Option Laid) (number after : List ℕ → Option ℕ) (first last above : ℕ) (ids : List ℕ) (bs : Branches Provision) : Type 0 where
+-- branches stand at new numbers below `above`, which differ, if their wIds differ; their nums keep the rule of nums,
+-- all new numbers but these are hung, and no list at them names a number twice
+pub record PlantedAll (at next : ℕ → Option Laid) (number after : List ℕ → Option ℕ) (first last above : ℕ)
+    (ids : List ℕ) (bs : Branches Provision) : Type 0 where
   pub grown : Grown at next number after first (all_wids bs)
   pub rises : first ≤ last
   pub stands : one_twice (all_wids bs) ≡ false → StandAll next after above ids bs
   pub tall : heights bs + first ≤ last
   pub numbered : are_numbered bs ≡ true
   pub fits : first ≤ 2 ^ 32 → last ≤ 2 ^ 32
-  pub hung : (k : ℕ) → first ≤ k → k < last → (is_hung next k (next k) ≡ true) ⊎ ((list_any (λ j. j == k) ids ≡ true) × (above_in (next k) ≡ above))
+  pub hung : (k : ℕ) → first ≤ k → k < last
+      → (is_hung next k (next k) ≡ true) ⊎ ((list_any (λ j. j == k) ids ≡ true) × (above_in (next k) ≡ above))
   pub once : (k : ℕ) → first ≤ k → k < last → number_twice (below_in (next k)) ≡ false
   pub within : (k : ℕ) → list_any (λ j. j == k) ids ≡ true → (first ≤ k) × (k < last)
   pub differ : number_twice ids ≡ false
@@ -58,6 +62,7 @@ AreLaid old new above ids bs = PlantedAll (at old) (at new) (number old) (number
 -- what an arena had stays, though provisions of some of these wIds may have been laid down behind it
 pub record HasGrown (old new : Arena) (wids : List (List ℕ)) : Type 0 where
   pub grown : Grown (at old) (at new) (number old) (number new) (size old) wids
-  pub once : ((k : ℕ) → number_twice (below_in (at old k)) ≡ false) → (k : ℕ) → number_twice (below_in (at new k)) ≡ false
+  pub once : ((k : ℕ) → number_twice (below_in (at old k)) ≡ false)
+      → (k : ℕ) → number_twice (below_in (at new k)) ≡ false
   pub rises : size old ≤ size new
   pub fits : size old ≤ 2 ^ 32 → size new ≤ 2 ^ 32

@@ -1,15 +1,20 @@
 -- What clauses see of a tree: its value, and the nodes that it has.
-use Rattle.std.specs.Prelude.{ℕ, Bool, List}
+use Rattle.std.specs.Prelude.{ℕ, Bool, List, Option, map}
 use Rattle.act_tree.specs.declared.tree.Tree.{Tree}
 use Rattle.act_tree.specs.Branches.{Branch, Branches}
 use Rattle.act_tree.specs.Provisions.{Provision}
-use Rattle.act_tree.specs.Trees.{TreeValue}
+use Rattle.act_tree.specs.Trees.{TreeValue, changed_once}
+use Rattle.act_tree.specs.Changes.{Step, changed, grafted, next_of, removed, substituted}
 use Rattle.act_tree.specs.Arena.{branches_below, branch_from, climbs, below_in, provision_in}
 use Rattle.act_tree.specs.Slots.{at, size}
 
 -- the tree's value: its numbering, the text below its root, and its changes
 unfoldable pub tree_view : Tree → TreeValue
-tree_view t = record { numbering = t.numbering; body = branches_below (size t.arena) (at t.arena) (below_in (at t.arena 0)); changes = t.changes }
+tree_view t = record {
+  numbering = t.numbering;
+  body = branches_below (size t.arena) (at t.arena) (below_in (at t.arena 0));
+  changes = t.changes;
+}
 
 -- the number is one of a node of the tree
 unfoldable pub has_node : Tree → ℕ → Bool
@@ -30,3 +35,35 @@ branch_at t i = branch_from (size t.arena) (at t.arena) i
 -- what stands below the node of a number
 unfoldable pub below_at : Tree → ℕ → Branches Provision
 below_at t i = branches_below (size t.arena) (at t.arena) (below_in (at t.arena i))
+
+-- the tree with another text below its root
+abbrev pub with_body : Tree → Branches Provision → TreeValue
+with_body t body = record (tree_view t) { body = body }
+
+-- the tree after a change that left it this text
+abbrev pub once_changed : Tree → Branches Provision → TreeValue
+once_changed t body = changed_once (tree_view t) body
+
+-- the text, where a step is made at the node of a number
+abbrev pub changed_at : Tree → ℕ → Step → Branches Provision
+changed_at t i step = changed step (provision_at t i).wid (tree_view t).body
+
+-- the text without the node of a number, and without all beneath it
+abbrev pub removed_at : Tree → ℕ → Branches Provision
+removed_at t i = removed (provision_at t i).wid (tree_view t).body
+
+-- the text with others in the place of the node of a number and of all beneath it
+abbrev pub substituted_at : Tree → ℕ → Branches Provision → Branches Provision
+substituted_at t i new = substituted (provision_at t i).wid new (tree_view t).body
+
+-- the text with others among the children of the node of a number, behind the first so many
+abbrev pub grafted_at : Tree → ℕ → ℕ → Branches Provision → Branches Provision
+grafted_at t parent place new = grafted (provision_at t parent).wid place new (tree_view t).body
+
+-- pairs of nodes and nums, each with the wId of the node
+abbrev pub nums_by_wid : Tree → List (ℕ × List ℕ) → List (List ℕ × List ℕ)
+nums_by_wid t pairs = map (λ pair. ((provision_at t pair.0).wid, pair.1)) pairs
+
+-- the next sibling of the node of a number
+abbrev pub next_at : Tree → ℕ → Option (Branch Provision)
+next_at t i = next_of (provision_at t i).wid (tree_view t).body

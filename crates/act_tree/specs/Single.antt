@@ -9,7 +9,8 @@ use Rattle.act_tree.specs.Arena.{Laid, Stands, StandAll, IsWhole, below_in}
 -- a provision is told apart by its wId and what it says of itself
 abbrev pub provision_code : Coded Provision
 provision_code =
-    code_by (List ℕ × Own) (coded× (coded_list coded_ℕ) own_code) (λ p. (p.wid, p.own)) (λ t. record { wid = t.0; own = t.1 }) (λ _. refl)
+    code_by (List ℕ × Own) (coded× (coded_list coded_ℕ) own_code) (λ p. (p.wid, p.own))
+    (λ t. record { wid = t.0; own = t.1 }) (λ _. refl)
 
 -- what is laid down is told apart by its three parts
 abbrev pub laid_code : Coded Laid
@@ -23,12 +24,18 @@ laid_code =
 ⊥_prop a b = absurd a
 
 mutual
-  stands_prop : (at : ℕ → Option Laid) (number : List ℕ → Option ℕ) (above i : ℕ) (b : Branch Provision) → IsProp (Stands at number above i b)
+  stands_prop : (at : ℕ → Option Laid) (number : List ℕ → Option ℕ) (above i : ℕ) (b : Branch Provision)
+      → IsProp (Stands at number above i b)
   stands_prop at number above i (branch p below) =
-      ×_prop (Coded-set (coded_option laid_code) (at i) (Some (record { provision = p; above = above; below = below_in (at i) })))
-      (×_prop (Coded-set (coded_option coded_ℕ) (number p.wid) (Some i)) (stand_all_prop at number i (below_in (at i)) below))
+      ×_prop
+      (Coded-set (coded_option laid_code) (at i)
+      (Some (record { provision = p; above = above; below = below_in (at i) })))
+      (×_prop
+      (Coded-set (coded_option coded_ℕ) (number p.wid) (Some i))
+      (stand_all_prop at number i (below_in (at i)) below))
 
-  stand_all_prop : (at : ℕ → Option Laid) (number : List ℕ → Option ℕ) (above : ℕ) (numbers : List ℕ) (bs : Branches Provision) → IsProp (StandAll at number above numbers bs)
+  stand_all_prop : (at : ℕ → Option Laid) (number : List ℕ → Option ℕ) (above : ℕ) (numbers : List ℕ)
+      (bs : Branches Provision) → IsProp (StandAll at number above numbers bs)
   stand_all_prop at number above [] no_branches = Unit-prop
   stand_all_prop at number above (i ∷ numbers) no_branches = ⊥_prop
   stand_all_prop at number above [] (more_branches b bs) = ⊥_prop
@@ -36,4 +43,10 @@ mutual
       ×_prop (stands_prop at number above i b) (stand_all_prop at number above numbers bs)
 
 pub IsWhole-prop : (at : ℕ → Option Laid) (number : List ℕ → Option ℕ) (size : ℕ) → IsProp (IsWhole at number size)
-IsWhole-prop at number size = hlevel (stands_prop, Coded-set provision_code, Coded-set coded_bool, Coded-set (coded_option (coded_list coded_ℕ)), le_prop)
+IsWhole-prop at number size = hlevel (
+  stands_prop,
+  Coded-set provision_code,
+  Coded-set coded_bool,
+  Coded-set (coded_option (coded_list coded_ℕ)),
+  le_prop,
+)

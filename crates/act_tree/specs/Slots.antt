@@ -1,15 +1,18 @@
 -- What the slots of an arena lay down.
-use Rattle.std.specs.Prelude.{ℕ, List, Option, slice_get, option_map, length}
+use Rattle.std.specs.Prelude.{ℕ, ◌≡◌, List, Option, Some, slice_get, option_map, length, if◌then◌else◌}
 use Rattle.std.specs.Str.{bytes_eq}
 use Rattle.indexmap.specs.IndexMap.{get_by}
 use Rattle.act_tree.specs.declared.arena.Slot.{Slot}
 use Rattle.act_tree.specs.declared.arena.Arena.{Arena}
-use Rattle.act_tree.specs.Provisions.{Provision}
-use Rattle.act_tree.specs.Arena.{Laid}
+use Rattle.act_tree.specs.Provisions.{Own, Provision}
+use Rattle.act_tree.specs.Arena.{Laid, provision_in}
 
 -- the provision of a slot
 abbrev pub provision_of : Slot → Provision
-provision_of s = record { wid = s.wid; own = record { element = s.element; num = s.num; heading = s.heading; content = s.content; refs = s.refs } }
+provision_of s = record {
+  wid = s.wid;
+  own = record { element = s.element; num = s.num; heading = s.heading; content = s.content; refs = s.refs };
+}
 
 -- what a slot lays down
 abbrev pub laid_of : Slot → Laid
@@ -23,6 +26,10 @@ laid slots i = option_map laid_of (slice_get slots i)
 abbrev pub at : Arena → ℕ → Option Laid
 at arena i = laid arena.slots.items i
 
+-- what the provision of a number says of itself
+abbrev pub own_at : Arena → ℕ → Own
+own_at arena i = (provision_in (at arena i)).own
+
 -- the number to which an arena's index leads from a wId
 abbrev pub number : Arena → List ℕ → Option ℕ
 number arena wid = get_by (λ k. bytes_eq wid k.items) arena.numbers
@@ -30,3 +37,7 @@ number arena wid = get_by (λ k. bytes_eq wid k.items) arena.numbers
 -- how many slots an arena has
 abbrev pub size : Arena → ℕ
 size arena = length arena.slots.items
+
+-- the index leads from a wId to a number, and from others to where it led before
+abbrev pub LeadsTo : Arena → Arena → List ℕ → ℕ → Type 0
+LeadsTo old new wid id = (w : List ℕ) → number new w ≡ (if bytes_eq wid w then Some id else number old w)

@@ -52,7 +52,13 @@ repeats seen (x ∷ xs) = is_among x seen || repeats (with_eid seen x) xs
 -- after a provision of this eId at this depth
 abbrev pub noted : Surveyed → List ℕ → Bool → ℕ → Surveyed
 noted s eid long depth =
-    record { eids = with_eid s.eids eid; twice = s.twice || is_among eid s.eids; count = next_to s.count; deepest = max s.deepest depth; long = s.long || long }
+    record {
+      eids = with_eid s.eids eid;
+      twice = s.twice || is_among eid s.eids;
+      count = next_to s.count;
+      deepest = max s.deepest depth;
+      long = s.long || long;
+    }
 
 -- after provisions that stand below so many levels, at every depth
 abbrev mutual
@@ -63,7 +69,8 @@ abbrev mutual
 
   pub all_surveyed : Numbering → Option (List ℕ) → ℕ → Branches Own → Surveyed → Surveyed
   all_surveyed numbering above levels no_branches s = s
-  all_surveyed numbering above levels (more_branches b bs) s = all_surveyed numbering above levels bs (surveyed numbering above levels b s)
+  all_surveyed numbering above levels (more_branches b bs) s =
+      all_surveyed numbering above levels bs (surveyed numbering above levels b s)
 
 -- the first fault that a survey found
 abbrev pub fault_in : Surveyed → Option BuildFault

@@ -11,6 +11,10 @@ pub record TreeValue : Type 0 where
   pub body : Branches Provision
   pub changes : ℕ
 
+-- a tree as enacted, which no change was made to
+abbrev pub unchanged : Numbering → Branches Provision → TreeValue
+unchanged numbering body = record { numbering = numbering; body = body; changes = 0 }
+
 -- one more change; the count stands still at 2^64 - 1
 abbrev pub one_more : ℕ → ℕ
 one_more changes = min (changes + 1) (2 ^ 64 - 1)

@@ -1,5 +1,5 @@
-//! Arena: the provisions of a tree in slots, each with the number of the one above it and the numbers of those below it,
-//! and an index that leads from a wId to a number. Slots are added and never taken away.
+//! Arena: the provisions of a tree in slots, each with the number of the one above it and the numbers of those below
+//! it, and an index that leads from a wId to a number. Slots are added and never taken away.
 
 ghost use Rattle.std.specs.Prelude.{◌≡◌, ◌==◌, not, filter, ℕ, List, [], ◌∷◌, ◌++◌, ◌<◌, ◌≤◌, ◌^◌, IfOk, OnOk, OnErr, Some, None, length, slice_set, slice_index_or, if◌then◌else◌};
 ghost use Rattle.std.specs.Str.{bytes_eq};
@@ -50,7 +50,8 @@ pub fn note(
 ) -> Result<(), Memory>
     ensures noted { OnOk result ((w : List ℕ) → get_by (λ k. bytes_eq w k.items) numbers.new
         ≡ (if bytes_eq wid.now w then Some id else get_by (λ k. bytes_eq w k.items) numbers.old)) }
-    ensures kept { OnErr result ((w : List ℕ) → get_by (λ k. bytes_eq w k.items) numbers.new ≡ get_by (λ k. bytes_eq w k.items) numbers.old) }
+    ensures kept { OnErr result ((w : List ℕ)
+        → get_by (λ k. bytes_eq w k.items) numbers.new ≡ get_by (λ k. bytes_eq w k.items) numbers.old) }
 {
     numbers.insert(wid.as_bytes().to_vec(alloc)?, id)?;
     Ok(())
@@ -67,7 +68,8 @@ fn leave_out(numbers: &mut Vec<NodeId>, id: NodeId)
 pub fn copy_numbers(
     numbers: &IndexMap<Vec<u8>, NodeId>,
 ) -> Result<IndexMap<Vec<u8>, NodeId>, Memory>
-    ensures { IfOk result (λ copy. (w : List ℕ) → get_by (λ k. bytes_eq w k.items) copy ≡ get_by (λ k. bytes_eq w k.items) numbers.now) }
+    ensures { IfOk result (λ copy. (w : List ℕ)
+        → get_by (λ k. bytes_eq w k.items) copy ≡ get_by (λ k. bytes_eq w k.items) numbers.now) }
 {
     Ok(numbers.clone()?)
 }
@@ -97,7 +99,7 @@ impl Arena {
     ghost use Rattle.std.specs.List.{All, list_any};
     ghost use Rattle.act_tree.specs.Arena.{climbs, above_in, below_in};
     ghost use Rattle.act_tree.specs.TakenOff.{with_above, with_below, IsTakenOff, IsEmptied};
-    ghost use Rattle.act_tree.specs.Slots.{at, number, size, laid_of};
+    ghost use Rattle.act_tree.specs.Slots.{at, number, size, laid_of, LeadsTo};
 
     /// No provisions. It takes no memory.
     pub fn new(alloc: Global) -> Arena
@@ -114,8 +116,7 @@ impl Arena {
     pub fn add(&mut self, alloc: Global, slot: Slot) -> Result<NodeId, Memory>
         ensures id { IfOk result (λ id. id ≡ length self.old.slots.items) }
         ensures slots { OnOk result (self.new.slots.items ≡ self.old.slots.items ++ slot ∷ []) }
-        ensures numbers { OnOk result ((w : List ℕ) → number self.new w
-            ≡ (if bytes_eq slot.wid w then Some (length self.old.slots.items) else number self.old w)) }
+        ensures numbers { OnOk result (LeadsTo self.old self.new slot.wid (length self.old.slots.items)) }
         ensures fits { OnOk result (size self.new ≤ 2 ^ 32) }
         ensures slots_kept { OnErr result (self.new.slots.items ≡ self.old.slots.items) }
         ensures numbers_kept { OnErr result ((w : List ℕ) → number self.new w ≡ number self.old w) }
@@ -131,7 +132,8 @@ impl Arena {
     pub fn set_below(&mut self, id: NodeId, below: Vec<NodeId>)
         requires { id < length self.old.slots.items }
         ensures numbers { self.new.numbers ≡ self.old.numbers }
-        ensures slots { (s : Slot) → s ≡ slice_index_or self.old.slots.items id s → self.new.slots.items ≡ slice_set self.old.slots.items id (record s { below = below }) }
+        ensures slots { (s : Slot) → s ≡ slice_index_or self.old.slots.items id s
+            → self.new.slots.items ≡ slice_set self.old.slots.items id (record s { below = below }) }
     {
         self.slots[id.place()].below = below;
     }
@@ -189,13 +191,15 @@ impl Arena {
         requires { above < size self.old }
         ensures numbers { self.new.numbers ≡ self.old.numbers }
         ensures size { size self.new ≡ size self.old }
-        ensures here { at self.new above ≡ with_below (filter (λ k. not (k == id)) (below_in (at self.old above))) (at self.old above) }
+        ensures here { at self.new above
+            ≡ with_below (filter (λ k. not (k == id)) (below_in (at self.old above))) (at self.old above) }
         ensures others { (k : ℕ) → (k ≡ above → ⊥) → at self.new k ≡ at self.old k }
     {
         leave_out(&mut self.slots[above.place()].below, id);
     }
 
-    /// Takes a number off: it is right above itself from now on, and the one above it lists it no more. It needs no memory.
+    /// Takes a number off: it is right above itself from now on, and the one above it lists it no more. It needs no
+    /// memory.
     pub fn take_off(&mut self, id: NodeId)
         requires within { id < size self.old }
         requires above { above_in (at self.old id) < size self.old }

@@ -52,9 +52,8 @@ impl Arena {
     ghost use Rattle.std.specs.Prelude.{ℕ, List, ◌<◌, ◌^◌, OnOk, OnErr, Some, ◌==◌, false};
     ghost use Rattle.std.specs.List.{All, list_any};
     ghost use Rattle.act_tree.specs.Branches.{branches_of};
-    ghost use Rattle.act_tree.specs.declared.surveying.TheConstants as constants;
     ghost use Rattle.act_tree.specs.Arena.{below_in};
-    ghost use Rattle.act_tree.specs.Eids.{all_enacted};
+    ghost use Rattle.act_tree.specs.Brought.{brought_under};
     ghost use Rattle.act_tree.specs.Grafted.{IsDiscarded, IsGrafted, IsReplanted, IsStopped};
     ghost use Rattle.act_tree.specs.Planted.{HasGrown};
     ghost use Rattle.act_tree.specs.Slots.{at, number, size};
@@ -98,8 +97,10 @@ impl Arena {
     ) -> Result<(), Memory>
         requires within { parent < size self.old }
         requires place { place ≤ length (below_in (at self.old parent)) }
-        ensures grafted { OnOk result (IsGrafted self.old self.new parent place (all_enacted constants.NONE_THROUGHOUT (Some name.now) (branches_of nodes.now))) }
-        ensures kept { OnErr result (HasGrown self.old self.new (all_wids (all_enacted constants.NONE_THROUGHOUT (Some name.now) (branches_of nodes.now)))) }
+        ensures grafted { OnOk result (IsGrafted self.old self.new parent place
+            (brought_under name.now (branches_of nodes.now))) }
+        ensures kept { OnErr result (HasGrown self.old self.new
+            (all_wids (brought_under name.now (branches_of nodes.now)))) }
     {
         let ids = lay_all(alloc, self, NONE_THROUGHOUT, parent, Some(name), nodes)?;
         let below = put_numbers(alloc, &self.slots[parent.place()].below, place, &ids)?;
@@ -107,8 +108,8 @@ impl Arena {
         Ok(())
     }
 
-    /// Lays nodes down below a number, and puts them among those below it, behind the first so many. `Err`: there was not
-    /// enough memory, and what was laid down is taken off.
+    /// Lays nodes down below a number, and puts them among those below it, behind the first so many. `Err`: there was
+    /// not enough memory, and what was laid down is taken off.
     pub fn graft(
         &mut self,
         alloc: Global,
@@ -120,8 +121,10 @@ impl Arena {
         requires within { parent < size self.old }
         requires place { place ≤ length (below_in (at self.old parent)) }
         requires fits { size self.old ≤ 2 ^ 32 }
-        ensures grafted { OnOk result (IsGrafted self.old self.new parent place (all_enacted constants.NONE_THROUGHOUT (Some name.now) (branches_of nodes.now))) }
-        ensures kept { OnErr result (IsStopped self.old self.new (all_wids (all_enacted constants.NONE_THROUGHOUT (Some name.now) (branches_of nodes.now)))) }
+        ensures grafted { OnOk result (IsGrafted self.old self.new parent place
+            (brought_under name.now (branches_of nodes.now))) }
+        ensures kept { OnErr result (IsStopped self.old self.new
+            (all_wids (brought_under name.now (branches_of nodes.now)))) }
     {
         let start = self.slots.len();
         let grown = self.grow(alloc, parent, place, name, nodes);
@@ -131,15 +134,17 @@ impl Arena {
         grown
     }
 
-    /// Lays nodes down below the root, in the place of all that was below it. `Err`: there was not enough memory, and what
-    /// was laid down is taken off.
+    /// Lays nodes down below the root, in the place of all that was below it. `Err`: there was not enough memory, and
+    /// what was laid down is taken off.
     pub fn replant(&mut self, alloc: Global, name: &str, nodes: &Nodes) -> Result<(), Memory>
         requires root { 0 < size self.old }
         requires within { All (λ k. k < size self.old) (below_in (at self.old 0)) }
         requires apart { list_any (λ j. j == 0) (below_in (at self.old 0)) ≡ false }
         requires fits { size self.old ≤ 2 ^ 32 }
-        ensures replanted { OnOk result (IsReplanted self.old self.new (all_enacted constants.NONE_THROUGHOUT (Some name.now) (branches_of nodes.now))) }
-        ensures kept { OnErr result (IsStopped self.old self.new (all_wids (all_enacted constants.NONE_THROUGHOUT (Some name.now) (branches_of nodes.now)))) }
+        ensures replanted { OnOk result (IsReplanted self.old self.new
+            (brought_under name.now (branches_of nodes.now))) }
+        ensures kept { OnErr result (IsStopped self.old self.new
+            (all_wids (brought_under name.now (branches_of nodes.now)))) }
     {
         let start = self.slots.len();
         match lay_all(

@@ -6,7 +6,7 @@ ghost use Rattle.act_tree.specs.Changes.{any_holds, changed, renumbered, with_co
 ghost use Rattle.act_tree.specs.EidLevels.{has_beginning_twice, has_siblings_alike};
 ghost use Rattle.act_tree.specs.EidsOfNodes.{IsNodeOf};
 ghost use Rattle.act_tree.specs.EidsOfWids.{eid_of_wid};
-ghost use Rattle.act_tree.specs.Faults.{first_cause, all_eids, all_owns};
+ghost use Rattle.act_tree.specs.Faults.{first_cause, eids_of};
 ghost use Rattle.act_tree.specs.Provisions.{Own};
 ghost use Rattle.act_tree.specs.Seen.{tree_view};
 ghost use Rattle.act_tree.specs.Wids.{all_wids, is_among, one_twice};
@@ -26,12 +26,14 @@ pub fn missing_changes_nothing(tree: &Tree, wid: &str)
 
 /// Other nums leave the wIds of a text as they are, in order.
 pub fn nums_keep_wids(tree: &Tree)
-    ensures { (pairs : List (List ℕ × List ℕ)) → all_wids (renumbered pairs (tree_view tree.now).body) ≡ all_wids (tree_view tree.now).body }
+    ensures { let body = (tree_view tree.now).body in
+        (pairs : List (List ℕ × List ℕ)) → all_wids (renumbered pairs body) ≡ all_wids body }
 {}
 
 /// So does another content of a provision.
 pub fn contents_keep_wids(tree: &Tree, wid: &str, content: &str)
-    ensures { all_wids (changed (with_content content.now) wid.now (tree_view tree.now).body) ≡ all_wids (tree_view tree.now).body }
+    ensures { let body = (tree_view tree.now).body in
+        all_wids (changed (with_content content.now) wid.now body) ≡ all_wids body }
 {}
 
 /// The eIds of a well-formed tree are distinct: two nodes of one eId are one node.
@@ -42,24 +44,24 @@ pub fn eids_are_distinct(tree: &Tree, eid: &str, one: NodeId, other: NodeId)
     ensures { one ≡ other }
 {}
 
-/// The eId of a node is among those of the text, so that a search for it finds a node: by the law above, in a well-formed
-/// tree that node.
+/// The eId of a node is among those of the text, so that a search for it finds a node: by the law above, in a
+/// well-formed tree that node.
 pub fn eid_of_a_node_is_found(tree: &Tree, eid: &str, id: NodeId)
     requires { IsNodeOf tree.now eid.now id }
-    ensures { is_among eid.now (all_eids (tree_view tree.now).numbering None (all_owns (tree_view tree.now).body)) ≡ true }
+    ensures { is_among eid.now (eids_of (tree_view tree.now)) ≡ true }
 {}
 
 /// The eIds of the wIds of a text, one after another, are those of its provisions in the order of the text.
 pub fn eids_are_those_of_wids(tree: &Tree)
     ensures { map (eid_of_wid (tree_view tree.now)) (all_wids (tree_view tree.now).body)
-        ≡ map (λ eid. Some eid) (all_eids (tree_view tree.now).numbering None (all_owns (tree_view tree.now).body)) }
+        ≡ map (λ eid. Some eid) (eids_of (tree_view tree.now)) }
 {}
 
-/// The eIds of a text are distinct exactly where the levels that begin one are distinct in the whole text, and those that
-/// begin none among siblings. (An eId is the list of levels from the nearest provision that begins one, and no level has `__`
-/// in it, so equal texts are equal lists.)
+/// The eIds of a text are distinct exactly where the levels that begin one are distinct in the whole text, and those
+/// that begin none among siblings. (An eId is the list of levels from the nearest provision that begins one, and no
+/// level has `__` in it, so equal texts are equal lists.)
 pub fn eids_differ_where_levels_do(tree: &Tree)
-    ensures { one_twice (all_eids (tree_view tree.now).numbering None (all_owns (tree_view tree.now).body))
+    ensures { one_twice (eids_of (tree_view tree.now))
         ≡ (has_beginning_twice (tree_view tree.now) || has_siblings_alike (tree_view tree.now)) }
 {}
 

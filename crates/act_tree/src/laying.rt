@@ -26,7 +26,8 @@ fn slot_of(
     wid: Option<&str>,
     node: &NodeSpec,
 ) -> Result<Slot, Memory>
-    ensures provision { IfOk result (λ s. provision_of s ≡ record { wid = spec.eid_below numbering (option_map (λ s. s.now) wid.entry) node.now.element node.now.num; own = own_of node.now }) }
+    ensures provision { let eid = option_map (λ s. s.now) wid.entry in IfOk result (λ s. provision_of s
+        ≡ record { wid = spec.eid_below numbering eid node.now.element node.now.num; own = own_of node.now }) }
     ensures num { IfOk result (λ s. is_num s.num ≡ true) }
     ensures above { IfOk result (λ s. s.above ≡ above) }
     ensures below { IfOk result (λ s. s.below.items ≡ []) }
@@ -83,10 +84,10 @@ pub fn lay(
 ) -> Result<NodeId, Memory>
     requires below { slot.below.items ≡ [] }
     requires num { is_num slot.num ≡ true }
-    ensures laid { IfOk result (λ id. IsLaid arena.old arena.new slot.above id
-        (branch (provision_of slot) (all_enacted numbering (option_map (λ s. s.now) wid.entry) (branches_of children.now)))) }
-    ensures kept { OnErr result (HasGrown arena.old arena.new
-        (wids (branch (provision_of slot) (all_enacted numbering (option_map (λ s. s.now) wid.entry) (branches_of children.now))))) }
+    ensures laid { let eid = option_map (λ s. s.now) wid.entry in IfOk result (λ id. IsLaid arena.old arena.new
+        slot.above id (branch (provision_of slot) (all_enacted numbering eid (branches_of children.now)))) }
+    ensures kept { let eid = option_map (λ s. s.now) wid.entry in OnErr result (HasGrown arena.old arena.new
+        (wids (branch (provision_of slot) (all_enacted numbering eid (branches_of children.now))))) }
 {
     let id = arena.add(alloc, slot)?;
     let below = lay_all(alloc, arena, numbering, id, wid, children)?;
@@ -94,8 +95,8 @@ pub fn lay(
     Ok(id)
 }
 
-/// Lays down nodes below the number `above`, which has the wId `wid`. `Err`: there was not enough memory; some of them may
-/// have been laid down behind what the arena had.
+/// Lays down nodes below the number `above`, which has the wId `wid`. `Err`: there was not enough memory; some of them
+/// may have been laid down behind what the arena had.
 #[cycle(laying)]
 pub fn lay_all(
     alloc: Global,

@@ -3,8 +3,8 @@
 ghost use Rattle.std.specs.Prelude.{◌≡◌, [], ◌∷◌, true, map, OnOk, IfOk};
 ghost use Rattle.std.specs.List.{All};
 ghost use Rattle.act_tree.specs.Branches.{branches_of};
-ghost use Rattle.act_tree.specs.EidLevels.{levels_on};
-ghost use Rattle.act_tree.specs.Seen.{tree_view, has_node, branch_at};
+ghost use Rattle.act_tree.specs.LevelsOfNodes.{levels_at};
+ghost use Rattle.act_tree.specs.Seen.{has_node};
 ghost use Rattle.act_tree.specs.Surveys.{gathered, repeats};
 ghost use Rattle.act_tree.specs.Wids.{one_twice};
 
@@ -21,8 +21,8 @@ fn note_level(
     id: NodeId,
 ) -> Result<bool, Memory>
     requires { has_node tree.now id ≡ true }
-    ensures noted { OnOk result (levels.new.keys ≡ gathered levels.old.keys (levels_on (tree_view tree.now).numbering (branches_of (branch_at tree.now id ∷ [])))) }
-    ensures again { IfOk result (λ again. again ≡ repeats levels.old.keys (levels_on (tree_view tree.now).numbering (branches_of (branch_at tree.now id ∷ [])))) }
+    ensures noted { OnOk result (levels.new.keys ≡ gathered levels.old.keys (levels_at tree.now (id ∷ []))) }
+    ensures again { IfOk result (λ again. again ≡ repeats levels.old.keys (levels_at tree.now (id ∷ []))) }
 {
     let slot = tree.slot(id);
     if tree.numbering().has(slot.element) {
@@ -36,7 +36,7 @@ fn note_level(
 /// Whether two of these nodes begin no eId and have one level.
 pub fn are_alike(alloc: Global, tree: &Tree, ids: &[NodeId]) -> Result<bool, Memory>
     requires { All (λ id. has_node tree.now id ≡ true) ids.now }
-    ensures { IfOk result (λ alike. alike ≡ one_twice (levels_on (tree_view tree.now).numbering (branches_of (map (branch_at tree.now) ids.now)))) }
+    ensures { IfOk result (λ alike. alike ≡ one_twice (levels_at tree.now ids.now)) }
 {
     let mut levels = IndexSet::new(alloc);
     for id in ids {

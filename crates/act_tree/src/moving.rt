@@ -25,7 +25,7 @@ impl Arena {
     ghost use Rattle.std.specs.List.{All};
     ghost use Rattle.act_tree.specs.Arena.{above_in, below_in, provision_in};
     ghost use Rattle.act_tree.specs.Moved.{CanJoin, IsFilled, IsJoined, IsSettled};
-    ghost use Rattle.act_tree.specs.Slots.{at, size};
+    ghost use Rattle.act_tree.specs.Slots.{at, own_at, size};
 
     /// The number right behind one among those right below the number above it.
     pub fn next(&self, id: NodeId) -> Option<NodeId>
@@ -41,7 +41,7 @@ impl Arena {
     pub fn refs_of_both(&self, alloc: Global, id: NodeId, next: NodeId) -> Result<Refs, Memory>
         requires within { id < size self.now }
         requires next { next < size self.now }
-        ensures { IfOk result (λ refs. refs ≡ (provision_in (at self.now id)).own.refs ++ (provision_in (at self.now next)).own.refs) }
+        ensures { IfOk result (λ refs. refs ≡ (own_at self.now id).refs ++ (own_at self.now next).refs) }
     {
         self.slots[id.place()]
             .refs
@@ -64,7 +64,8 @@ impl Arena {
         requires { id < size self.old }
         ensures numbers { self.new.numbers ≡ self.old.numbers }
         ensures size { size self.new ≡ size self.old }
-        ensures filled { IsFilled (at self.old) (at self.new) id (record (provision_in (at self.old id)).own { content = content; refs = refs }) below.items }
+        ensures filled { IsFilled (at self.old) (at self.new) id
+            (record (own_at self.old id) { content = content; refs = refs }) below.items }
     {
         let slot = &mut self.slots[id.place()];
         slot.content = content;
@@ -91,7 +92,8 @@ impl Arena {
         requires { CanJoin (at self.old) (size self.old) id next below.items }
         ensures numbers { self.new.numbers ≡ self.old.numbers }
         ensures size { size self.new ≡ size self.old }
-        ensures joined { IsJoined (at self.old) (at self.new) id next (record (provision_in (at self.old id)).own { content = content; refs = refs }) below.items }
+        ensures joined { IsJoined (at self.old) (at self.new) id next
+            (record (own_at self.old id) { content = content; refs = refs }) below.items }
     {
         self.take_off(next);
         self.fill(id, content, refs, below);

@@ -38,7 +38,7 @@ impl Arena {
     ghost use Rattle.act_tree.specs.Brought as brought;
     ghost use Rattle.act_tree.specs.Moved.{IsFilled};
     ghost use Rattle.act_tree.specs.Parted.{CanPart, IsAddedBehind, IsParted};
-    ghost use Rattle.act_tree.specs.Slots.{at, number, size, laid_of, provision_of};
+    ghost use Rattle.act_tree.specs.Slots.{at, number, size, laid_of, provision_of, own_at, LeadsTo};
     ghost use Rattle.act_tree.specs.TakenOff.{with_below};
 
     /// The second part of a provision, with all but the first so many of its children.
@@ -54,7 +54,8 @@ impl Arena {
     ) -> Result<Slot, Memory>
         requires within { id < size self.now }
         requires place { first_child ≤ length (below_in (at self.now id)) }
-        ensures provision { IfOk result (λ s. provision_of s ≡ brought.second_part by (provision_in (at self.now id)).own.element num.now heading tail) }
+        ensures provision { IfOk result (λ s. provision_of s
+            ≡ brought.second_part by (own_at self.now id).element num.now heading tail) }
         ensures num { IfOk result (λ s. is_num s.num ≡ true) }
         ensures above { IfOk result (λ s. s.above ≡ above_in (at self.now id)) }
         ensures below { IfOk result (λ s. s.below.items ≡ drop first_child (below_in (at self.now id))) }
@@ -97,7 +98,8 @@ impl Arena {
         requires { id < size self.old }
         ensures numbers { self.new.numbers ≡ self.old.numbers }
         ensures size { size self.new ≡ size self.old }
-        ensures filled { IsFilled (at self.old) (at self.new) id (record (provision_in (at self.old id)).own { content = content }) (take first_child (below_in (at self.old id))) }
+        ensures filled { IsFilled (at self.old) (at self.new) id
+            (record (own_at self.old id) { content = content }) (take first_child (below_in (at self.old id))) }
     {
         let slot = &mut self.slots[id.place()];
         slot.content = content;
@@ -110,7 +112,7 @@ impl Arena {
         requires above { above_in (at self.old id) < size self.old }
         ensures id { IfOk result (λ n. n ≡ size self.old) }
         ensures added { OnOk result (IsAddedBehind (at self.old) (at self.new) id (size self.old) (laid_of slot)) }
-        ensures numbers { OnOk result ((w : List ℕ) → number self.new w ≡ (if bytes_eq slot.wid w then Some (size self.old) else number self.old w)) }
+        ensures numbers { OnOk result (LeadsTo self.old self.new slot.wid (size self.old)) }
         ensures sizes { OnOk result (size self.new ≡ size self.old + 1) }
         ensures fits { OnOk result (size self.new ≤ 2 ^ 32) }
         ensures slots_kept { OnErr result (self.new.slots.items ≡ self.old.slots.items) }
@@ -124,8 +126,8 @@ impl Arena {
         Ok(added)
     }
 
-    /// Parts a provision: it has another content and the first so many of those right below it, and right behind it stands
-    /// its second part. `Err`: there was not enough memory, and nothing has changed.
+    /// Parts a provision: it has another content and the first so many of those right below it, and right behind it
+    /// stands its second part. `Err`: there was not enough memory, and nothing has changed.
     pub fn part(
         &mut self,
         alloc: Global,
@@ -135,8 +137,9 @@ impl Arena {
         second: Slot,
     ) -> Result<(), Memory>
         requires { CanPart (at self.old) (size self.old) id second.below.items }
-        ensures parted { OnOk result (IsParted (at self.old) (at self.new) id (size self.old) (record (provision_in (at self.old id)).own { content = head }) (laid_of second) first_child) }
-        ensures numbers { OnOk result ((w : List ℕ) → number self.new w ≡ (if bytes_eq second.wid w then Some (size self.old) else number self.old w)) }
+        ensures parted { OnOk result (IsParted (at self.old) (at self.new) id (size self.old)
+            (record (own_at self.old id) { content = head }) (laid_of second) first_child) }
+        ensures numbers { OnOk result (LeadsTo self.old self.new second.wid (size self.old)) }
         ensures sizes { OnOk result (size self.new ≡ size self.old + 1) }
         ensures fits { OnOk result (size self.new ≤ 2 ^ 32) }
         ensures slots_kept { OnErr result (self.new.slots.items ≡ self.old.slots.items) }

@@ -9,14 +9,15 @@ impl Arena {
     ghost use Rattle.std.specs.Prelude.{◌≡◌, ◌<◌};
     ghost use Rattle.act_tree.specs.Arena.{provision_in};
     ghost use Rattle.act_tree.specs.Restated.{with_own, IsRestated};
-    ghost use Rattle.act_tree.specs.Slots.{at, size};
+    ghost use Rattle.act_tree.specs.Slots.{at, own_at, size};
 
     /// Gives a provision another content.
     pub fn set_content(&mut self, id: NodeId, content: Text)
         requires { id < size self.old }
         ensures numbers { self.new.numbers ≡ self.old.numbers }
         ensures size { size self.new ≡ size self.old }
-        ensures restated { IsRestated (at self.old) (at self.new) id (record (provision_in (at self.old id)).own { content = content }) }
+        ensures restated { IsRestated (at self.old) (at self.new) id
+            (record (own_at self.old id) { content = content }) }
     {
         self.slots[id.place()].content = content;
     }
@@ -26,7 +27,7 @@ impl Arena {
         requires { id < size self.old }
         ensures numbers { self.new.numbers ≡ self.old.numbers }
         ensures size { size self.new ≡ size self.old }
-        ensures restated { IsRestated (at self.old) (at self.new) id (record (provision_in (at self.old id)).own { num = num }) }
+        ensures restated { IsRestated (at self.old) (at self.new) id (record (own_at self.old id) { num = num }) }
     {
         self.slots[id.place()].num = num;
     }

@@ -9,8 +9,8 @@ use eid_paths::Numbering;
 use indexmap::IndexSet;
 use std::alloc::Global;
 
-/// The eIds of provisions, whether one stands twice, how many provisions there are, how deep the deepest is, and whether a
-/// heading or content is too long. Both numbers stand still at 2^32 - 1.
+/// The eIds of provisions, whether one stands twice, how many provisions there are, how deep the deepest is, and
+/// whether a heading or content is too long. Both numbers stand still at 2^32 - 1.
 #[derive(Debug, Drop)]
 pub struct Survey {
     eids: IndexSet<Text>,
@@ -50,8 +50,8 @@ impl Survey {
         content: &Text,
         depth: u32,
     ) -> Result<(), Memory>
-        ensures { OnOk result (seen self.new
-            ≡ noted (seen self.old) eid (nat_lt MAX_TEXT_BYTES (length heading.now) || nat_lt MAX_TEXT_BYTES (length content.now)) depth) }
+        ensures { let long = nat_lt MAX_TEXT_BYTES (length heading.now) || nat_lt MAX_TEXT_BYTES (length content.now) in
+            OnOk result (seen self.new ≡ noted (seen self.old) eid long depth) }
     {
         let added = self.eids.insert(eid)?;
         self.twice = self.twice || !added;

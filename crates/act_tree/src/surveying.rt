@@ -25,8 +25,8 @@ fn survey(
     levels: u32,
     nodes: &Nodes,
 ) -> Result<(), Memory>
-    ensures { OnOk result (seen survey_so_far.new
-        ≡ all_surveyed numbering (option_map (λ s. s.now) above.entry) levels (branches_of nodes.now) (seen survey_so_far.old)) }
+    ensures { let eid = option_map (λ s. s.now) above.entry in OnOk result (seen survey_so_far.new
+        ≡ all_surveyed numbering eid levels (branches_of nodes.now) (seen survey_so_far.old)) }
 {
     let depth = levels.saturating_add(1);
     for node in &nodes.items {

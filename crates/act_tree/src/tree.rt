@@ -102,18 +102,19 @@ impl Tree {
     ghost use Rattle.act_tree.specs.EidLevels.{levels_on};
     ghost use Rattle.act_tree.specs.EidsOfNodes.{IsNodeOf};
     ghost use Rattle.act_tree.specs.EidsOfWids.{eid_of_wid, has_eid, level_of_own};
-    ghost use Rattle.act_tree.specs.Trees.{one_more, changed_once};
+    ghost use Rattle.act_tree.specs.Trees.{unchanged};
     ghost use Rattle.act_tree.specs.NodesStay.{NodesStay};
     ghost use Rattle.act_tree.specs.Wids.{all_wids, one_twice};
-    ghost use Rattle.act_tree.specs.Seen.{tree_view, has_node, provision_at, children_at, branch_at, below_at};
+    ghost use Rattle.act_tree.specs.Seen.{tree_view, has_node, provision_at, children_at, branch_at, below_at, with_body, once_changed, changed_at, removed_at, substituted_at, grafted_at, nums_by_wid, next_at};
     ghost use Rattle.std.specs.Prelude.{◌↔◌, [], ◌∷◌, drop};
     ghost use Rattle.act_tree.specs.Arena.{above_in};
     ghost use Rattle.act_tree.specs.Changes.{found, root_wid};
 
-    /// The tree of an act as enacted: the wId of each provision is the eId that it has there. `Err`: the first fault, or
-    /// want of memory.
+    /// The tree of an act as enacted: the wId of each provision is the eId that it has there. `Err`: the first fault,
+    /// or want of memory.
     pub fn build(alloc: Global, body: &Nodes, numbering: Numbering) -> Result<Tree, BuildFail>
-        ensures tree { IfOk result (λ t. tree_view t ≡ record { numbering = numbering; body = all_enacted numbering None (branches_of body.now); changes = 0 }) }
+        ensures tree { IfOk result (λ t. tree_view t
+            ≡ unchanged numbering (all_enacted numbering None (branches_of body.now))) }
         ensures fits { OnOk result (first_fault numbering (branches_of body.now) ≡ None) }
         ensures fault { IfErr result (FailsBy (first_fault numbering (branches_of body.now))) }
     {
@@ -126,7 +127,8 @@ impl Tree {
     // The tree of an act as enacted, where no two of its provisions have one eId.
     fn plant(alloc: Global, body: &Nodes, numbering: Numbering) -> Result<Tree, Memory>
         requires { one_twice (all_wids (all_enacted numbering None (branches_of body.now))) ≡ false }
-        ensures { IfOk result (λ t. tree_view t ≡ record { numbering = numbering; body = all_enacted numbering None (branches_of body.now); changes = 0 }) }
+        ensures { IfOk result (λ t. tree_view t
+            ≡ unchanged numbering (all_enacted numbering None (branches_of body.now))) }
     {
         let mut arena = Arena::new(alloc);
         let _root = lay(alloc, &mut arena, root_slot(alloc)?, numbering, None, body)?;
@@ -167,14 +169,15 @@ impl Tree {
         NodeId::root()
     }
 
-    /// The node of a wId, which is `body` at the root. `None`: the tree has none. It is one look-up, and as many steps as
-    /// the node is deep.
+    /// The node of a wId, which is `body` at the root. `None`: the tree has none. It is one look-up, and as many steps
+    /// as the node is deep.
     pub fn find(&self, wid: &[u8]) -> Option<NodeId>
         ensures found { is_some result ≡ is_in wid.now (tree_view self.now).body }
         ensures wid { IfSome result (λ id. (provision_at self.now id).wid ≡ wid.now) }
         ensures node { IfSome result (λ id. has_node self.now id ≡ true) }
         ensures root { IfSome result (λ id. (id ≡ 0) ↔ (wid.now ≡ root_wid)) }
-        ensures branch { IfSome result (λ id. (id ≡ 0 → ⊥) → found wid.now (tree_view self.now).body ≡ Some (branch_at self.now id)) }
+        ensures branch { IfSome result (λ id. (id ≡ 0 → ⊥)
+            → found wid.now (tree_view self.now).body ≡ Some (branch_at self.now id)) }
     {
         let id = *self.arena.numbers.get(wid)?;
         if self.arena.climbs(id) {
@@ -188,7 +191,7 @@ impl Tree {
     pub fn next(&self, id: NodeId) -> Option<NodeId>
         requires node { has_node self.now id ≡ true }
         requires provision { id ≡ 0 → ⊥ }
-        ensures branch { option_map (branch_at self.now) result ≡ next_of (provision_at self.now id).wid (tree_view self.now).body }
+        ensures branch { option_map (branch_at self.now) result ≡ next_at self.now id }
         ensures node { IfSome result (λ next. has_node self.now next ≡ true) }
         ensures provision { IfSome result (λ next. next ≡ 0 → ⊥) }
     {
@@ -199,7 +202,7 @@ impl Tree {
     pub fn set_content<L: Ledger>(&mut self, id: NodeId, content: Text, steps: &mut Steps<L>)
         requires node { has_node self.old id ≡ true }
         requires provision { id ≡ 0 → ⊥ }
-        ensures tree { tree_view self.new ≡ changed_once (tree_view self.old) (changed (with_content content) (provision_at self.old id).wid (tree_view self.old).body) }
+        ensures tree { tree_view self.new ≡ once_changed self.old (changed_at self.old id (with_content content)) }
         ensures nodes { (k : ℕ) → has_node self.new k ≡ has_node self.old k }
         ensures wids { (k : ℕ) → (provision_at self.new k).wid ≡ (provision_at self.old k).wid }
         ensures step { steps.new ≡ steps.old + 1 }
@@ -209,12 +212,13 @@ impl Tree {
         self.count_change();
     }
 
-    /// Gives nodes that are not the root other nums, each the first that pairs name for it. It is one change, and needs no
-    /// memory.
+    /// Gives nodes that are not the root other nums, each the first that pairs name for it. It is one change, and needs
+    /// no memory.
     pub fn set_nums<L: Ledger>(&mut self, pairs: &[(NodeId, Num)], steps: &mut Steps<L>)
         requires nodes { All (λ pair. has_node self.old pair.0 ≡ true) pairs.now }
         requires provisions { All (λ pair. pair.0 ≡ 0 → ⊥) pairs.now }
-        ensures tree { tree_view self.new ≡ changed_once (tree_view self.old) (renumbered (map (λ pair. ((provision_at self.old pair.0).wid, pair.1)) pairs.now) (tree_view self.old).body) }
+        ensures tree { tree_view self.new
+            ≡ once_changed self.old (renumbered (nums_by_wid self.old pairs.now) (tree_view self.old).body) }
         ensures nodes { (k : ℕ) → has_node self.new k ≡ has_node self.old k }
         ensures wids { (k : ℕ) → (provision_at self.new k).wid ≡ (provision_at self.old k).wid }
         ensures step { steps.new ≡ steps.old + 1 }
@@ -304,8 +308,9 @@ impl Tree {
         }
     }
 
-    /// The node of an eId; where more have it, one of them. `None`: no node has it. The root has no eId. Where the eId is also
-    /// the wId, as in an act as enacted, it is one look-up and the way up from there; else all nodes are searched.
+    /// The node of an eId; where more have it, one of them. `None`: no node has it. The root has no eId. Where the eId
+    /// is also the wId, as in an act as enacted, it is one look-up and the way up from there; else all nodes are
+    /// searched.
     pub fn find_eid(&self, alloc: Global, eid: &str) -> Result<Option<NodeId>, Memory>
         ensures found { IfOk result (λ o. is_some o ≡ has_eid eid.now (tree_view self.now)) }
         ensures node { IfOk result (λ o. IfSome o (IsNodeOf self.now eid.now)) }
@@ -325,20 +330,21 @@ impl Tree {
         count(self, self.children(self.root()))
     }
 
-    /// Whether two of the children of both nodes, of which neither is the root, begin no eId and have one level: as children
-    /// of one provision they would have one eId.
+    /// Whether two of the children of both nodes, of which neither is the root, begin no eId and have one level: as
+    /// children of one provision they would have one eId.
     pub fn children_alike(&self, alloc: Global, one: NodeId, other: NodeId) -> Result<bool, Memory>
         requires one { has_node self.now one ≡ true }
         requires other { has_node self.now other ≡ true }
-        ensures { IfOk result (λ alike. alike ≡ one_twice (levels_on (tree_view self.now).numbering (joined (below_at self.now one) (below_at self.now other)))) }
+        ensures { let below = joined (below_at self.now one) (below_at self.now other) in
+            IfOk result (λ alike. alike ≡ one_twice (levels_on (tree_view self.now).numbering below)) }
     {
         let below = self.arena.below_both(alloc, one, other)?;
         let alike = are_alike(alloc, self, below.as_slice())?;
         Ok(alike)
     }
 
-    /// The first cause for which the tree is not well-formed: two nodes have one eId, it is deeper than 12 levels, has more
-    /// than 4,096 nodes, or a heading or content of more than 16,384 bytes.
+    /// The first cause for which the tree is not well-formed: two nodes have one eId, it is deeper than 12 levels, has
+    /// more than 4,096 nodes, or a heading or content of more than 16,384 bytes.
     pub fn well_formed(&self, alloc: Global) -> Result<Option<Cause>, Memory>
         ensures { IfOk result (λ cause. cause ≡ first_cause (tree_view self.now)) }
     {
@@ -350,18 +356,19 @@ impl Tree {
 
     // The first fault of the tree.
     fn fault(&self, alloc: Global) -> Result<Option<BuildFault>, Memory>
-        ensures { IfOk result (λ fault. fault ≡ first_fault (tree_view self.now).numbering (all_owns (tree_view self.now).body)) }
+        ensures { IfOk result (λ fault. fault
+            ≡ first_fault (tree_view self.now).numbering (all_owns (tree_view self.now).body)) }
     {
         let mut found = Survey::new(alloc);
         survey(alloc, &mut found, self, None, 0, self.children(self.root()))?;
         Ok(found.fault())
     }
 
-    /// Takes a node away, with all that stands beneath it; of the root, all that stands beneath it. It is one change, and
-    /// needs no memory. What nodes say, and so their wIds, stays.
+    /// Takes a node away, with all that stands beneath it; of the root, all that stands beneath it. It is one change,
+    /// and needs no memory. What nodes say, and so their wIds, stays.
     pub fn remove<L: Ledger>(&mut self, id: NodeId, steps: &mut Steps<L>)
         requires { has_node self.old id ≡ true }
-        ensures tree { tree_view self.new ≡ record (tree_view self.old) { body = removed (provision_at self.old id).wid (tree_view self.old).body; changes = one_more (tree_view self.old).changes } }
+        ensures tree { tree_view self.new ≡ once_changed self.old (removed_at self.old id) }
         ensures says { (k : ℕ) → provision_at self.new k ≡ provision_at self.old k }
         ensures stay { NodesStay self.old self.new }
         ensures step { steps.new ≡ steps.old + 1 }
@@ -375,8 +382,9 @@ impl Tree {
         self.count_change();
     }
 
-    /// Puts nodes in the place of a node and of all that stands beneath it; of the root, in the place of what stands beneath
-    /// it. They get the wIds of the modification `by`. `Err`: there was not enough memory, and the tree is as it was.
+    /// Puts nodes in the place of a node and of all that stands beneath it; of the root, in the place of what stands
+    /// beneath it. They get the wIds of the modification `by`. `Err`: there was not enough memory, and the tree is as
+    /// it was.
     pub fn replace<L: Ledger>(
         &mut self,
         alloc: Global,
@@ -388,7 +396,8 @@ impl Tree {
         requires node { has_node self.old id ≡ true }
         requires payload { first_fault NONE_THROUGHOUT (branches_of nodes.now) ≡ None }
         requires fresh { has_brought by (tree_view self.old).body ≡ false }
-        ensures tree { OnOk result (tree_view self.new ≡ changed_once (tree_view self.old) (substituted (provision_at self.old id).wid (brought by (branches_of nodes.now)) (tree_view self.old).body)) }
+        ensures tree { OnOk result (tree_view self.new
+            ≡ once_changed self.old (substituted_at self.old id (brought by (branches_of nodes.now)))) }
         ensures kept { OnErr result (tree_view self.new ≡ tree_view self.old) }
         ensures stay { NodesStay self.old self.new }
         ensures step { steps.new ≡ steps.old + 1 }
@@ -418,7 +427,8 @@ impl Tree {
         requires place { place ≤ length (children_at self.old parent) }
         requires payload { first_fault NONE_THROUGHOUT (branches_of nodes.now) ≡ None }
         requires fresh { has_brought by (tree_view self.old).body ≡ false }
-        ensures tree { OnOk result (tree_view self.new ≡ changed_once (tree_view self.old) (grafted (provision_at self.old parent).wid place (brought by (branches_of nodes.now)) (tree_view self.old).body)) }
+        ensures tree { OnOk result (tree_view self.new
+            ≡ once_changed self.old (grafted_at self.old parent place (brought by (branches_of nodes.now)))) }
         ensures kept { OnErr result (tree_view self.new ≡ tree_view self.old) }
         ensures stay { NodesStay self.old self.new }
         ensures step { steps.new ≡ steps.old + 1 }
@@ -429,9 +439,9 @@ impl Tree {
         Ok(())
     }
 
-    /// Parts a node: it keeps its first so many children under the content `head`, and right behind it stands a node of the
-    /// same element with the others, and with the content `tail`, the num and the heading, but no refs. That node gets the
-    /// wId of the modification `by`. `Err`: there was not enough memory, and the tree is as it was.
+    /// Parts a node: it keeps its first so many children under the content `head`, and right behind it stands a node of
+    /// the same element with the others, and with the content `tail`, the num and the heading, but no refs. That node
+    /// gets the wId of the modification `by`. `Err`: there was not enough memory, and the tree is as it was.
     pub fn cut_node<L: Ledger>(
         &mut self,
         alloc: Global,
@@ -448,7 +458,8 @@ impl Tree {
         requires provision { id ≡ 0 → ⊥ }
         requires place { first_child ≤ length (children_at self.old id) }
         requires fresh { has_brought by (tree_view self.old).body ≡ false }
-        ensures tree { OnOk result (tree_view self.new ≡ changed_once (tree_view self.old) (changed (parted first_child head (second_part by (provision_at self.old id).own.element num heading tail)) (provision_at self.old id).wid (tree_view self.old).body)) }
+        ensures tree { OnOk result (tree_view self.new ≡ once_changed self.old (changed_at self.old id
+            (parted first_child head (second_part by (provision_at self.old id).own.element num heading tail)))) }
         ensures kept { OnErr result (tree_view self.new ≡ tree_view self.old) }
         ensures stay { NodesStay self.old self.new }
         ensures step { steps.new ≡ steps.old + 1 }
@@ -461,8 +472,8 @@ impl Tree {
         Ok(())
     }
 
-    /// Takes the next sibling of a node into it: the node has the content, and its refs and children are followed by those of
-    /// the sibling, which goes. `Err`: there was not enough memory, and the tree is as it was.
+    /// Takes the next sibling of a node into it: the node has the content, and its refs and children are followed by
+    /// those of the sibling, which goes. `Err`: there was not enough memory, and the tree is as it was.
     pub fn merge_next<L: Ledger>(
         &mut self,
         alloc: Global,
@@ -471,8 +482,9 @@ impl Tree {
         steps: &mut Steps<L>,
     ) -> Result<(), Memory>
         requires node { has_node self.old id ≡ true }
-        requires next { is_some (next_of (provision_at self.old id).wid (tree_view self.old).body) ≡ true }
-        ensures tree { OnOk result (tree_view self.new ≡ changed_once (tree_view self.old) (changed (merged content) (provision_at self.old id).wid (tree_view self.old).body)) }
+        requires next { is_some (next_at self.old id) ≡ true }
+        ensures tree { OnOk result (tree_view self.new
+            ≡ once_changed self.old (changed_at self.old id (merged content))) }
         ensures kept { OnErr result (tree_view self.new ≡ tree_view self.old) }
         ensures stay { NodesStay self.old self.new }
         ensures step { steps.new ≡ steps.old + 1 }
@@ -486,7 +498,7 @@ impl Tree {
     // Counts a change.
     #[tactic(auto, unfolding(crate::specs::Seen::tree_view, crate::specs::Seen::has_node, crate::specs::Seen::provision_at))]
     fn count_change(&mut self)
-        ensures tree { tree_view self.new ≡ record (tree_view self.old) { changes = one_more (tree_view self.old).changes } }
+        ensures tree { tree_view self.new ≡ once_changed self.old (tree_view self.old).body }
         ensures nodes { (k : ℕ) → has_node self.new k ≡ has_node self.old k }
         ensures says { (k : ℕ) → provision_at self.new k ≡ provision_at self.old k }
     {
@@ -497,7 +509,7 @@ impl Tree {
     fn take_away(&mut self, id: NodeId)
         requires node { has_node self.old id ≡ true }
         requires provision { id ≡ 0 → ⊥ }
-        ensures tree { tree_view self.new ≡ record (tree_view self.old) { body = removed (provision_at self.old id).wid (tree_view self.old).body } }
+        ensures tree { tree_view self.new ≡ with_body self.old (removed_at self.old id) }
         ensures says { (k : ℕ) → provision_at self.new k ≡ provision_at self.old k }
         ensures stay { NodesStay self.old self.new }
     {
@@ -506,7 +518,7 @@ impl Tree {
 
     // Takes all provisions away.
     fn clear(&mut self)
-        ensures tree { tree_view self.new ≡ record (tree_view self.old) { body = removed (provision_at self.old 0).wid (tree_view self.old).body } }
+        ensures tree { tree_view self.new ≡ with_body self.old (removed_at self.old 0) }
         ensures says { (k : ℕ) → provision_at self.new k ≡ provision_at self.old k }
         ensures stay { NodesStay self.old self.new }
     {
@@ -517,7 +529,7 @@ impl Tree {
     fn put_content(&mut self, id: NodeId, content: Text)
         requires node { has_node self.old id ≡ true }
         requires provision { id ≡ 0 → ⊥ }
-        ensures tree { tree_view self.new ≡ record (tree_view self.old) { body = changed (with_content content) (provision_at self.old id).wid (tree_view self.old).body } }
+        ensures tree { tree_view self.new ≡ with_body self.old (changed_at self.old id (with_content content)) }
         ensures nodes { (k : ℕ) → has_node self.new k ≡ has_node self.old k }
         ensures wids { (k : ℕ) → (provision_at self.new k).wid ≡ (provision_at self.old k).wid }
     {
@@ -529,7 +541,8 @@ impl Tree {
         requires node { has_node self.old id ≡ true }
         requires provision { id ≡ 0 → ⊥ }
         requires num { is_num num ≡ true }
-        ensures tree { tree_view self.new ≡ record (tree_view self.old) { body = renumbered (((provision_at self.old id).wid, num) ∷ []) (tree_view self.old).body } }
+        ensures tree { tree_view self.new
+            ≡ with_body self.old (renumbered (nums_by_wid self.old ((id, num) ∷ [])) (tree_view self.old).body) }
         ensures nodes { (k : ℕ) → has_node self.new k ≡ has_node self.old k }
         ensures wids { (k : ℕ) → (provision_at self.new k).wid ≡ (provision_at self.old k).wid }
     {
@@ -540,7 +553,8 @@ impl Tree {
     fn put_nums(&mut self, pairs: &[(NodeId, Num)])
         requires nodes { All (λ pair. has_node self.old pair.0 ≡ true) pairs.now }
         requires provisions { All (λ pair. pair.0 ≡ 0 → ⊥) pairs.now }
-        ensures tree { tree_view self.new ≡ record (tree_view self.old) { body = renumbered (map (λ pair. ((provision_at self.old pair.0).wid, pair.1)) pairs.now) (tree_view self.old).body } }
+        ensures tree { tree_view self.new
+            ≡ with_body self.old (renumbered (nums_by_wid self.old pairs.now) (tree_view self.old).body) }
         ensures nodes { (k : ℕ) → has_node self.new k ≡ has_node self.old k }
         ensures wids { (k : ℕ) → (provision_at self.new k).wid ≡ (provision_at self.old k).wid }
     {
@@ -557,8 +571,10 @@ impl Tree {
         requires provision { id ≡ 0 → ⊥ }
         ensures parent { has_node self.now result.0 ≡ true }
         ensures place { result.1 < length (children_at self.now result.0) }
-        ensures before { (new : Branches Provision) → grafted (provision_at self.now result.0).wid result.1 new (tree_view self.now).body ≡ changed (before new) (provision_at self.now id).wid (tree_view self.now).body }
-        ensures after { (new : Branches Provision) → grafted (provision_at self.now result.0).wid (result.1 + 1) new (tree_view self.now).body ≡ changed (after new) (provision_at self.now id).wid (tree_view self.now).body }
+        ensures before { (new : Branches Provision)
+            → grafted_at self.now result.0 result.1 new ≡ changed_at self.now id (before new) }
+        ensures after { (new : Branches Provision)
+            → grafted_at self.now result.0 (result.1 + 1) new ≡ changed_at self.now id (after new) }
     {
         let above = self.arena.slots[id.place()].above;
         (above, place_in(self.children(above), id))
@@ -577,9 +593,11 @@ impl Tree {
         requires place { place ≤ length (children_at self.old parent) }
         requires payload { first_fault NONE_THROUGHOUT (branches_of nodes.now) ≡ None }
         requires fresh { has_brought by (tree_view self.old).body ≡ false }
-        ensures tree { OnOk result (tree_view self.new ≡ record (tree_view self.old) { body = grafted (provision_at self.old parent).wid place (brought by (branches_of nodes.now)) (tree_view self.old).body }) }
+        ensures tree { OnOk result (tree_view self.new
+            ≡ with_body self.old (grafted_at self.old parent place (brought by (branches_of nodes.now)))) }
         ensures nodes { OnOk result ((k : ℕ) → has_node self.old k ≡ true → has_node self.new k ≡ true) }
-        ensures says { OnOk result ((k : ℕ) → has_node self.old k ≡ true → provision_at self.new k ≡ provision_at self.old k) }
+        ensures says { OnOk result ((k : ℕ)
+            → has_node self.old k ≡ true → provision_at self.new k ≡ provision_at self.old k) }
         ensures kept { OnErr result (tree_view self.new ≡ tree_view self.old) }
         ensures stay { NodesStay self.old self.new }
     {
@@ -590,8 +608,8 @@ impl Tree {
     // Takes the next sibling of a provision into it.
     fn take_next_in(&mut self, alloc: Global, id: NodeId, content: Text) -> Result<(), Memory>
         requires node { has_node self.old id ≡ true }
-        requires next { is_some (next_of (provision_at self.old id).wid (tree_view self.old).body) ≡ true }
-        ensures tree { OnOk result (tree_view self.new ≡ record (tree_view self.old) { body = changed (merged content) (provision_at self.old id).wid (tree_view self.old).body }) }
+        requires next { is_some (next_at self.old id) ≡ true }
+        ensures tree { OnOk result (tree_view self.new ≡ with_body self.old (changed_at self.old id (merged content))) }
         ensures kept { OnErr result (tree_view self.new ≡ tree_view self.old) }
         ensures stay { NodesStay self.old self.new }
     {
@@ -614,7 +632,8 @@ impl Tree {
         requires provision { id ≡ 0 → ⊥ }
         requires payload { first_fault NONE_THROUGHOUT (branches_of nodes.now) ≡ None }
         requires fresh { has_brought by (tree_view self.old).body ≡ false }
-        ensures tree { OnOk result (tree_view self.new ≡ record (tree_view self.old) { body = substituted (provision_at self.old id).wid (brought by (branches_of nodes.now)) (tree_view self.old).body }) }
+        ensures tree { OnOk result (tree_view self.new
+            ≡ with_body self.old (substituted_at self.old id (brought by (branches_of nodes.now)))) }
         ensures kept { OnErr result (tree_view self.new ≡ tree_view self.old) }
         ensures stay { NodesStay self.old self.new }
     {
@@ -628,7 +647,8 @@ impl Tree {
     fn put_all(&mut self, alloc: Global, nodes: &Nodes, by: Id) -> Result<(), Memory>
         requires payload { first_fault NONE_THROUGHOUT (branches_of nodes.now) ≡ None }
         requires fresh { has_brought by (tree_view self.old).body ≡ false }
-        ensures tree { OnOk result (tree_view self.new ≡ record (tree_view self.old) { body = substituted (provision_at self.old 0).wid (brought by (branches_of nodes.now)) (tree_view self.old).body }) }
+        ensures tree { OnOk result (tree_view self.new
+            ≡ with_body self.old (substituted_at self.old 0 (brought by (branches_of nodes.now)))) }
         ensures kept { OnErr result (tree_view self.new ≡ tree_view self.old) }
         ensures stay { NodesStay self.old self.new }
     {
@@ -651,7 +671,8 @@ impl Tree {
         requires below { second.below.items ≡ drop first_child (children_at self.old id) }
         requires num { is_num second.num ≡ true }
         requires fresh { is_in second.wid (tree_view self.old).body ≡ false }
-        ensures tree { OnOk result (tree_view self.new ≡ record (tree_view self.old) { body = changed (parted first_child head (provision_of second)) (provision_at self.old id).wid (tree_view self.old).body }) }
+        ensures tree { OnOk result (tree_view self.new
+            ≡ with_body self.old (changed_at self.old id (parted first_child head (provision_of second)))) }
         ensures kept { OnErr result (tree_view self.new ≡ tree_view self.old) }
         ensures stay { NodesStay self.old self.new }
     {

@@ -37,8 +37,9 @@ pub fn survey(
     ids: &[NodeId],
 ) -> Result<(), Memory>
     requires { All (λ id. has_node tree.now id ≡ true) ids.now }
-    ensures { OnOk result (seen survey_so_far.new
-        ≡ all_surveyed (tree_view tree.now).numbering (option_map (λ s. s.now) above.entry) levels (all_owns (branches_of (map (branch_at tree.now) ids.now))) (seen survey_so_far.old)) }
+    ensures { let bs = all_owns (branches_of (map (branch_at tree.now) ids.now)) in
+        let eid = option_map (λ s. s.now) above.entry in OnOk result (seen survey_so_far.new
+        ≡ all_surveyed (tree_view tree.now).numbering eid levels bs (seen survey_so_far.old)) }
 {
     let depth = levels.saturating_add(1);
     for id in ids {
@@ -68,7 +69,8 @@ pub fn find_eid(
     ids: &[NodeId],
 ) -> Result<Option<NodeId>, Memory>
     requires { AreUnder tree.now (option_map (λ s. s.now) above) ids.now }
-    ensures found { IfOk result (λ o. is_some o ≡ is_among eid.now (all_eids (tree_view tree.now).numbering (option_map (λ s. s.now) above.entry) (all_owns (branches_of (map (branch_at tree.now) ids.now))))) }
+    ensures found { let bs = all_owns (branches_of (map (branch_at tree.now) ids.now)) in IfOk result (λ o. is_some o
+        ≡ is_among eid.now (all_eids (tree_view tree.now).numbering (option_map (λ s. s.now) above.entry) bs)) }
     ensures node { IfOk result (λ o. IfSome o (IsNodeOf tree.now eid.now)) }
 {
     for id in ids {

@@ -1,4 +1,5 @@
--- How many bytes an edit takes where it is kept: a number of 1 or 2 bytes, a text behind its length, a list behind its count.
+-- How many bytes an edit takes where it is kept: a number of 1 or 2 bytes, a text behind its length, a list behind its
+-- count.
 use Rattle.std.specs.Prelude.{ℕ, ◌+◌, List, [], ◌∷◌}
 use Rattle.desk_base.specs.Sizes.{name_size, text_size}
 use Rattle.act_tree.specs.NodeSizes.{payload_size}

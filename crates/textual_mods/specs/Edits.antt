@@ -2,10 +2,12 @@
 use Rattle.std.specs.Prelude.{◌≡◌, Option, Some, None, Result, Ok, Err}
 use Rattle.desk_base.specs.declared.id.Id.{Id}
 use Rattle.act_tree.specs.declared.cause.Cause.{Cause}
+use Rattle.act_tree.specs.declared.tree.Tree.{Tree}
 use Rattle.act_tree.specs.declared.surveying.TheConstants.{NONE_THROUGHOUT}
 use Rattle.act_tree.specs.Branches.{Branches, branches_of}
 use Rattle.act_tree.specs.Faults.{first_cause, first_fault}
 use Rattle.act_tree.specs.Provisions.{Provision}
+use Rattle.act_tree.specs.Seen.{tree_view}
 use Rattle.act_tree.specs.Trees.{TreeValue, changed_once}
 use Rattle.textual_mods.specs.StructureEdits.{repealed, nodes_substituted, nodes_inserted}
 use Rattle.textual_mods.specs.TextEdits.{text_substituted, text_inserted}
@@ -17,8 +19,8 @@ use Rattle.textual_mods.specs.declared.edit.TextualMod.TheVariants.{Repeal, Subs
 use Rattle.textual_mods.specs.declared.outcome.Outcome.{Outcome}
 use Rattle.textual_mods.specs.declared.outcome.Outcome.TheVariants.{Done, Unapplied}
 
--- the text that an edit of the modification of this id makes of a text, or the first of the causes that hold it back before a
--- change is made: a target is missing, an anchor is missing, an occurrence is missing, two elements differ
+-- the text that an edit of the modification of this id makes of a text, or the first of the causes that hold it back
+-- before a change is made: a target is missing, an anchor is missing, an occurrence is missing, two elements differ
 abbrev pub edited : Id → TextualMod → Branches Provision → Result (Branches Provision) Cause
 edited by (Repeal wid) body = repealed wid body
 edited by (SubstituteNodes wid new) body = nodes_substituted by wid (branches_of new) body
@@ -34,8 +36,8 @@ abbrev pub unless_for : Option Cause → Branches Provision → Result (Branches
 unless_for None body = Ok body
 unless_for (Some cause) body = Err cause
 
--- a changed text of a tree, unless the tree would not be well-formed with it: two provisions would have one eId, or it would be
--- too deep, have too many provisions, or too long a text
+-- a changed text of a tree, unless the tree would not be well-formed with it: two provisions would have one eId, or it
+-- would be too deep, have too many provisions, or too long a text
 abbrev pub within_limits : TreeValue → Result (Branches Provision) Cause → Result (Branches Provision) Cause
 within_limits tree (Err cause) = Err cause
 within_limits tree (Ok body) = unless_for (first_cause (record tree { body = body })) body
@@ -54,8 +56,16 @@ abbrev pub outcome_of : Result (Branches Provision) Cause → Outcome
 outcome_of (Ok body) = Done
 outcome_of (Err cause) = Unapplied cause
 
--- what an edit keeps before it comes to a tree: nodes that it brings would make a tree by themselves, as the children of a root at
--- which no element is numbered throughout
+-- what is answered for a change of the text of a tree
+abbrev pub answer_to : Tree → (Branches Provision → Result (Branches Provision) Cause) → Outcome
+answer_to t change = outcome_of (within_limits (tree_view t) (change (tree_view t).body))
+
+-- the tree after a change of its text: changed once, or as it was
+abbrev pub settled : Tree → (Branches Provision → Result (Branches Provision) Cause) → TreeValue
+settled t change = tree_after (tree_view t) (within_limits (tree_view t) (change (tree_view t).body))
+
+-- what an edit keeps before it comes to a tree: nodes that it brings would make a tree by themselves, as the children
+-- of a root at which no element is numbered throughout
 abbrev pub IsSound : TextualMod → Type 0
 IsSound (SubstituteNodes wid new) = first_fault NONE_THROUGHOUT (branches_of new) ≡ None
 IsSound (InsertNodes wid pos new) = first_fault NONE_THROUGHOUT (branches_of new) ≡ None

@@ -52,7 +52,8 @@ named_by (Join wid second separator) = wid ∷ second ∷ []
 
 -- two provisions, neither of which stands at or beneath the other
 abbrev pub are_apart : Option (Branch Provision) → Option (Branch Provision) → Bool
-are_apart (Some (branch p below)) (Some (branch q under)) = not (holds q.wid (branch p below)) && not (holds p.wid (branch q under))
+are_apart (Some (branch p below)) (Some (branch q under)) =
+    not (holds q.wid (branch p below)) && not (holds p.wid (branch q under))
 are_apart (Some b) None = false
 are_apart None other = false
 
@@ -66,7 +67,8 @@ edits_apart body one other = list_all (λ v. list_all (stand_apart body v) (name
 
 -- a step makes of a provision what it makes of it alone, and leaves those behind it
 abbrev pub LooksAtNoSibling : Step → Type 0
-LooksAtNoSibling step = (b : Branch Provision) (rest : Branches Provision) → step b rest ≡ joined (step b no_branches) rest
+LooksAtNoSibling step =
+    (b : Branch Provision) (rest : Branches Provision) → step b rest ≡ joined (step b no_branches) rest
 
 -- what a step makes of a provision alone
 abbrev pub made_of : Step → Option (Branch Provision) → Branches Provision

@@ -14,7 +14,8 @@ abbrev pub behind_front : List ℕ → List ℕ × List ℕ → List ℕ × List
 behind_front front parts = (front ++ parts.0, parts.1)
 
 -- what stands behind an occurrence is parted in its turn
-abbrev pub parted_behind : List ℕ → (List ℕ → Option (List ℕ × List ℕ)) → Option (List ℕ × List ℕ) → Option (List ℕ × List ℕ)
+abbrev pub parted_behind : List ℕ → (List ℕ → Option (List ℕ × List ℕ)) → Option (List ℕ × List ℕ)
+    → Option (List ℕ × List ℕ)
 parted_behind old part None = None
 parted_behind old part (Some parts) = option_map (behind_front (parts.0 ++ old)) (part parts.1)
 

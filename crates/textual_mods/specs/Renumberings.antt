@@ -11,4 +11,5 @@ use Rattle.textual_mods.specs.Targets.{provision_named}
 -- each provision that a pair names gets the num of the pair
 abbrev pub nums_given : List (List ℕ × List ℕ) → Branches Provision → Result (Branches Provision) Cause
 nums_given pairs body =
-    if list_all (λ pair. is_some (provision_named pair.0 body)) pairs then Ok (renumbered pairs body) else Err TargetMissing
+    if list_all (λ pair. is_some (provision_named pair.0 body)) pairs then Ok (renumbered pairs body)
+    else Err TargetMissing

@@ -16,7 +16,8 @@ use Rattle.textual_mods.specs.declared.edit.SplitAt.TheVariants as cuts
 -- how many of these stand before the one of this wId, if one has it
 abbrev pub place_among : List ℕ → Branches Provision → Option ℕ
 place_among wid no_branches = None
-place_among wid (more_branches b bs) = if has_wid wid b then Some 0 else option_map (λ place. place + 1) (place_among wid bs)
+place_among wid (more_branches b bs) =
+    if has_wid wid b then Some 0 else option_map (λ place. place + 1) (place_among wid bs)
 
 -- the cut before an occurrence: the second part begins with it, and has all children
 abbrev pub cut_at_text : List ℕ → Option (List ℕ × List ℕ) → Result Cut Cause
@@ -33,18 +34,22 @@ abbrev pub cut_of : SplitAt → List ℕ → Branches Provision → Result Cut C
 cut_of (cuts.Text spot) content below = cut_at_text spot.old (parted_at spot.old spot.occurrence content)
 cut_of (cuts.Child child) content below = cut_at_child content (place_among child below)
 
--- the provisions, of which the one of this wId is split at a cut; the new one has the same element, no refs, and a num and a
--- heading of its own
-abbrev pub split_along : Id → List ℕ → List ℕ → List ℕ → Provision → Result Cut Cause → Branches Provision → Result (Branches Provision) Cause
+-- the provisions, of which the one of this wId is split at a cut; the new one has the same element, no refs, and a num
+-- and a heading of its own
+abbrev pub split_along : Id → List ℕ → List ℕ → List ℕ → Provision → Result Cut Cause → Branches Provision
+    → Result (Branches Provision) Cause
 split_along by wid num heading p (Err cause) body = Err cause
 split_along by wid num heading p (Ok cut) body =
     Ok (changed (parted cut.children cut.head (second_part by p.own.element num heading cut.tail)) wid body)
 
 -- the same, if there is such a provision
-abbrev pub split_of : Id → List ℕ → SplitAt → List ℕ → List ℕ → Option (Branch Provision) → Branches Provision → Result (Branches Provision) Cause
+abbrev pub split_of : Id → List ℕ → SplitAt → List ℕ → List ℕ → Option (Branch Provision) → Branches Provision
+    → Result (Branches Provision) Cause
 split_of by wid at num heading None body = Err TargetMissing
-split_of by wid at num heading (Some (branch p below)) body = split_along by wid num heading p (cut_of at p.own.content below) body
+split_of by wid at num heading (Some (branch p below)) body =
+    split_along by wid num heading p (cut_of at p.own.content below) body
 
 -- the target is split: it keeps its wId, num, heading and refs
-abbrev pub split_at_cut : Id → List ℕ → SplitAt → List ℕ → List ℕ → Branches Provision → Result (Branches Provision) Cause
+abbrev pub split_at_cut : Id → List ℕ → SplitAt → List ℕ → List ℕ → Branches Provision
+    → Result (Branches Provision) Cause
 split_at_cut by wid at num heading body = split_of by wid at num heading (provision_named wid body) body

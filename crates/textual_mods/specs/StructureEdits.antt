@@ -17,7 +17,8 @@ repealed wid body = if is_in wid body then Ok (removed wid body) else Err Target
 
 -- provisions that are brought stand in the place of the target and of all beneath it; of the root they are the children
 abbrev pub nodes_substituted : Id → List ℕ → Branches Own → Branches Provision → Result (Branches Provision) Cause
-nodes_substituted by wid new body = if is_in wid body then Ok (substituted wid (brought by new) body) else Err TargetMissing
+nodes_substituted by wid new body =
+    if is_in wid body then Ok (substituted wid (brought by new) body) else Err TargetMissing
 
 -- the place beside or in the provision of this wId is there: the root has children and no siblings
 abbrev pub is_anchor : Pos → List ℕ → Branches Provision → Bool
@@ -35,4 +36,5 @@ placed stands.End wid new body = grafted wid (children_named wid body) new body
 
 -- provisions that are brought stand beside or in the provision of this wId
 abbrev pub nodes_inserted : Id → List ℕ → Pos → Branches Own → Branches Provision → Result (Branches Provision) Cause
-nodes_inserted by wid pos new body = if is_anchor pos wid body then Ok (placed pos wid (brought by new) body) else Err AnchorMissing
+nodes_inserted by wid pos new body =
+    if is_anchor pos wid body then Ok (placed pos wid (brought by new) body) else Err AnchorMissing

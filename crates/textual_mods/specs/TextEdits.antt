@@ -32,13 +32,15 @@ content_set wid None body = Err OldTextMissing
 content_set wid (Some content) body = Ok (changed (with_content content) wid body)
 
 -- the content of the provision is changed, or the cause that there is no such provision
-abbrev pub content_changed : Cause → (List ℕ → Option (List ℕ)) → List ℕ → Option (Branch Provision) → Branches Provision → Result (Branches Provision) Cause
+abbrev pub content_changed : Cause → (List ℕ → Option (List ℕ)) → List ℕ → Option (Branch Provision)
+    → Branches Provision → Result (Branches Provision) Cause
 content_changed missing change wid None body = Err missing
 content_changed missing change wid (Some (branch p below)) body = content_set wid (change p.own.content) body
 
 -- an occurrence of `old` in the content of the target becomes another text
 abbrev pub text_substituted : List ℕ → Spot → List ℕ → Branches Provision → Result (Branches Provision) Cause
-text_substituted wid spot new body = content_changed TargetMissing (with_spot spot new) wid (provision_named wid body) body
+text_substituted wid spot new body =
+    content_changed TargetMissing (with_spot spot new) wid (provision_named wid body) body
 
 -- a text stands at a place of the content of a provision
 abbrev pub text_inserted : List ℕ → TextPos → List ℕ → Branches Provision → Result (Branches Provision) Cause

@@ -4,7 +4,8 @@ ghost use Rattle.std.specs.Prelude.{◌≡◌, ◌+◌, ◌<◌, ◌^◌, None, 
 ghost use Rattle.act_tree.specs.Brought.{has_brought};
 ghost use Rattle.act_tree.specs.Faults.{first_cause};
 ghost use Rattle.act_tree.specs.Seen.{tree_view};
-ghost use Rattle.textual_mods.specs.Edits.{IsSound, applied, tree_after, outcome_of};
+ghost use Rattle.textual_mods.specs.Edits.{IsSound, applied, outcome_of};
+ghost use Rattle.textual_mods.specs.Laws.{tree_with};
 
 use crate::joining::join;
 use crate::renumbering::renumber;
@@ -17,9 +18,9 @@ use desk_base::{Id, Memory, Steps};
 use std::alloc::Global;
 use std::sync::ledger::Ledger;
 
-/// Applies the edit of the modification of the id `by` to a tree that is well-formed and has no wId of that modification yet.
-/// `Unapplied`: the tree is as it was. It is one step, whatever is answered. `Err`: there was not enough memory, and the tree is
-/// as it was.
+/// Applies the edit of the modification of the id `by` to a tree that is well-formed and has no wId of that
+/// modification yet. `Unapplied`: the tree is as it was. It is one step, whatever is answered. `Err`: there was not
+/// enough memory, and the tree is as it was.
 pub fn apply<L: Ledger>(
     alloc: Global,
     tree: &mut Tree,
@@ -31,7 +32,7 @@ pub fn apply<L: Ledger>(
     requires fresh { has_brought by (tree_view tree.old).body ≡ false }
     requires sound { IsSound edit.now }
     ensures outcome { IfOk result (λ o. o ≡ outcome_of (applied (tree_view tree.old) by edit.now)) }
-    ensures tree { OnOk result (tree_view tree.new ≡ tree_after (tree_view tree.old) (applied (tree_view tree.old) by edit.now)) }
+    ensures tree { OnOk result (tree_view tree.new ≡ tree_with (tree_view tree.old) by edit.now) }
     ensures kept { OnErr result (tree_view tree.new ≡ tree_view tree.old) }
     ensures step { steps.new ≡ steps.old + 1 }
     ensures fits { first_cause (tree_view tree.new) ≡ None }
@@ -55,7 +56,7 @@ fn edit_tree<L: Ledger>(
     requires fresh { has_brought by (tree_view tree.old).body ≡ false }
     requires sound { IsSound edit.now }
     ensures outcome { IfOk result (λ o. o ≡ outcome_of (applied (tree_view tree.old) by edit.now)) }
-    ensures tree { OnOk result (tree_view tree.new ≡ tree_after (tree_view tree.old) (applied (tree_view tree.old) by edit.now)) }
+    ensures tree { OnOk result (tree_view tree.new ≡ tree_with (tree_view tree.old) by edit.now) }
     ensures kept { OnErr result (tree_view tree.new ≡ tree_view tree.old) }
     ensures step { steps.new ≡ steps.old + 1 }
 {

@@ -5,8 +5,8 @@ use act_tree::Nodes;
 use desk_base::Text;
 use eid_paths::Num;
 
-/// An occurrence of a text in a content. Occurrences are counted from the left, from 1; the search for the next begins behind
-/// the end of the last.
+/// An occurrence of a text in a content. Occurrences are counted from the left, from 1; the search for the next begins
+/// behind the end of the last.
 #[derive(Debug, PartialEq, Eq, Drop)]
 pub struct Spot {
     /// The text that is looked for, not empty, at most 16,384 bytes.
@@ -58,8 +58,8 @@ pub enum TextualMod {
         /// The wId of the target.
         wid: Text,
     },
-    /// Nodes stand in the place of the target, which goes with all that stands beneath it. Of the target `body` they are the
-    /// children.
+    /// Nodes stand in the place of the target, which goes with all that stands beneath it. Of the target `body` they
+    /// are the children.
     SubstituteNodes {
         /// The wId of the target.
         wid: Text,

@@ -12,7 +12,8 @@ use desk_base::{Memory, Text};
 use eid_paths::Num;
 use std::alloc::Global;
 
-/// The most nodes side by side that an edit brings, pairs of a renumbering, and modifications that are recorded together.
+/// The most nodes side by side that an edit brings, pairs of a renumbering, and modifications that are recorded
+/// together.
 pub const MAX_ITEMS: usize = 64;
 
 fn text_fits(text: &Text) -> bool
@@ -70,7 +71,8 @@ impl Spot {
 }
 
 impl Pairs {
-    /// Whether there are pairs, not too many, each naming a provision by what may be a wId, and none one that another names.
+    /// Whether there are pairs, not too many, each naming a provision by what may be a wId, and none one that another
+    /// names.
     pub fn fit(&self) -> bool
         ensures { result ≡ spec.pairs_fit self.now }
     {

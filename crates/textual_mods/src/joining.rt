@@ -2,12 +2,13 @@
 
 ghost use Rattle.std.specs.Prelude.{◌≡◌, ◌==◌, ◌+◌, ◌++◌, true, None, Some, Ok, option_map, IfOk, IfSome, OnOk, OnErr};
 ghost use Rattle.act_tree.specs.Branches.{branch};
-ghost use Rattle.act_tree.specs.Changes.{changed, merged, next_of};
+ghost use Rattle.act_tree.specs.Changes.{merged};
 ghost use Rattle.act_tree.specs.Faults.{first_cause};
-ghost use Rattle.act_tree.specs.Seen.{tree_view, has_node, provision_at, below_at};
+ghost use Rattle.act_tree.specs.Seen.{tree_view, has_node, provision_at, below_at, next_at};
 ghost use Rattle.eid_paths.specs.Elements.{element_place};
-ghost use Rattle.textual_mods.specs.Edits.{within_limits, tree_after, outcome_of};
-ghost use Rattle.textual_mods.specs.Joins.{joined_with, join_with_next, join_of_kind};
+ghost use Rattle.textual_mods.specs.Edits.{answer_to, settled};
+ghost use Rattle.textual_mods.specs.EditsOfNodes.{join_next_at, join_both_at, step_at};
+ghost use Rattle.textual_mods.specs.Joins.{joined_with};
 
 use crate::Outcome;
 use crate::held_back::{held_back, or_step};
@@ -28,8 +29,8 @@ pub fn join<L: Ledger>(
     steps: &mut Steps<L>,
 ) -> Result<Outcome, Memory>
     requires { first_cause (tree_view tree.old) ≡ None }
-    ensures outcome { IfOk result (λ o. o ≡ outcome_of (within_limits (tree_view tree.old) (joined_with wid.now second.now separator.now (tree_view tree.old).body))) }
-    ensures tree { OnOk result (tree_view tree.new ≡ tree_after (tree_view tree.old) (within_limits (tree_view tree.old) (joined_with wid.now second.now separator.now (tree_view tree.old).body))) }
+    ensures outcome { IfOk result (λ o. o ≡ answer_to tree.old (joined_with wid.now second.now separator.now)) }
+    ensures tree { OnOk result (tree_view tree.new ≡ settled tree.old (joined_with wid.now second.now separator.now)) }
     ensures kept { OnErr result (tree_view tree.new ≡ tree_view tree.old) }
     ensures step { steps.new ≡ steps.old + 1 }
 {
@@ -54,10 +55,9 @@ fn join_next<L: Ledger>(
     requires fits { first_cause (tree_view tree.old) ≡ None }
     requires node { has_node tree.old id ≡ true }
     requires provision { id ≡ 0 → ⊥ }
-    ensures outcome { IfOk result (λ o. o ≡ outcome_of (within_limits (tree_view tree.old) (join_with_next (provision_at tree.old id).wid second.now separator.now
-        (provision_at tree.old id) (next_of (provision_at tree.old id).wid (tree_view tree.old).body) (tree_view tree.old).body))) }
-    ensures tree { OnOk result (tree_view tree.new ≡ tree_after (tree_view tree.old) (within_limits (tree_view tree.old) (join_with_next (provision_at tree.old id).wid
-        second.now separator.now (provision_at tree.old id) (next_of (provision_at tree.old id).wid (tree_view tree.old).body) (tree_view tree.old).body))) }
+    ensures outcome { IfOk result (λ o. o ≡ answer_to tree.old (join_next_at tree.old id second.now separator.now)) }
+    ensures tree { OnOk result (tree_view tree.new
+        ≡ settled tree.old (join_next_at tree.old id second.now separator.now)) }
     ensures kept { OnErr result (tree_view tree.new ≡ tree_view tree.old) }
     ensures step { steps.new ≡ steps.old + 1 }
 {
@@ -83,11 +83,9 @@ fn join_both<L: Ledger>(
     requires node { has_node tree.old id ≡ true }
     requires provision { id ≡ 0 → ⊥ }
     requires other { has_node tree.old next ≡ true }
-    requires next { next_of (provision_at tree.old id).wid (tree_view tree.old).body ≡ Some (branch (provision_at tree.old next) (below_at tree.old next)) }
-    ensures outcome { IfOk result (λ o. o ≡ outcome_of (within_limits (tree_view tree.old) (join_of_kind (provision_at tree.old id).wid separator.now
-        (provision_at tree.old id) (provision_at tree.old next) (tree_view tree.old).body))) }
-    ensures tree { OnOk result (tree_view tree.new ≡ tree_after (tree_view tree.old) (within_limits (tree_view tree.old) (join_of_kind (provision_at tree.old id).wid
-        separator.now (provision_at tree.old id) (provision_at tree.old next) (tree_view tree.old).body))) }
+    requires next { next_at tree.old id ≡ Some (branch (provision_at tree.old next) (below_at tree.old next)) }
+    ensures outcome { IfOk result (λ o. o ≡ answer_to tree.old (join_both_at tree.old id next separator.now)) }
+    ensures tree { OnOk result (tree_view tree.new ≡ settled tree.old (join_both_at tree.old id next separator.now)) }
     ensures kept { OnErr result (tree_view tree.new ≡ tree_view tree.old) }
     ensures step { steps.new ≡ steps.old + 1 }
 {
@@ -106,8 +104,8 @@ fn join_both<L: Ledger>(
     take_in(alloc, tree, id, next, content, steps)
 }
 
-// Takes the next sibling of a provision into it. Only the levels of both parts' children, and the content, can pass a limit by
-// that, and both are known before.
+// Takes the next sibling of a provision into it. Only the levels of both parts' children, and the content, can pass a
+// limit by that, and both are known before.
 fn take_in<L: Ledger>(
     alloc: Global,
     tree: &mut Tree,
@@ -120,10 +118,9 @@ fn take_in<L: Ledger>(
     requires node { has_node tree.old id ≡ true }
     requires provision { id ≡ 0 → ⊥ }
     requires other { has_node tree.old next ≡ true }
-    requires next { next_of (provision_at tree.old id).wid (tree_view tree.old).body ≡ Some (branch (provision_at tree.old next) (below_at tree.old next)) }
-    ensures outcome { IfOk result (λ o. o ≡ outcome_of (within_limits (tree_view tree.old) (Ok (changed (merged content) (provision_at tree.old id).wid (tree_view tree.old).body)))) }
-    ensures tree { OnOk result (tree_view tree.new ≡ tree_after (tree_view tree.old)
-        (within_limits (tree_view tree.old) (Ok (changed (merged content) (provision_at tree.old id).wid (tree_view tree.old).body)))) }
+    requires next { next_at tree.old id ≡ Some (branch (provision_at tree.old next) (below_at tree.old next)) }
+    ensures outcome { IfOk result (λ o. o ≡ answer_to tree.old (step_at tree.old id (merged content))) }
+    ensures tree { OnOk result (tree_view tree.new ≡ settled tree.old (step_at tree.old id (merged content))) }
     ensures kept { OnErr result (tree_view tree.new ≡ tree_view tree.old) }
     ensures step { steps.new ≡ steps.old + 1 }
 {
@@ -150,7 +147,7 @@ fn next_provision(tree: &Tree, id: NodeId) -> Option<NodeId>
     requires node { has_node tree.now id ≡ true }
     requires provision { id ≡ 0 → ⊥ }
     ensures next { option_map (λ next. branch (provision_at tree.now next) (below_at tree.now next)) result
-        ≡ next_of (provision_at tree.now id).wid (tree_view tree.now).body }
+        ≡ next_at tree.now id }
     ensures node { IfSome result (λ next. has_node tree.now next ≡ true) }
 {
     tree.next(id)

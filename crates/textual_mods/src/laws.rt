@@ -8,6 +8,7 @@ ghost use Rattle.act_tree.specs.Changes.{Step, any_holds, changed};
 ghost use Rattle.act_tree.specs.Eids.{all_enacted};
 ghost use Rattle.act_tree.specs.Faults.{first_cause, first_fault};
 ghost use Rattle.act_tree.specs.Seen.{tree_view};
+ghost use Rattle.act_tree.specs.Trees.{unchanged};
 ghost use Rattle.act_tree.specs.Wids.{all_wids, is_among, one_twice};
 ghost use Rattle.textual_mods.specs.Edits.{applied, outcome_of};
 ghost use Rattle.textual_mods.specs.Laws.{tree_with, IsMade, twice_changed, wid_of_second, nums_before, stand_apart, edits_apart, LooksAtNoSibling, made_of};
@@ -24,7 +25,7 @@ use eid_paths::{Num, Numbering};
 /// The tree of an act as enacted is well-formed, if the nodes make a tree: an edit may be applied to it.
 pub fn enacted_is_well_formed(nodes: &Nodes, numbering: Numbering)
     requires { first_fault numbering (branches_of nodes.now) ≡ None }
-    ensures { first_cause (record { numbering = numbering; body = all_enacted numbering None (branches_of nodes.now); changes = 0 }) ≡ None }
+    ensures { first_cause (unchanged numbering (all_enacted numbering None (branches_of nodes.now))) ≡ None }
 {}
 
 /// An act as enacted has no wId of a modification.
@@ -37,10 +38,12 @@ pub fn wids_are_distinct(tree: &Tree)
     ensures { one_twice (all_wids (tree_view tree.now).body) ≡ false }
 {}
 
-/// A wId of the tree after an edit is one that the tree had before it, or begins with the name of the modification and `__`.
+/// A wId of the tree after an edit is one that the tree had before it, or begins with the name of the modification and
+/// `__`.
 pub fn wids_are_old_or_brought(tree: &Tree, by: Id, edit: &TextualMod, wid: &Text)
     requires { is_among wid.now (all_wids (tree_with (tree_view tree.now) by edit.now).body) ≡ true }
-    ensures { (is_among wid.now (all_wids (tree_view tree.now).body) || starts_with nat_eq wid.now (bringer by ++ 95 ∷ 95 ∷ [])) ≡ true }
+    ensures { (is_among wid.now (all_wids (tree_view tree.now).body)
+        || starts_with nat_eq wid.now (bringer by ++ 95 ∷ 95 ∷ [])) ≡ true }
 {}
 
 /// An edit that is held back leaves the tree as it was, its number of changes too.
@@ -49,8 +52,8 @@ pub fn held_back_leaves_the_tree(tree: &Tree, by: Id, edit: &TextualMod, cause: 
     ensures { tree_with (tree_view tree.now) by edit.now ≡ tree_view tree.now }
 {}
 
-/// A split is undone by the join of both parts with nothing between them: it is made, and the tree is as it was, but for two
-/// changes. What the new provision had of its own goes, its num and its heading; it has no refs.
+/// A split is undone by the join of both parts with nothing between them: it is made, and the tree is as it was, but
+/// for two changes. What the new provision had of its own goes, its num and its heading; it has no refs.
 pub fn join_undoes_split(
     tree: &Tree,
     by: Id,
@@ -66,30 +69,36 @@ pub fn join_undoes_split(
     ensures undone { IsMade (tree_with (tree_view tree.now) by (Split wid.now at.now num.now heading.now)) other
         (Join wid.now (wid_of_second by num.now (provision_named wid.now (tree_view tree.now).body)) []) }
     ensures same { tree_with (tree_with (tree_view tree.now) by (Split wid.now at.now num.now heading.now)) other
-        (Join wid.now (wid_of_second by num.now (provision_named wid.now (tree_view tree.now).body)) []) ≡ twice_changed (tree_view tree.now) }
-{}
-
-/// A renumbering is undone by one that gives each provision the num that it had: it is made, and the tree is as it was, but for
-/// two changes.
-pub fn nums_before_undo_nums(tree: &Tree, by: Id, pairs: &Pairs, other: Id)
-    requires fits { first_cause (tree_view tree.now) ≡ None }
-    requires made { IsMade (tree_view tree.now) by (Renumber pairs.now) }
-    ensures undone { IsMade (tree_with (tree_view tree.now) by (Renumber pairs.now)) other (Renumber (nums_before pairs.now (tree_view tree.now).body)) }
-    ensures same { tree_with (tree_with (tree_view tree.now) by (Renumber pairs.now)) other (Renumber (nums_before pairs.now (tree_view tree.now).body))
+        (Join wid.now (wid_of_second by num.now (provision_named wid.now (tree_view tree.now).body)) [])
         ≡ twice_changed (tree_view tree.now) }
 {}
 
-/// Two changes at provisions of which neither stands at or beneath the other give the same text in either order, if each looks at
-/// no sibling and brings no provision of the other's wId.
+/// A renumbering is undone by one that gives each provision the num that it had: it is made, and the tree is as it
+/// was, but for two changes.
+pub fn nums_before_undo_nums(tree: &Tree, by: Id, pairs: &Pairs, other: Id)
+    requires fits { first_cause (tree_view tree.now) ≡ None }
+    requires made { IsMade (tree_view tree.now) by (Renumber pairs.now) }
+    ensures undone { IsMade (tree_with (tree_view tree.now) by (Renumber pairs.now)) other
+        (Renumber (nums_before pairs.now (tree_view tree.now).body)) }
+    ensures same { tree_with (tree_with (tree_view tree.now) by (Renumber pairs.now)) other
+        (Renumber (nums_before pairs.now (tree_view tree.now).body))
+        ≡ twice_changed (tree_view tree.now) }
+{}
+
+/// Two changes at provisions of which neither stands at or beneath the other give the same text in either order, if
+/// each looks at no sibling and brings no provision of the other's wId.
 pub fn changes_apart_go_in_either_order(tree: &Tree, wid: &Text, other: &Text)
     requires { stand_apart (tree_view tree.now).body wid.now other.now ≡ true }
-    ensures { let body = (tree_view tree.now).body in (one : Step) (two : Step) → LooksAtNoSibling one → LooksAtNoSibling two
-        → any_holds other.now (made_of one (provision_named wid.now body)) ≡ false → any_holds wid.now (made_of two (provision_named other.now body)) ≡ false
+    ensures { let body = (tree_view tree.now).body in
+        (one : Step) (two : Step) → LooksAtNoSibling one → LooksAtNoSibling two
+        → any_holds other.now (made_of one (provision_named wid.now body)) ≡ false
+        → any_holds wid.now (made_of two (provision_named other.now body)) ≡ false
         → changed one wid.now (changed two other.now body) ≡ changed two other.now (changed one wid.now body) }
 {}
 
-/// Two edits that name provisions of which none stands at or beneath one that the other names give the same tree in either order,
-/// if each is made alone and the second is made after the first. Then the first is also made after the second.
+/// Two edits that name provisions of which none stands at or beneath one that the other names give the same tree in
+/// either order, if each is made alone and the second is made after the first. Then the first is also made after the
+/// second.
 pub fn edits_apart_go_in_either_order(
     tree: &Tree,
     by: Id,
@@ -104,7 +113,8 @@ pub fn edits_apart_go_in_either_order(
     requires two_made { IsMade (tree_view tree.now) other two.now }
     requires both_made { IsMade (tree_with (tree_view tree.now) by one.now) other two.now }
     ensures made { IsMade (tree_with (tree_view tree.now) other two.now) by one.now }
-    ensures same { tree_with (tree_with (tree_view tree.now) by one.now) other two.now ≡ tree_with (tree_with (tree_view tree.now) other two.now) by one.now }
+    ensures same { tree_with (tree_with (tree_view tree.now) by one.now) other two.now
+        ≡ tree_with (tree_with (tree_view tree.now) other two.now) by one.now }
 {}
 
 /// `==` holds of edits, and of pairs, exactly where they are equal.

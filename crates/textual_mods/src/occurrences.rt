@@ -20,7 +20,8 @@ pub fn parted_at<'a>(
     number: u16,
     text: &'a str,
 ) -> Result<Option<(String, &'a str)>, Memory>
-    ensures { IfOk result (λ r. option_map (λ parts. (string_bytes parts.0, parts.1.now)) r ≡ spec.parted_at old.now number text.now) }
+    ensures { IfOk result (λ r. option_map (λ parts. (string_bytes parts.0, parts.1.now)) r
+        ≡ spec.parted_at old.now number text.now) }
 {
     if number == 0 {
         return Ok(None);

@@ -2,8 +2,8 @@
 
 ghost use Rattle.std.specs.Prelude.{◌≡◌, ◌+◌, true, is_some, map, IfOk, IfSome, OnOk, OnErr};
 ghost use Rattle.std.specs.List.{All, list_all};
-ghost use Rattle.act_tree.specs.Seen.{tree_view, has_node, provision_at};
-ghost use Rattle.textual_mods.specs.Edits.{within_limits, tree_after, outcome_of};
+ghost use Rattle.act_tree.specs.Seen.{tree_view, has_node, nums_by_wid};
+ghost use Rattle.textual_mods.specs.Edits.{answer_to, settled};
 ghost use Rattle.textual_mods.specs.Renumberings.{nums_given};
 ghost use Rattle.textual_mods.specs.Targets as spec;
 
@@ -24,8 +24,8 @@ pub fn renumber<L: Ledger>(
     pairs: &Pairs,
     steps: &mut Steps<L>,
 ) -> Result<Outcome, Memory>
-    ensures outcome { IfOk result (λ o. o ≡ outcome_of (within_limits (tree_view tree.old) (nums_given pairs.now (tree_view tree.old).body))) }
-    ensures tree { OnOk result (tree_view tree.new ≡ tree_after (tree_view tree.old) (within_limits (tree_view tree.old) (nums_given pairs.now (tree_view tree.old).body))) }
+    ensures outcome { IfOk result (λ o. o ≡ answer_to tree.old (nums_given pairs.now)) }
+    ensures tree { OnOk result (tree_view tree.new ≡ settled tree.old (nums_given pairs.now)) }
     ensures kept { OnErr result (tree_view tree.new ≡ tree_view tree.old) }
     ensures step { steps.new ≡ steps.old + 1 }
 {
@@ -43,10 +43,11 @@ fn nodes_named(
     tree: &Tree,
     pairs: &Pairs,
 ) -> Result<Option<Vec<(NodeId, Num)>>, Memory>
-    ensures found { IfOk result (λ r. is_some r ≡ list_all (λ pair. is_some (spec.provision_named pair.0 (tree_view tree.now).body)) pairs.now) }
+    ensures found { IfOk result (λ r. is_some r
+        ≡ list_all (λ pair. is_some (spec.provision_named pair.0 (tree_view tree.now).body)) pairs.now) }
     ensures nodes { IfOk result (λ r. IfSome r (λ named. All (λ pair. has_node tree.now pair.0 ≡ true) named.items)) }
     ensures provisions { IfOk result (λ r. IfSome r (λ named. All (λ pair. pair.0 ≡ 0 → ⊥) named.items)) }
-    ensures wids { IfOk result (λ r. IfSome r (λ named. map (λ pair. ((provision_at tree.now pair.0).wid, pair.1)) named.items ≡ pairs.now)) }
+    ensures wids { IfOk result (λ r. IfSome r (λ named. nums_by_wid tree.now named.items ≡ pairs.now)) }
 {
     let mut named = Vec::new(alloc);
     for (wid, num) in pairs.as_slice() {

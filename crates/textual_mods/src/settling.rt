@@ -3,7 +3,7 @@
 ghost use Rattle.std.specs.Prelude.{◌≡◌, IfOk, OnOk, OnErr};
 ghost use Rattle.act_tree.specs.Seen.{tree_view};
 ghost use Rattle.act_tree.specs.Trees.{changed_once};
-ghost use Rattle.textual_mods.specs.Edits.{within_limits, tree_after, outcome_of};
+ghost use Rattle.textual_mods.specs.Edits.{answer_to, settled};
 
 use crate::Outcome;
 use act_tree::Tree;
@@ -14,8 +14,8 @@ use std::alloc::Global;
 /// where there was not enough memory to know.
 pub fn settle(alloc: Global, tree: &mut Tree, before: Tree) -> Result<Outcome, Memory>
     requires { tree_view tree.old ≡ changed_once (tree_view before) (tree_view tree.old).body }
-    ensures outcome { IfOk result (λ o. o ≡ outcome_of (within_limits (tree_view before) (Ok (tree_view tree.old).body))) }
-    ensures tree { OnOk result (tree_view tree.new ≡ tree_after (tree_view before) (within_limits (tree_view before) (Ok (tree_view tree.old).body))) }
+    ensures outcome { IfOk result (λ o. o ≡ answer_to before (λ _. Ok (tree_view tree.old).body)) }
+    ensures tree { OnOk result (tree_view tree.new ≡ settled before (λ _. Ok (tree_view tree.old).body)) }
     ensures kept { OnErr result (tree_view tree.new ≡ tree_view before) }
 {
     match tree.well_formed(alloc) {

@@ -5,7 +5,9 @@ ghost use Rattle.std.specs.List.{All};
 ghost use Rattle.act_tree.specs.Branches.{branches_of};
 ghost use Rattle.act_tree.specs.Brought.{has_brought};
 ghost use Rattle.act_tree.specs.Seen.{tree_view, has_node, provision_at, children_at, branch_at, below_at};
-ghost use Rattle.textual_mods.specs.Edits.{within_limits, tree_after, outcome_of};
+ghost use Rattle.textual_mods.specs.Edits.{answer_to, settled};
+ghost use Rattle.textual_mods.specs.EditsOfNodes as at_node;
+ghost use Rattle.textual_mods.specs.EditsOfNodes.{split_with};
 ghost use Rattle.textual_mods.specs.Occurrences.{parted_at};
 ghost use Rattle.textual_mods.specs.Splits as spec;
 ghost use Rattle.textual_mods.specs.Splits.{split_at_cut};
@@ -41,8 +43,9 @@ pub fn split<L: Ledger>(
     steps: &mut Steps<L>,
 ) -> Result<Outcome, Memory>
     requires { has_brought by (tree_view tree.old).body ≡ false }
-    ensures outcome { IfOk result (λ o. o ≡ outcome_of (within_limits (tree_view tree.old) (split_at_cut by wid.now at.now num.now heading.now (tree_view tree.old).body))) }
-    ensures tree { OnOk result (tree_view tree.new ≡ tree_after (tree_view tree.old) (within_limits (tree_view tree.old) (split_at_cut by wid.now at.now num.now heading.now (tree_view tree.old).body))) }
+    ensures outcome { IfOk result (λ o. o ≡ answer_to tree.old (split_at_cut by wid.now at.now num.now heading.now)) }
+    ensures tree { OnOk result (tree_view tree.new
+        ≡ settled tree.old (split_at_cut by wid.now at.now num.now heading.now)) }
     ensures kept { OnErr result (tree_view tree.new ≡ tree_view tree.old) }
     ensures step { steps.new ≡ steps.old + 1 }
 {
@@ -66,10 +69,10 @@ fn split_node<L: Ledger>(
     requires fresh { has_brought by (tree_view tree.old).body ≡ false }
     requires node { has_node tree.old id ≡ true }
     requires provision { id ≡ 0 → ⊥ }
-    ensures outcome { IfOk result (λ o. o ≡ outcome_of (within_limits (tree_view tree.old) (spec.split_along by (provision_at tree.old id).wid num.now heading.now
-        (provision_at tree.old id) (spec.cut_of at.now (provision_at tree.old id).own.content (below_at tree.old id)) (tree_view tree.old).body))) }
-    ensures tree { OnOk result (tree_view tree.new ≡ tree_after (tree_view tree.old) (within_limits (tree_view tree.old) (spec.split_along by (provision_at tree.old id).wid
-        num.now heading.now (provision_at tree.old id) (spec.cut_of at.now (provision_at tree.old id).own.content (below_at tree.old id)) (tree_view tree.old).body))) }
+    ensures outcome { IfOk result (λ o. o ≡ answer_to tree.old
+        (split_with tree.old by id (at_node.cut_at tree.old id at.now) num.now heading.now)) }
+    ensures tree { OnOk result (tree_view tree.new ≡ settled tree.old
+        (split_with tree.old by id (at_node.cut_at tree.old id at.now) num.now heading.now)) }
     ensures kept { OnErr result (tree_view tree.new ≡ tree_view tree.old) }
     ensures step { steps.new ≡ steps.old + 1 }
 {
@@ -94,10 +97,10 @@ fn split_along<L: Ledger>(
     requires node { has_node tree.old id ≡ true }
     requires provision { id ≡ 0 → ⊥ }
     requires place { cut.children ≤ length (children_at tree.old id) }
-    ensures outcome { IfOk result (λ o. o ≡ outcome_of (within_limits (tree_view tree.old) (spec.split_along by (provision_at tree.old id).wid num.now heading.now
-        (provision_at tree.old id) (Ok cut) (tree_view tree.old).body))) }
-    ensures tree { OnOk result (tree_view tree.new ≡ tree_after (tree_view tree.old) (within_limits (tree_view tree.old) (spec.split_along by (provision_at tree.old id).wid
-        num.now heading.now (provision_at tree.old id) (Ok cut) (tree_view tree.old).body))) }
+    ensures outcome { IfOk result (λ o. o ≡ answer_to tree.old
+        (split_with tree.old by id (Ok cut) num.now heading.now)) }
+    ensures tree { OnOk result (tree_view tree.new ≡ settled tree.old
+        (split_with tree.old by id (Ok cut) num.now heading.now)) }
     ensures kept { OnErr result (tree_view tree.new ≡ tree_view tree.old) }
     ensures step { steps.new ≡ steps.old + 1 }
 {
@@ -120,10 +123,9 @@ fn part_along<L: Ledger>(
     requires node { has_node tree.old id ≡ true }
     requires provision { id ≡ 0 → ⊥ }
     requires place { cut.children ≤ length (children_at tree.old id) }
-    ensures outcome { IfOk result (λ o. o ≡ outcome_of (within_limits (tree_view tree.old) (spec.split_along by (provision_at tree.old id).wid num heading
-        (provision_at tree.old id) (Ok cut) (tree_view tree.old).body))) }
-    ensures tree { OnOk result (tree_view tree.new ≡ tree_after (tree_view tree.old) (within_limits (tree_view tree.old) (spec.split_along by (provision_at tree.old id).wid
-        num heading (provision_at tree.old id) (Ok cut) (tree_view tree.old).body))) }
+    ensures outcome { IfOk result (λ o. o ≡ answer_to tree.old (split_with tree.old by id (Ok cut) num heading)) }
+    ensures tree { OnOk result (tree_view tree.new
+        ≡ settled tree.old (split_with tree.old by id (Ok cut) num heading)) }
     ensures kept { OnErr result (tree_view tree.new ≡ tree_view tree.old) }
     ensures step { steps.new ≡ steps.old + 1 }
 {
@@ -145,7 +147,7 @@ fn cut_of(
     at: &SplitAt,
 ) -> Result<Result<Cut, Cause>, Memory>
     requires { has_node tree.now id ≡ true }
-    ensures cut { IfOk result (λ r. r ≡ spec.cut_of at.now (provision_at tree.now id).own.content (below_at tree.now id)) }
+    ensures cut { IfOk result (λ r. r ≡ at_node.cut_at tree.now id at.now) }
     ensures place { IfOk result (λ r. IfOk r (λ cut. cut.children ≤ length (children_at tree.now id))) }
 {
     let content = tree.provision(id).content;
@@ -160,7 +162,8 @@ fn cut_of(
 
 // The cut before an occurrence.
 fn cut_at_text(alloc: Global, spot: &Spot, content: &str) -> Result<Result<Cut, Cause>, Memory>
-    ensures cut { IfOk result (λ r. r ≡ spec.cut_at_text spot.now.old (parted_at spot.now.old spot.now.occurrence content.now)) }
+    ensures cut { IfOk result (λ r. r
+        ≡ spec.cut_at_text spot.now.old (parted_at spot.now.old spot.now.occurrence content.now)) }
     ensures place { IfOk result (λ r. IfOk r (λ cut. cut.children ≡ 0)) }
 {
     let old = spot.old.as_str();

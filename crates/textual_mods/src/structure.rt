@@ -3,12 +3,12 @@
 ghost use Rattle.std.specs.Prelude.{◌≡◌, ◌+◌, ◌≤◌, None, false, true, length, is_some, IfOk, IfSome, OnOk, OnErr};
 ghost use Rattle.act_tree.specs.Branches.{Branches, branches_of};
 ghost use Rattle.act_tree.specs.Brought.{has_brought};
-ghost use Rattle.act_tree.specs.Changes.{after, changed, grafted};
+ghost use Rattle.act_tree.specs.Changes.{after};
 ghost use Rattle.act_tree.specs.Faults.{first_cause, first_fault};
 ghost use Rattle.act_tree.specs.Provisions.{Provision};
-ghost use Rattle.act_tree.specs.Seen.{tree_view, has_node, provision_at, children_at};
+ghost use Rattle.act_tree.specs.Seen.{tree_view, has_node, children_at, grafted_at, changed_at};
 ghost use Rattle.act_tree.specs.declared.surveying.TheConstants.{NONE_THROUGHOUT};
-ghost use Rattle.textual_mods.specs.Edits.{within_limits, tree_after, outcome_of};
+ghost use Rattle.textual_mods.specs.Edits.{answer_to, settled};
 ghost use Rattle.textual_mods.specs.StructureEdits.{repealed, nodes_substituted, nodes_inserted, is_anchor, placed};
 
 use crate::held_back::{held_back, or_step};
@@ -20,12 +20,12 @@ use desk_base::{Id, Memory, Steps};
 use std::alloc::Global;
 use std::sync::ledger::Ledger;
 
-/// Takes the target away with all that stands beneath it, or all provisions where the target is the root. No limit can be
-/// passed by that, so it is done in place.
+/// Takes the target away with all that stands beneath it, or all provisions where the target is the root. No limit can
+/// be passed by that, so it is done in place.
 pub fn repeal<L: Ledger>(tree: &mut Tree, wid: &str, steps: &mut Steps<L>) -> Outcome
     requires { first_cause (tree_view tree.old) ≡ None }
-    ensures outcome { result ≡ outcome_of (within_limits (tree_view tree.old) (repealed wid.now (tree_view tree.old).body)) }
-    ensures tree { tree_view tree.new ≡ tree_after (tree_view tree.old) (within_limits (tree_view tree.old) (repealed wid.now (tree_view tree.old).body)) }
+    ensures outcome { result ≡ answer_to tree.old (repealed wid.now) }
+    ensures tree { tree_view tree.new ≡ settled tree.old (repealed wid.now) }
     ensures step { steps.new ≡ steps.old + 1 }
 {
     match tree.find(wid.as_bytes()) {
@@ -48,8 +48,9 @@ pub fn substitute_nodes<L: Ledger>(
 ) -> Result<Outcome, Memory>
     requires payload { first_fault NONE_THROUGHOUT (branches_of new.now) ≡ None }
     requires fresh { has_brought by (tree_view tree.old).body ≡ false }
-    ensures outcome { IfOk result (λ o. o ≡ outcome_of (within_limits (tree_view tree.old) (nodes_substituted by wid.now (branches_of new.now) (tree_view tree.old).body))) }
-    ensures tree { OnOk result (tree_view tree.new ≡ tree_after (tree_view tree.old) (within_limits (tree_view tree.old) (nodes_substituted by wid.now (branches_of new.now) (tree_view tree.old).body))) }
+    ensures outcome { IfOk result (λ o. o ≡ answer_to tree.old (nodes_substituted by wid.now (branches_of new.now))) }
+    ensures tree { OnOk result (tree_view tree.new
+        ≡ settled tree.old (nodes_substituted by wid.now (branches_of new.now))) }
     ensures kept { OnErr result (tree_view tree.new ≡ tree_view tree.old) }
     ensures step { steps.new ≡ steps.old + 1 }
 {
@@ -73,8 +74,9 @@ pub fn insert_nodes<L: Ledger>(
 ) -> Result<Outcome, Memory>
     requires payload { first_fault NONE_THROUGHOUT (branches_of new.now) ≡ None }
     requires fresh { has_brought by (tree_view tree.old).body ≡ false }
-    ensures outcome { IfOk result (λ o. o ≡ outcome_of (within_limits (tree_view tree.old) (nodes_inserted by wid.now pos (branches_of new.now) (tree_view tree.old).body))) }
-    ensures tree { OnOk result (tree_view tree.new ≡ tree_after (tree_view tree.old) (within_limits (tree_view tree.old) (nodes_inserted by wid.now pos (branches_of new.now) (tree_view tree.old).body))) }
+    ensures outcome { IfOk result (λ o. o ≡ answer_to tree.old (nodes_inserted by wid.now pos (branches_of new.now))) }
+    ensures tree { OnOk result (tree_view tree.new
+        ≡ settled tree.old (nodes_inserted by wid.now pos (branches_of new.now))) }
     ensures kept { OnErr result (tree_view tree.new ≡ tree_view tree.old) }
     ensures step { steps.new ≡ steps.old + 1 }
 {
@@ -92,7 +94,7 @@ fn place_for(tree: &Tree, wid: &str, pos: Pos) -> Option<(NodeId, usize)>
     ensures node { IfSome result (λ at. has_node tree.now at.0 ≡ true) }
     ensures place { IfSome result (λ at. at.1 ≤ length (children_at tree.now at.0)) }
     ensures gives { IfSome result (λ at. (new : Branches Provision)
-        → grafted (provision_at tree.now at.0).wid at.1 new (tree_view tree.now).body ≡ placed pos wid.now new (tree_view tree.now).body) }
+        → grafted_at tree.now at.0 at.1 new ≡ placed pos wid.now new (tree_view tree.now).body) }
 {
     match pos {
         Pos::Before => Some(tree.place_of(provision_named(tree, wid)?)),
@@ -111,8 +113,8 @@ fn place_behind(tree: &Tree, id: NodeId) -> (NodeId, usize)
     requires provision { id ≡ 0 → ⊥ }
     ensures node { has_node tree.now result.0 ≡ true }
     ensures place { result.1 ≤ length (children_at tree.now result.0) }
-    ensures gives { (new : Branches Provision) → grafted (provision_at tree.now result.0).wid result.1 new (tree_view tree.now).body
-        ≡ changed (after new) (provision_at tree.now id).wid (tree_view tree.now).body }
+    ensures gives { (new : Branches Provision)
+        → grafted_at tree.now result.0 result.1 new ≡ changed_at tree.now id (after new) }
 {
     let (parent, place) = tree.place_of(id);
     let siblings = tree.children(parent).len();

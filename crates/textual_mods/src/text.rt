@@ -1,11 +1,12 @@
-//! Edits of the content of a provision: substitution and insertion of text. Only its length can hold a content back, so they are
-//! done in place.
+//! Edits of the content of a provision: substitution and insertion of text. Only its length can hold a content back,
+//! so they are done in place.
 
 ghost use Rattle.std.specs.Prelude.{◌≡◌, ◌+◌, ◌++◌, None, true, string_bytes, IfOk, OnOk, OnErr};
-ghost use Rattle.act_tree.specs.Changes.{any_holds, changed, with_content};
+ghost use Rattle.act_tree.specs.Changes.{any_holds, with_content};
 ghost use Rattle.act_tree.specs.Faults.{first_cause};
 ghost use Rattle.act_tree.specs.Seen.{tree_view, has_node, provision_at};
-ghost use Rattle.textual_mods.specs.Edits.{within_limits, tree_after, outcome_of};
+ghost use Rattle.textual_mods.specs.Edits.{answer_to, settled};
+ghost use Rattle.textual_mods.specs.EditsOfNodes.{step_at};
 ghost use Rattle.textual_mods.specs.TextEdits as spec;
 ghost use Rattle.textual_mods.specs.TextEdits.{content_set, text_substituted, text_inserted};
 
@@ -28,8 +29,8 @@ pub fn substitute_text<L: Ledger>(
     steps: &mut Steps<L>,
 ) -> Result<Outcome, Memory>
     requires { first_cause (tree_view tree.old) ≡ None }
-    ensures outcome { IfOk result (λ o. o ≡ outcome_of (within_limits (tree_view tree.old) (text_substituted wid.now spot.now new.now (tree_view tree.old).body))) }
-    ensures tree { OnOk result (tree_view tree.new ≡ tree_after (tree_view tree.old) (within_limits (tree_view tree.old) (text_substituted wid.now spot.now new.now (tree_view tree.old).body))) }
+    ensures outcome { IfOk result (λ o. o ≡ answer_to tree.old (text_substituted wid.now spot.now new.now)) }
+    ensures tree { OnOk result (tree_view tree.new ≡ settled tree.old (text_substituted wid.now spot.now new.now)) }
     ensures kept { OnErr result (tree_view tree.new ≡ tree_view tree.old) }
     ensures step { steps.new ≡ steps.old + 1 }
 {
@@ -51,8 +52,8 @@ pub fn insert_text<L: Ledger>(
     steps: &mut Steps<L>,
 ) -> Result<Outcome, Memory>
     requires { first_cause (tree_view tree.old) ≡ None }
-    ensures outcome { IfOk result (λ o. o ≡ outcome_of (within_limits (tree_view tree.old) (text_inserted wid.now at.now new.now (tree_view tree.old).body))) }
-    ensures tree { OnOk result (tree_view tree.new ≡ tree_after (tree_view tree.old) (within_limits (tree_view tree.old) (text_inserted wid.now at.now new.now (tree_view tree.old).body))) }
+    ensures outcome { IfOk result (λ o. o ≡ answer_to tree.old (text_inserted wid.now at.now new.now)) }
+    ensures tree { OnOk result (tree_view tree.new ≡ settled tree.old (text_inserted wid.now at.now new.now)) }
     ensures kept { OnErr result (tree_view tree.new ≡ tree_view tree.old) }
     ensures step { steps.new ≡ steps.old + 1 }
 {
@@ -75,8 +76,8 @@ fn give_content<L: Ledger>(
     requires node { has_node tree.old id ≡ true }
     requires provision { id ≡ 0 → ⊥ }
     requires held { any_holds (provision_at tree.old id).wid (tree_view tree.old).body ≡ true }
-    ensures outcome { result ≡ outcome_of (within_limits (tree_view tree.old) (content_set (provision_at tree.old id).wid content (tree_view tree.old).body)) }
-    ensures tree { tree_view tree.new ≡ tree_after (tree_view tree.old) (within_limits (tree_view tree.old) (content_set (provision_at tree.old id).wid content (tree_view tree.old).body)) }
+    ensures outcome { result ≡ answer_to tree.old (content_set (provision_at tree.old id).wid content) }
+    ensures tree { tree_view tree.new ≡ settled tree.old (content_set (provision_at tree.old id).wid content) }
     ensures step { steps.new ≡ steps.old + 1 }
 {
     match content {
@@ -91,8 +92,8 @@ fn give_text<L: Ledger>(tree: &mut Tree, id: NodeId, text: Text, steps: &mut Ste
     requires node { has_node tree.old id ≡ true }
     requires provision { id ≡ 0 → ⊥ }
     requires held { any_holds (provision_at tree.old id).wid (tree_view tree.old).body ≡ true }
-    ensures outcome { result ≡ outcome_of (within_limits (tree_view tree.old) (Ok (changed (with_content text) (provision_at tree.old id).wid (tree_view tree.old).body))) }
-    ensures tree { tree_view tree.new ≡ tree_after (tree_view tree.old) (within_limits (tree_view tree.old) (Ok (changed (with_content text) (provision_at tree.old id).wid (tree_view tree.old).body))) }
+    ensures outcome { result ≡ answer_to tree.old (step_at tree.old id (with_content text)) }
+    ensures tree { tree_view tree.new ≡ settled tree.old (step_at tree.old id (with_content text)) }
     ensures step { steps.new ≡ steps.old + 1 }
 {
     if text.as_str().len() > MAX_TEXT_BYTES {
