@@ -14,5 +14,5 @@ pub use answer::{
 pub use law::{Act, Command, Destination, Kind, ModSource, Modification, Mods, entry_size};
 pub use register::{
     Draft, DraftItem, Drafter, EnterFault, Entry, Known, KnownMod, KnownMods, Register, Reply,
-    Rule, Verdict, known_at,
+    Rule, Standing, Verdict, known_at,
 };

@@ -21,6 +21,8 @@ use Rattle.law_register.specs.declared.register.indexes.RequestMark.{RequestMark
 use Rattle.law_register.specs.declared.register.indexes.StepMark.{StepMark}
 use Rattle.law_register.specs.declared.register.indexes.WorkMark.{WorkMark}
 use Rattle.law_register.specs.declared.law.modification.Modification.{Modification}
+use Rattle.law_register.specs.declared.register.standing.Standing.{Standing}
+use Rattle.law_register.specs.declared.register.standing.Standing.TheVariants.{Live, Withdrawn}
 use Rattle.law_register.specs.declared.register.verdict.Reply.{Reply}
 use Rattle.law_register.specs.Answer.Counted.{is_same_id}
 use Rattle.law_register.specs.Register.Drafts.{added, draft_of}
@@ -122,7 +124,7 @@ ids_in (Some m) = m.ids
 
 -- the mark of an id that is recorded by the entry at an index
 abbrev pub recorded_mark : ℕ → BodyMark → IdMark
-recorded_mark at b = record { recorded = at; entry = b.entry; place = b.place; withdrawn = None }
+recorded_mark at b = record { recorded = at; entry = b.entry; place = b.place; standing = Live }
 
 -- the mark of an id after the entry at an index, law entry `number`, records modifications, of which the first is item `item`
 abbrev pub recorded_from : ℕ → ℕ → ℕ → List BodyMark → Id → Option IdMark → Option IdMark
@@ -139,18 +141,18 @@ items_after entries at number _ ms = ms
 
 -- an id's mark after it is corrected by the entry at this index, and after it is withdrawn or restored
 abbrev pub corrected : ℕ → IdMark → IdMark
-corrected at m = record { recorded = m.recorded; entry = at; place = 0; withdrawn = m.withdrawn }
+corrected at m = record { recorded = m.recorded; entry = at; place = 0; standing = m.standing }
 
-abbrev pub with_withdrawn : Option ℕ → IdMark → IdMark
-with_withdrawn withdrawn m = record { recorded = m.recorded; entry = m.entry; place = m.place; withdrawn = withdrawn }
+abbrev pub with_standing : Standing → IdMark → IdMark
+with_standing standing m = record { recorded = m.recorded; entry = m.entry; place = m.place; standing = standing }
 
 -- the mark of an id after the command of law entry `number`, which stands at this index and records these modifications
 abbrev pub id_after : ℕ → ℕ → Command → List BodyMark → Id → Option IdMark → Option IdMark
 id_after number at (Record work mods) bodies id m = recorded_from number at 1 bodies id m
 id_after number at (File work seen) bodies id m = recorded_from number at 1 bodies id m
 id_after number at (Correct other body) bodies id m = if is_same_id other id then option_map (corrected at) m else m
-id_after number at (Withdraw other) bodies id m = if is_same_id other id then option_map (with_withdrawn (Some number)) m else m
-id_after number at (Restore other) bodies id m = if is_same_id other id then option_map (with_withdrawn None) m else m
+id_after number at (Withdraw other) bodies id m = if is_same_id other id then option_map (with_standing (Withdrawn number)) m else m
+id_after number at (Restore other) bodies id m = if is_same_id other id then option_map (with_standing Live) m else m
 id_after number at _ bodies id m = m
 
 -- the mark of an act after the command of law entry `number`, which stands at this index: the first that is enacted stays
@@ -204,7 +206,7 @@ ActsStand entries (at ∷ ats) [] = ⊥
 abbrev pub IdStands : List Entry → Option IdMark → Option IdFacts → Type 0
 IdStands entries None None = Unit {0}
 IdStands entries (Some m) (Some f) =
-    (told_at entries m.recorded work_named ≡ Some f.work) × (told_at entries m.entry (body_of m.place) ≡ Some f.body) × (m.withdrawn ≡ f.withdrawn)
+    (told_at entries m.recorded work_named ≡ Some f.work) × (told_at entries m.entry (body_of m.place) ≡ Some f.body) × (m.standing ≡ f.standing)
 IdStands entries None (Some f) = ⊥
 IdStands entries (Some m) None = ⊥
 

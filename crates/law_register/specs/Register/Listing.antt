@@ -1,5 +1,5 @@
 -- The law entries that concern a work, its ids by their marks, and the items of a draft by theirs.
-use Rattle.std.specs.Prelude.{ℕ, ◌+◌, nat_le, List, [], ◌∷◌, ◌++◌, length, Option, Some, None, is_none, if◌then◌else◌}
+use Rattle.std.specs.Prelude.{ℕ, ◌+◌, nat_le, List, [], ◌∷◌, ◌++◌, length, Option, Some, None, if◌then◌else◌}
 use Rattle.desk_base.specs.declared.id.Id.{Id}
 use Rattle.law_register.specs.declared.law.act.Act.{Act}
 use Rattle.law_register.specs.declared.law.command.Command.{Command}
@@ -10,10 +10,12 @@ use Rattle.law_register.specs.declared.register.indexes.EnactedMark.{EnactedMark
 use Rattle.law_register.specs.declared.register.indexes.IdMark.{IdMark}
 use Rattle.law_register.specs.declared.register.indexes.ItemMark.{ItemMark}
 use Rattle.law_register.specs.declared.register.known.KnownMod.{KnownMod}
+use Rattle.law_register.specs.declared.register.standing.Standing.{Standing}
 use Rattle.law_register.specs.declared.law.modification.Modification.{Modification}
 use Rattle.law_register.specs.Register.Indexes.{told_at, work_named, act_of, body_of, id_after}
 use Rattle.law_register.specs.Register.KnownIds.{IdFacts}
 use Rattle.law_register.specs.Register.Concerns.{is_of, concerns}
+use Rattle.law_register.specs.Register.Standings.{is_live}
 
 -- the numbers of those of these law entries that concern a work, behind others and before those that were found, newest first
 abbrev pub numbers_from : List Command → List ℕ → List ℕ → List Command → List ℕ
@@ -49,13 +51,13 @@ ids_marked number item [] = []
 ids_marked number item (b ∷ bodies) = record { law = number; item = item } ∷ ids_marked number (item + 1) bodies
 
 -- an id as it is known, by its mark
-abbrev pub known_told : Id → Option ℕ → Option Modification → List KnownMod
-known_told id withdrawn None = []
-known_told id withdrawn (Some body) = record { id = id; live = is_none withdrawn; body = body } ∷ []
+abbrev pub known_told : Id → Standing → Option Modification → List KnownMod
+known_told id standing None = []
+known_told id standing (Some body) = record { id = id; live = is_live standing; body = body } ∷ []
 
 abbrev pub known_mark : List Entry → Id → Option IdMark → List KnownMod
 known_mark entries id None = []
-known_mark entries id (Some m) = known_told id m.withdrawn (told_at entries m.entry (body_of m.place))
+known_mark entries id (Some m) = known_told id m.standing (told_at entries m.entry (body_of m.place))
 
 -- ids as they are known, by their marks
 abbrev pub known_marks : List Entry → (Id → Option IdMark) → List Id → List KnownMod
