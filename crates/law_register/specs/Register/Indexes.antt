@@ -1,7 +1,7 @@
 -- What the indexes of a register stand for.
 use Rattle.std.specs.Prelude.{◌≡◌, ◌+◌, ◌-◌, ◌≤◌, if◌then◌else◌, ℕ, ◌==◌, Bool, true, false, ◌&&◌, List, [], ◌∷◌, ◌++◌, not, length, filter, take, drop, slice_get, Option, Some, None, option_map, is_some}
 use Rattle.std.specs.List.{list_any}
-use Rattle.std.specs.Option.{option_and_then}
+use Rattle.std.specs.Option.{option_and_then, option_map_or, option_or}
 use Rattle.std.specs.Str.{bytes_eq}
 use Rattle.indexmap.specs.IndexMap.{get_by, index_map_len}
 use Rattle.desk_base.specs.declared.id.Id.{Id}
@@ -89,12 +89,10 @@ RequestStands entries (Some m) None = ⊥
 
 -- how many items a drafter has added, and the marks of those in the draft: none without a mark
 abbrev pub added_of : Option DrafterMark → ℕ
-added_of None = 0
-added_of (Some m) = m.added
+added_of m = option_map_or (λ k. k.added) m 0
 
 abbrev pub items_in : Option DrafterMark → List ItemMark
-items_in None = []
-items_in (Some m) = m.items.items
+items_in m = option_map_or (λ k. k.items.items) m []
 
 -- the marks of items lead to the entries that added them
 abbrev pub ItemsStand : List Entry → List ItemMark → List DraftItem → Type 0
@@ -111,16 +109,13 @@ pub record DraftStands (entries : List Entry) (m : Option DrafterMark) (count : 
 
 -- what a work's mark says: nothing without a mark
 abbrev pub enacted_in : Option WorkMark → Option EnactedMark
-enacted_in None = None
-enacted_in (Some m) = m.enacted
+enacted_in m = option_and_then (λ k. k.enacted) m
 
 abbrev pub last_in : Option WorkMark → ℕ
-last_in None = 0
-last_in (Some m) = m.last
+last_in m = option_map_or (λ k. k.last) m 0
 
 abbrev pub ids_in : Option WorkMark → ℕ
-ids_in None = 0
-ids_in (Some m) = m.ids
+ids_in m = option_map_or (λ k. k.ids) m 0
 
 -- the mark of an id that is recorded by the entry at an index
 abbrev pub recorded_mark : ℕ → BodyMark → IdMark
@@ -161,8 +156,7 @@ newly_enacted number at (Enact act) = Some (record { entry = at; number = number
 newly_enacted number at _ = None
 
 abbrev pub enacted_after : ℕ → ℕ → Command → Option EnactedMark → Option EnactedMark
-enacted_after number at command None = newly_enacted number at command
-enacted_after number at command (Some m) = Some m
+enacted_after number at command m = option_or m (newly_enacted number at command)
 
 -- the mark of a work after a law entry that concerns it, and records so many modifications
 abbrev pub work_after : ℕ → ℕ → Command → ℕ → Option WorkMark → WorkMark

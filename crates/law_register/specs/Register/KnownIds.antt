@@ -1,6 +1,6 @@
 -- What is known of an id, and of a work, by the law up to a viewpoint.
 use Rattle.std.specs.Prelude.{ℕ, ◌+◌, ◌-◌, ◌==◌, List, [], ◌∷◌, ◌++◌, take, slice_get, Option, Some, None, option_map, if◌then◌else◌}
-use Rattle.std.specs.Option.{option_or}
+use Rattle.std.specs.Option.{option_or, option_to_list}
 use Rattle.std.specs.Str.{bytes_eq}
 use Rattle.desk_base.specs.declared.id.Id.{Id}
 use Rattle.law_register.specs.declared.law.act.Act.{Act}
@@ -94,8 +94,7 @@ ids_of work laws = ids_from 1 work laws
 
 -- an id as it is known
 abbrev pub known_as : Id → Option IdFacts → List KnownMod
-known_as id None = []
-known_as id (Some f) = record { id = id; live = is_live f.standing; body = f.body } ∷ []
+known_as id facts = option_to_list (option_map (λ f. record { id = id; live = is_live f.standing; body = f.body }) facts)
 
 -- these ids as they are known by the law
 abbrev pub known_ids : List Command → List Id → List KnownMod
