@@ -6,6 +6,7 @@ mod law;
 pub mod laws;
 mod register;
 pub mod replay_laws;
+mod series;
 
 pub use answer::{
     Answer, AnswerNode, AnswerNodes, AskFault, Days, Due, Ids, QueryRule, Question, Reading,
@@ -16,3 +17,4 @@ pub use register::{
     Draft, DraftItem, Drafter, EnterFault, Entry, Known, KnownMod, KnownMods, Register, Reply,
     Rule, Standing, Verdict, known_at,
 };
+pub use series::Series;
