@@ -12,9 +12,10 @@ use Rattle.law_register.specs.declared.register.indexes.BodyMark.{BodyMark}
 use Rattle.law_register.specs.declared.register.indexes.EnactedMark.{EnactedMark}
 use Rattle.law_register.specs.declared.register.indexes.IdMark.{IdMark}
 use Rattle.law_register.specs.declared.register.indexes.WorkMark.{WorkMark}
+use Rattle.law_register.specs.declared.register.standing.Standing.{Standing}
 use Rattle.law_register.specs.declared.law.modification.Modification.{Modification}
 use Rattle.law_register.specs.Answer.Counted.{is_same_id}
-use Rattle.law_register.specs.Register.Indexes.{told_at, work_named, act_of, body_of, EnactedStands, WorkStands, IdStands, enacted_in, last_in, ids_in, recorded_from, recorded_mark, corrected, with_withdrawn, work_of_mark, work_after, enacted_after, newly_enacted, BodiesStand}
+use Rattle.law_register.specs.Register.Indexes.{told_at, work_named, act_of, body_of, EnactedStands, WorkStands, IdStands, enacted_in, last_in, ids_in, recorded_from, recorded_mark, corrected, with_standing, work_of_mark, work_after, enacted_after, newly_enacted, BodiesStand}
 use Rattle.law_register.specs.Register.Concerns.{is_named}
 use Rattle.law_register.specs.Register.KnownIds.{IdFacts, item_at, first_facts, facts_after, facts_from, facts_of, enacted, enacted_by, enacted_or, ids_of, ids_recorded, ids_from_item}
 use Rattle.law_register.specs.Register.Verdicts.{last_on}
@@ -133,13 +134,13 @@ correct_stands es body at true None (Some f) h brings = h
 correct_stands es body at true (Some m) None h brings = h
 
 -- what a Withdraw or a Restore makes of an id
-pub withdraw_stands : (es : List Entry) (withdrawn : Option ℕ) (own : Bool) (m : Option IdMark) (f : Option IdFacts) → IdStands es m f
-    → IdStands es (cond own (option_map (with_withdrawn withdrawn) m) m) (cond own (option_map (λ (x : IdFacts). record x { withdrawn = withdrawn }) f) f)
-withdraw_stands es withdrawn false m f h = h
-withdraw_stands es withdrawn true None None h = tt
-withdraw_stands es withdrawn true (Some m) (Some f) h = (h.0, h.1, refl)
-withdraw_stands es withdrawn true None (Some f) h = h
-withdraw_stands es withdrawn true (Some m) None h = h
+pub withdraw_stands : (es : List Entry) (standing : Standing) (own : Bool) (m : Option IdMark) (f : Option IdFacts) → IdStands es m f
+    → IdStands es (cond own (option_map (with_standing standing) m) m) (cond own (option_map (λ (x : IdFacts). record x { standing = standing }) f) f)
+withdraw_stands es standing false m f h = h
+withdraw_stands es standing true None None h = tt
+withdraw_stands es standing true (Some m) (Some f) h = (h.0, h.1, refl)
+withdraw_stands es standing true None (Some f) h = h
+withdraw_stands es standing true (Some m) None h = h
 
 -- the work of an id
 pub of_work : (es : List Entry) (w : List ℕ) (m : Option IdMark) (f : Option IdFacts) → IdStands es m f → is_of w f ≡ is_named w (work_of_mark es m)

@@ -8,6 +8,7 @@ use Rattle.law_register.specs.declared.law.command.Command.TheVariants.{Enact, R
 use Rattle.law_register.specs.declared.register.draft.DraftItem.{DraftItem}
 use Rattle.law_register.specs.declared.register.entry.Entry.{Entry}
 use Rattle.law_register.specs.declared.register.indexes.IdMark.{IdMark}
+use Rattle.law_register.specs.declared.register.standing.Standing.TheVariants.{Live, Withdrawn}
 use Rattle.law_register.specs.declared.law.modification.Modification.{Modification}
 use Rattle.law_register.specs.Answer.Counted.{is_same_id}
 use Rattle.law_register.specs.Register.Drafts.{draft_of, items_of}
@@ -48,8 +49,8 @@ still_of w ls (Record other mods) id h = by (id.law == length ls + 1) refl
         let none : is_of w (facts_of id ls) ≡ false = ap (is_of w) (fresh id ls (number_same id.law (length ls + 1) is)) in
         absurd (let no : false ≡ true = sym none ∙ h in cc)
 still_of w ls (Correct other body) id h = changed_still w (is_same_id other id) (facts_of id ls) (λ x. record x { body = body }) (λ x. refl) h
-still_of w ls (Withdraw other) id h = changed_still w (is_same_id other id) (facts_of id ls) (λ x. record x { withdrawn = Some (length ls + 1) }) (λ x. refl) h
-still_of w ls (Restore other) id h = changed_still w (is_same_id other id) (facts_of id ls) (λ x. record x { withdrawn = None }) (λ x. refl) h
+still_of w ls (Withdraw other) id h = changed_still w (is_same_id other id) (facts_of id ls) (λ x. record x { standing = Withdrawn (length ls + 1) }) (λ x. refl) h
+still_of w ls (Restore other) id h = changed_still w (is_same_id other id) (facts_of id ls) (λ x. record x { standing = Live }) (λ x. refl) h
 still_of w ls (Enact act) id h = h
 still_of w ls (DraftAdd work body) id h = h
 still_of w ls (DraftDrop item) id h = h
@@ -114,7 +115,7 @@ are_of w L = by_last (λ ls. AreOf w ls (ids_of w ls)) (are_of_more w) tt L
 -- what marks list
 mark_known : (es : List Entry) (id : Id) (m : Option IdMark) (f : Option IdFacts) → IdStands es m f → known_mark es id m ≡ known_as id f
 mark_known es id None None h = refl
-mark_known es id (Some m) (Some f) h = ap (known_told id m.withdrawn) h.1 ∙ ap (λ withdrawn. known_told id withdrawn (Some f.body)) h.2
+mark_known es id (Some m) (Some f) h = ap (known_told id m.standing) h.1 ∙ ap (λ standing. known_told id standing (Some f.body)) h.2
 mark_known es id None (Some f) h = absurd h
 mark_known es id (Some m) None h = absurd h
 

@@ -87,12 +87,12 @@ id_body es (Some m) (Some f) h = h.1
 id_body es None (Some f) h = absurd h
 id_body es (Some m) None h = absurd h
 
-pub id_withdrawn : (es : List Entry) (m : Option IdMark) (f : Option IdFacts) → IdStands es m f
-    → option_map (λ (k : IdMark). k.withdrawn) m ≡ option_map (λ (x : IdFacts). x.withdrawn) f
-id_withdrawn es None None h = refl
-id_withdrawn es (Some m) (Some f) h = ap Some h.2
-id_withdrawn es None (Some f) h = absurd h
-id_withdrawn es (Some m) None h = absurd h
+pub id_standing : (es : List Entry) (m : Option IdMark) (f : Option IdFacts) → IdStands es m f
+    → option_map (λ (k : IdMark). k.standing) m ≡ option_map (λ (x : IdFacts). x.standing) f
+id_standing es None None h = refl
+id_standing es (Some m) (Some f) h = ap Some h.2
+id_standing es None (Some f) h = absurd h
+id_standing es (Some m) None h = absurd h
 
 -- a request's entry and its reply
 pub request_entry : (es : List Entry) (m : Option RequestMark) (found : Option (Entry × Reply)) → RequestStands es m found

@@ -8,6 +8,7 @@ use Rattle.law_register.specs.declared.law.command.Command.TheVariants.{Enact, R
 use Rattle.law_register.specs.declared.register.entry.Entry.{Entry}
 use Rattle.law_register.specs.declared.register.indexes.BodyMark.{BodyMark}
 use Rattle.law_register.specs.declared.register.indexes.IdMark.{IdMark}
+use Rattle.law_register.specs.declared.register.standing.Standing.TheVariants.{Live, Withdrawn}
 use Rattle.law_register.specs.declared.law.modification.Modification.{Modification}
 use Rattle.law_register.specs.Answer.Counted.{is_same_id}
 use Rattle.law_register.specs.Register.Indexes.{told, told_at, work_named, body_of, recorded_for, recorded_from, id_after, BodiesStand, IdStands, LawStands}
@@ -50,8 +51,8 @@ own_after w id ls (Record other mods) h = by (id.law == length ls + 1) refl
     by true is =
         first_not_own w other (item_at id.item mods) h ∙ sym (ap (own_facts w) (fresh id ls (number_same id.law (length ls + 1) is)))
 own_after w id ls (Correct other body) h = changed_same w id other ls (λ x. record x { body = body }) (λ x. refl) h
-own_after w id ls (Withdraw other) h = changed_same w id other ls (λ x. record x { withdrawn = Some (length ls + 1) }) (λ x. refl) h
-own_after w id ls (Restore other) h = changed_same w id other ls (λ x. record x { withdrawn = None }) (λ x. refl) h
+own_after w id ls (Withdraw other) h = changed_same w id other ls (λ x. record x { standing = Withdrawn (length ls + 1) }) (λ x. refl) h
+own_after w id ls (Restore other) h = changed_same w id other ls (λ x. record x { standing = Live }) (λ x. refl) h
 own_after w id ls (Enact act) h = refl
 own_after w id ls (DraftAdd work body) h = refl
 own_after w id ls (DraftDrop item) h = refl
@@ -164,13 +165,13 @@ module _ (es : List Entry) (w : List ℕ) (number at : ℕ) (bodies : List BodyM
   own_step ls (Withdraw other) stand own =
       let F : Option IdFacts → Type 0 = λ x. IdStands es (id_after number at (Withdraw other) bodies id m) x in
       other_after (Withdraw other) (slice_get es at) stand.0
-      (subst F (own_changed w (is_same_id other id) (λ x. record x { withdrawn = Some number }) f (λ x. refl))
-      (withdraw_stands es (Some number) (is_same_id other id) m (own_facts w f) h))
+      (subst F (own_changed w (is_same_id other id) (λ x. record x { standing = Withdrawn number }) f (λ x. refl))
+      (withdraw_stands es (Withdrawn number) (is_same_id other id) m (own_facts w f) h))
   own_step ls (Restore other) stand own =
       let F : Option IdFacts → Type 0 = λ x. IdStands es (id_after number at (Restore other) bodies id m) x in
       other_after (Restore other) (slice_get es at) stand.0
-      (subst F (own_changed w (is_same_id other id) (λ x. record x { withdrawn = None }) f (λ x. refl))
-      (withdraw_stands es None (is_same_id other id) m (own_facts w f) h))
+      (subst F (own_changed w (is_same_id other id) (λ x. record x { standing = Live }) f (λ x. refl))
+      (withdraw_stands es Live (is_same_id other id) m (own_facts w f) h))
   own_step ls (File work seen) stand own = absurd stand
   own_step ls (DraftAdd work body) stand own = absurd stand
   own_step ls (DraftDrop item) stand own = absurd stand

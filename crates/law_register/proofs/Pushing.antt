@@ -15,6 +15,7 @@ use Rattle.law_register.specs.declared.register.indexes.Indexes.{Indexes}
 use Rattle.law_register.specs.declared.register.indexes.ItemMark.{ItemMark}
 use Rattle.law_register.specs.declared.register.indexes.StepMark.{StepMark}
 use Rattle.law_register.specs.declared.register.indexes.WorkMark.{WorkMark}
+use Rattle.law_register.specs.declared.register.standing.Standing.TheVariants.{Live, Withdrawn}
 use Rattle.law_register.specs.declared.law.modification.Modification.{Modification}
 use Rattle.law_register.specs.declared.register.verdict.Reply.{Reply}
 use Rattle.law_register.specs.Answer.Counted.{is_same_id}
@@ -91,10 +92,10 @@ id_case es e ls draft items id m (Correct other body) is drafted h =
     (correct_stands (es ++ e ∷ []) body (length es) (is_same_id other id) m (facts_of id ls) (id_stays es e m (facts_of id ls) h) (told_last (body_of 0) es e ∙ ap (body_of 0) is))
 id_case es e ls draft items id m (Withdraw other) is drafted h =
     subst (IdStands (es ++ e ∷ []) (id_after (length ls + 1) (length es) (Withdraw other) [] id m)) (sym (facts_more id ls (Withdraw other)))
-    (withdraw_stands (es ++ e ∷ []) (Some (length ls + 1)) (is_same_id other id) m (facts_of id ls) (id_stays es e m (facts_of id ls) h))
+    (withdraw_stands (es ++ e ∷ []) (Withdrawn (length ls + 1)) (is_same_id other id) m (facts_of id ls) (id_stays es e m (facts_of id ls) h))
 id_case es e ls draft items id m (Restore other) is drafted h =
     subst (IdStands (es ++ e ∷ []) (id_after (length ls + 1) (length es) (Restore other) [] id m)) (sym (facts_more id ls (Restore other)))
-    (withdraw_stands (es ++ e ∷ []) None (is_same_id other id) m (facts_of id ls) (id_stays es e m (facts_of id ls) h))
+    (withdraw_stands (es ++ e ∷ []) Live (is_same_id other id) m (facts_of id ls) (id_stays es e m (facts_of id ls) h))
 id_case es e ls draft items id m (File work seen) is drafted h =
     let bodies = map (λ (i : DraftItem). i.body) (items_of work items) in
     let marks = map item_body (filter (marks_work es work) draft) in

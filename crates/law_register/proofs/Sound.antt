@@ -17,6 +17,8 @@ use Rattle.law_register.specs.declared.law.command.Command.TheVariants.{Enact, R
 use Rattle.law_register.specs.declared.register.draft.DraftItem.{DraftItem}
 use Rattle.law_register.specs.declared.register.entry.Entry.{Entry}
 use Rattle.law_register.specs.declared.register.known.KnownMod.{KnownMod}
+use Rattle.law_register.specs.declared.register.standing.Standing.{Standing}
+use Rattle.law_register.specs.declared.register.standing.Standing.TheVariants.{Live, Withdrawn}
 use Rattle.law_register.specs.declared.law.modification.Modification.{Modification}
 use Rattle.law_register.specs.declared.law.modification.Modification.TheVariants.{Textual, Force, Efficacy}
 use Rattle.textual_mods.specs.EditLimits.{payload_fault}
@@ -115,10 +117,10 @@ corrected_sound true None body h sound = tt
 corrected_sound true (Some f) body h sound = sound
 corrected_sound false f body h sound = h
 
-marked_sound : (b : Bool) (f : Option IdFacts) (withdrawn : Option ℕ) → FactsSound f → FactsSound (cond b (option_map (λ (x : IdFacts). record x { withdrawn = withdrawn }) f) f)
-marked_sound true None withdrawn h = tt
-marked_sound true (Some f) withdrawn h = h
-marked_sound false f withdrawn h = h
+marked_sound : (b : Bool) (f : Option IdFacts) (standing : Standing) → FactsSound f → FactsSound (cond b (option_map (λ (x : IdFacts). record x { standing = standing }) f) f)
+marked_sound true None standing h = tt
+marked_sound true (Some f) standing h = h
+marked_sound false f standing h = h
 
 recorded_sound : (id : Id) (number : ℕ) (w : List ℕ) (ms : List Modification) (f : Option IdFacts) → AreSound ms → FactsSound f → FactsSound (facts_after id number (Record w ms) f)
 recorded_sound id number w ms f sound h = by (id.law == number)
@@ -135,9 +137,9 @@ law_sound id ls draft (Record w ms) kept items h = subst FactsSound (sym (facts_
 law_sound id ls draft (Correct other body) kept items h =
     subst FactsSound (sym (facts_more id ls (Correct other body))) (corrected_sound (is_same_id other id) (facts_of id ls) body h ((sound_mods 1 (body ∷ []) kept).0))
 law_sound id ls draft (Withdraw other) kept items h =
-    subst FactsSound (sym (facts_more id ls (Withdraw other))) (marked_sound (is_same_id other id) (facts_of id ls) (Some (length ls + 1)) h)
+    subst FactsSound (sym (facts_more id ls (Withdraw other))) (marked_sound (is_same_id other id) (facts_of id ls) (Withdrawn (length ls + 1)) h)
 law_sound id ls draft (Restore other) kept items h =
-    subst FactsSound (sym (facts_more id ls (Restore other))) (marked_sound (is_same_id other id) (facts_of id ls) None h)
+    subst FactsSound (sym (facts_more id ls (Restore other))) (marked_sound (is_same_id other id) (facts_of id ls) Live h)
 law_sound id ls draft (File w seen) kept items h =
     let bodies = map (λ (i : DraftItem). i.body) (items_of w draft) in
     subst FactsSound (sym (facts_more id ls (Record w bodies)))

@@ -12,3 +12,4 @@ pub mod Requests
 pub mod Rulebook
 pub mod Verdicts
 pub mod Rules
+pub mod Standings

@@ -2,7 +2,6 @@
 
 mod answer;
 mod answer_node;
-mod days;
 mod due;
 mod ids;
 mod queries;
@@ -13,9 +12,8 @@ mod version;
 
 pub use answer::Answer;
 pub use answer_node::{AnswerNode, AnswerNodes};
-pub use days::Days;
 pub use due::Due;
-pub use ids::{Ids, Unapplied};
+pub use ids::{Days, Ids, Unapplied};
 pub use queries::{AskFault, QueryRule};
 pub use question::{Question, Reading};
 pub use replayer::Replayer;

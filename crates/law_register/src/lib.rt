@@ -6,6 +6,7 @@ mod law;
 pub mod laws;
 mod register;
 pub mod replay_laws;
+mod series;
 
 pub use answer::{
     Answer, AnswerNode, AnswerNodes, AskFault, Days, Due, Ids, QueryRule, Question, Reading,
@@ -14,5 +15,6 @@ pub use answer::{
 pub use law::{Act, Command, Destination, Kind, ModSource, Modification, Mods, entry_size};
 pub use register::{
     Draft, DraftItem, Drafter, EnterFault, Entry, Known, KnownMod, KnownMods, Register, Reply,
-    Rule, Verdict, known_at,
+    Rule, Standing, Verdict, known_at,
 };
+pub use series::Series;

@@ -13,6 +13,7 @@ mod limits;
 mod marks;
 mod register;
 mod rules;
+mod standing;
 mod verdict;
 
 pub use draft::{Draft, DraftItem};
@@ -23,4 +24,5 @@ pub use knowing::known_at;
 pub use known::{Known, KnownMod, KnownMods};
 pub use register::Register;
 pub use rules::Rule;
+pub use standing::Standing;
 pub use verdict::{Reply, Verdict};

@@ -101,7 +101,7 @@ fn listed(alloc: Global, days: &BTreeSet<Day>) -> Result<Days, Memory>
     for day in days {
         items.push(*day)?;
     }
-    Ok(Days::from_vec(items))
+    Ok(Days::from(items))
 }
 
 /// The days of the act's force period and of the modifications that stand, ascending, each once.

@@ -1,7 +1,7 @@
 -- What the indexes of a register stand for.
 use Rattle.std.specs.Prelude.{◌≡◌, ◌+◌, ◌-◌, ◌≤◌, if◌then◌else◌, ℕ, ◌==◌, Bool, true, false, ◌&&◌, List, [], ◌∷◌, ◌++◌, not, length, filter, take, drop, slice_get, Option, Some, None, option_map, is_some}
 use Rattle.std.specs.List.{list_any}
-use Rattle.std.specs.Option.{option_and_then}
+use Rattle.std.specs.Option.{option_and_then, option_map_or, option_or}
 use Rattle.std.specs.Str.{bytes_eq}
 use Rattle.indexmap.specs.IndexMap.{get_by, index_map_len}
 use Rattle.desk_base.specs.declared.id.Id.{Id}
@@ -21,6 +21,8 @@ use Rattle.law_register.specs.declared.register.indexes.RequestMark.{RequestMark
 use Rattle.law_register.specs.declared.register.indexes.StepMark.{StepMark}
 use Rattle.law_register.specs.declared.register.indexes.WorkMark.{WorkMark}
 use Rattle.law_register.specs.declared.law.modification.Modification.{Modification}
+use Rattle.law_register.specs.declared.register.standing.Standing.{Standing}
+use Rattle.law_register.specs.declared.register.standing.Standing.TheVariants.{Live, Withdrawn}
 use Rattle.law_register.specs.declared.register.verdict.Reply.{Reply}
 use Rattle.law_register.specs.Answer.Counted.{is_same_id}
 use Rattle.law_register.specs.Register.Drafts.{added, draft_of}
@@ -87,12 +89,10 @@ RequestStands entries (Some m) None = ⊥
 
 -- how many items a drafter has added, and the marks of those in the draft: none without a mark
 abbrev pub added_of : Option DrafterMark → ℕ
-added_of None = 0
-added_of (Some m) = m.added
+added_of m = option_map_or (λ k. k.added) m 0
 
 abbrev pub items_in : Option DrafterMark → List ItemMark
-items_in None = []
-items_in (Some m) = m.items.items
+items_in m = option_map_or (λ k. k.items.items) m []
 
 -- the marks of items lead to the entries that added them
 abbrev pub ItemsStand : List Entry → List ItemMark → List DraftItem → Type 0
@@ -109,20 +109,17 @@ pub record DraftStands (entries : List Entry) (m : Option DrafterMark) (count : 
 
 -- what a work's mark says: nothing without a mark
 abbrev pub enacted_in : Option WorkMark → Option EnactedMark
-enacted_in None = None
-enacted_in (Some m) = m.enacted
+enacted_in m = option_and_then (λ k. k.enacted) m
 
 abbrev pub last_in : Option WorkMark → ℕ
-last_in None = 0
-last_in (Some m) = m.last
+last_in m = option_map_or (λ k. k.last) m 0
 
 abbrev pub ids_in : Option WorkMark → ℕ
-ids_in None = 0
-ids_in (Some m) = m.ids
+ids_in m = option_map_or (λ k. k.ids) m 0
 
 -- the mark of an id that is recorded by the entry at an index
 abbrev pub recorded_mark : ℕ → BodyMark → IdMark
-recorded_mark at b = record { recorded = at; entry = b.entry; place = b.place; withdrawn = None }
+recorded_mark at b = record { recorded = at; entry = b.entry; place = b.place; standing = Live }
 
 -- the mark of an id after the entry at an index, law entry `number`, records modifications, of which the first is item `item`
 abbrev pub recorded_from : ℕ → ℕ → ℕ → List BodyMark → Id → Option IdMark → Option IdMark
@@ -139,18 +136,18 @@ items_after entries at number _ ms = ms
 
 -- an id's mark after it is corrected by the entry at this index, and after it is withdrawn or restored
 abbrev pub corrected : ℕ → IdMark → IdMark
-corrected at m = record { recorded = m.recorded; entry = at; place = 0; withdrawn = m.withdrawn }
+corrected at m = record { recorded = m.recorded; entry = at; place = 0; standing = m.standing }
 
-abbrev pub with_withdrawn : Option ℕ → IdMark → IdMark
-with_withdrawn withdrawn m = record { recorded = m.recorded; entry = m.entry; place = m.place; withdrawn = withdrawn }
+abbrev pub with_standing : Standing → IdMark → IdMark
+with_standing standing m = record { recorded = m.recorded; entry = m.entry; place = m.place; standing = standing }
 
 -- the mark of an id after the command of law entry `number`, which stands at this index and records these modifications
 abbrev pub id_after : ℕ → ℕ → Command → List BodyMark → Id → Option IdMark → Option IdMark
 id_after number at (Record work mods) bodies id m = recorded_from number at 1 bodies id m
 id_after number at (File work seen) bodies id m = recorded_from number at 1 bodies id m
 id_after number at (Correct other body) bodies id m = if is_same_id other id then option_map (corrected at) m else m
-id_after number at (Withdraw other) bodies id m = if is_same_id other id then option_map (with_withdrawn (Some number)) m else m
-id_after number at (Restore other) bodies id m = if is_same_id other id then option_map (with_withdrawn None) m else m
+id_after number at (Withdraw other) bodies id m = if is_same_id other id then option_map (with_standing (Withdrawn number)) m else m
+id_after number at (Restore other) bodies id m = if is_same_id other id then option_map (with_standing Live) m else m
 id_after number at _ bodies id m = m
 
 -- the mark of an act after the command of law entry `number`, which stands at this index: the first that is enacted stays
@@ -159,8 +156,7 @@ newly_enacted number at (Enact act) = Some (record { entry = at; number = number
 newly_enacted number at _ = None
 
 abbrev pub enacted_after : ℕ → ℕ → Command → Option EnactedMark → Option EnactedMark
-enacted_after number at command None = newly_enacted number at command
-enacted_after number at command (Some m) = Some m
+enacted_after number at command m = option_or m (newly_enacted number at command)
 
 -- the mark of a work after a law entry that concerns it, and records so many modifications
 abbrev pub work_after : ℕ → ℕ → Command → ℕ → Option WorkMark → WorkMark
@@ -204,7 +200,7 @@ ActsStand entries (at ∷ ats) [] = ⊥
 abbrev pub IdStands : List Entry → Option IdMark → Option IdFacts → Type 0
 IdStands entries None None = Unit {0}
 IdStands entries (Some m) (Some f) =
-    (told_at entries m.recorded work_named ≡ Some f.work) × (told_at entries m.entry (body_of m.place) ≡ Some f.body) × (m.withdrawn ≡ f.withdrawn)
+    (told_at entries m.recorded work_named ≡ Some f.work) × (told_at entries m.entry (body_of m.place) ≡ Some f.body) × (m.standing ≡ f.standing)
 IdStands entries None (Some f) = ⊥
 IdStands entries (Some m) None = ⊥
 

@@ -1,6 +1,6 @@
 -- What is known of an id, and of a work, by the law up to a viewpoint.
-use Rattle.std.specs.Prelude.{ℕ, ◌+◌, ◌-◌, ◌==◌, List, [], ◌∷◌, ◌++◌, take, slice_get, Option, Some, None, option_map, is_none, if◌then◌else◌}
-use Rattle.std.specs.Option.{option_or}
+use Rattle.std.specs.Prelude.{ℕ, ◌+◌, ◌-◌, ◌==◌, List, [], ◌∷◌, ◌++◌, take, slice_get, Option, Some, None, option_map, if◌then◌else◌}
+use Rattle.std.specs.Option.{option_or, option_to_list}
 use Rattle.std.specs.Str.{bytes_eq}
 use Rattle.desk_base.specs.declared.id.Id.{Id}
 use Rattle.law_register.specs.declared.law.act.Act.{Act}
@@ -10,15 +10,17 @@ use Rattle.law_register.specs.declared.register.entry.Entry.{Entry}
 use Rattle.law_register.specs.declared.register.known.Known.{Known}
 use Rattle.law_register.specs.declared.register.known.KnownMod.{KnownMod}
 use Rattle.law_register.specs.declared.law.modification.Modification.{Modification}
+use Rattle.law_register.specs.declared.register.standing.Standing.{Standing}
+use Rattle.law_register.specs.declared.register.standing.Standing.TheVariants.{Live, Withdrawn}
 use Rattle.law_register.specs.Answer.Counted.{is_same_id}
 use Rattle.law_register.specs.Register.LawList.{laws, front}
+use Rattle.law_register.specs.Register.Standings.{is_live}
 
--- what is known of an id: the work that it modifies, what it says, and the number of the law entry that withdrew it, if it does not
--- stand
+-- what is known of an id: the work that it modifies, what it says, and whether it stands
 pub record IdFacts : Type 0 where
   pub work : List ℕ
   pub body : Modification
-  pub withdrawn : Option ℕ
+  pub standing : Standing
 
 -- the item of a record, counted from 1
 abbrev pub item_at : ℕ → List Modification → Option Modification
@@ -26,22 +28,22 @@ item_at item mods = if item == 0 then None else slice_get mods (item - 1)
 
 -- an id that is recorded stands
 abbrev pub first_facts : List ℕ → Option Modification → Option IdFacts
-first_facts work body = option_map (λ m. record { work = work; body = m; withdrawn = None }) body
+first_facts work body = option_map (λ m. record { work = work; body = m; standing = Live }) body
 
 -- what is known of an id once it says something else
 abbrev pub corrected : Modification → IdFacts → IdFacts
 corrected body f = record f { body = body }
 
 -- what is known of an id once it is withdrawn by the law entry of this number, or restored
-abbrev pub marked : Option ℕ → IdFacts → IdFacts
-marked withdrawn f = record f { withdrawn = withdrawn }
+abbrev pub marked : Standing → IdFacts → IdFacts
+marked standing f = record f { standing = standing }
 
 -- what law entry `number` makes of what is known of an id: it is recorded as item of that number, corrected, withdrawn, or restored
 abbrev pub facts_after : Id → ℕ → Command → Option IdFacts → Option IdFacts
 facts_after id number (Record work mods) facts = if id.law == number then first_facts work (item_at id.item mods) else facts
 facts_after id number (Correct other body) facts = if is_same_id other id then option_map (corrected body) facts else facts
-facts_after id number (Withdraw other) facts = if is_same_id other id then option_map (marked (Some number)) facts else facts
-facts_after id number (Restore other) facts = if is_same_id other id then option_map (marked None) facts else facts
+facts_after id number (Withdraw other) facts = if is_same_id other id then option_map (marked (Withdrawn number)) facts else facts
+facts_after id number (Restore other) facts = if is_same_id other id then option_map (marked Live) facts else facts
 facts_after id number _ facts = facts
 
 -- what law entries, of which the first has this number, make of what is known of an id
@@ -92,8 +94,7 @@ ids_of work laws = ids_from 1 work laws
 
 -- an id as it is known
 abbrev pub known_as : Id → Option IdFacts → List KnownMod
-known_as id None = []
-known_as id (Some f) = record { id = id; live = is_none f.withdrawn; body = f.body } ∷ []
+known_as id facts = option_to_list (option_map (λ f. record { id = id; live = is_live f.standing; body = f.body }) facts)
 
 -- these ids as they are known by the law
 abbrev pub known_ids : List Command → List Id → List KnownMod

@@ -1,5 +1,6 @@
 -- The law entries that concern a work, its ids by their marks, and the items of a draft by theirs.
-use Rattle.std.specs.Prelude.{ℕ, ◌+◌, nat_le, List, [], ◌∷◌, ◌++◌, length, Option, Some, None, is_none, if◌then◌else◌}
+use Rattle.std.specs.Prelude.{ℕ, ◌+◌, nat_le, List, [], ◌∷◌, ◌++◌, length, Option, Some, None, option_map, if◌then◌else◌}
+use Rattle.std.specs.Option.{option_and_then, option_map_or, option_to_list}
 use Rattle.desk_base.specs.declared.id.Id.{Id}
 use Rattle.law_register.specs.declared.law.act.Act.{Act}
 use Rattle.law_register.specs.declared.law.command.Command.{Command}
@@ -10,10 +11,12 @@ use Rattle.law_register.specs.declared.register.indexes.EnactedMark.{EnactedMark
 use Rattle.law_register.specs.declared.register.indexes.IdMark.{IdMark}
 use Rattle.law_register.specs.declared.register.indexes.ItemMark.{ItemMark}
 use Rattle.law_register.specs.declared.register.known.KnownMod.{KnownMod}
+use Rattle.law_register.specs.declared.register.standing.Standing.{Standing}
 use Rattle.law_register.specs.declared.law.modification.Modification.{Modification}
 use Rattle.law_register.specs.Register.Indexes.{told_at, work_named, act_of, body_of, id_after}
 use Rattle.law_register.specs.Register.KnownIds.{IdFacts}
 use Rattle.law_register.specs.Register.Concerns.{is_of, concerns}
+use Rattle.law_register.specs.Register.Standings.{is_live}
 
 -- the numbers of those of these law entries that concern a work, behind others and before those that were found, newest first
 abbrev pub numbers_from : List Command → List ℕ → List ℕ → List Command → List ℕ
@@ -31,8 +34,7 @@ number_within viewpoint number = if nat_le number viewpoint then number ∷ [] e
 
 -- the mark of an act that a law entry up to a viewpoint enacts
 abbrev pub enacted_within : ℕ → Option EnactedMark → Option EnactedMark
-enacted_within viewpoint None = None
-enacted_within viewpoint (Some m) = if nat_le m.number viewpoint then Some m else None
+enacted_within viewpoint m = option_and_then (λ k. if nat_le k.number viewpoint then Some k else None) m
 
 -- what is known of an id, if it is recorded in a work
 abbrev pub own_facts : List ℕ → Option IdFacts → Option IdFacts
@@ -40,8 +42,7 @@ own_facts work f = if is_of work f then f else None
 
 -- the mark of an id after law entry `number`, which stands at this index and records these modifications, if there is an entry
 abbrev pub id_told : ℕ → ℕ → List BodyMark → Id → Option IdMark → Option Entry → Option IdMark
-id_told number at bodies id m None = m
-id_told number at bodies id m (Some e) = id_after number at e.command bodies id m
+id_told number at bodies id m entry = option_map_or (λ e. id_after number at e.command bodies id m) entry m
 
 -- the ids of the modifications that law entry `number` records, of which the first is item `item`
 abbrev pub ids_marked : ℕ → ℕ → List BodyMark → List Id
@@ -49,13 +50,11 @@ ids_marked number item [] = []
 ids_marked number item (b ∷ bodies) = record { law = number; item = item } ∷ ids_marked number (item + 1) bodies
 
 -- an id as it is known, by its mark
-abbrev pub known_told : Id → Option ℕ → Option Modification → List KnownMod
-known_told id withdrawn None = []
-known_told id withdrawn (Some body) = record { id = id; live = is_none withdrawn; body = body } ∷ []
+abbrev pub known_told : Id → Standing → Option Modification → List KnownMod
+known_told id standing said = option_to_list (option_map (λ body. record { id = id; live = is_live standing; body = body }) said)
 
 abbrev pub known_mark : List Entry → Id → Option IdMark → List KnownMod
-known_mark entries id None = []
-known_mark entries id (Some m) = known_told id m.withdrawn (told_at entries m.entry (body_of m.place))
+known_mark entries id m = option_map_or (λ k. known_told id k.standing (told_at entries k.entry (body_of k.place))) m []
 
 -- ids as they are known, by their marks
 abbrev pub known_marks : List Entry → (Id → Option IdMark) → List Id → List KnownMod
@@ -64,8 +63,7 @@ known_marks entries mark (id ∷ ids) = known_mark entries id (mark id) ++ known
 
 -- the works that the entries at these indexes enact
 abbrev pub work_told : Option Act → List (List ℕ)
-work_told None = []
-work_told (Some act) = act.work ∷ []
+work_told act = option_to_list (option_map (λ a. a.work) act)
 
 abbrev pub works_at : List Entry → List ℕ → List (List ℕ)
 works_at entries [] = []

@@ -24,6 +24,8 @@ use Rattle.law_register.specs.declared.register.entry.Entry.{Entry}
 use Rattle.law_register.specs.declared.register.limits.TheConstants.{MOST_DRAFTERS, MOST_DRAFT_ITEMS, MOST_IDS, MOST_LAWS, MOST_ENTRY_BYTES, MOST_REGISTER_BYTES}
 use Rattle.law_register.specs.declared.register.rules.Rule.{Rule}
 use Rattle.law_register.specs.declared.register.rules.Rule.TheVariants.{NumberReused, DraftersFull, UnknownWork, WorkExists, BadTree, BadModification, BadPeriod, UnknownModification, AlreadyWithdrawn, NotWithdrawn, WrongKind, Stale, EmptyDraft, DraftFull, WorkFull, LawFull, RegisterFull}
+use Rattle.law_register.specs.declared.register.standing.Standing.{Standing}
+use Rattle.law_register.specs.declared.register.standing.Standing.TheVariants.{Live, Withdrawn}
 use Rattle.law_register.specs.declared.register.verdict.Reply.{Reply}
 use Rattle.law_register.specs.Law.Bounds.{modification_fits, times_fit, brought_fault}
 use Rattle.law_register.specs.Law.Kinds.{kind_of, is_same_kind}
@@ -33,6 +35,7 @@ use Rattle.law_register.specs.Register.Concerns.{concerns, is_of}
 use Rattle.law_register.specs.Register.Drafts.{items_of}
 use Rattle.law_register.specs.Register.KnownIds.{IdFacts, facts_of, enacted, ids_of}
 use Rattle.law_register.specs.Register.LawList.{front}
+use Rattle.law_register.specs.Register.Standings.{is_live}
 use Rattle.law_register.specs.Register.Requests.{drafters, law_number, reply_number}
 
 -- a rule that is broken where a test holds
@@ -148,13 +151,17 @@ unknown_modification law draft (DraftDrop item) = unknown_item item draft
 unknown_modification law draft _ = None
 
 -- AlreadyWithdrawn: a withdrawal of an id that does not stand; the law entry that withdrew it is shown
+abbrev pub withdrawn_before : Standing → Option Rule
+withdrawn_before Live = None
+withdrawn_before (Withdrawn number) = Some (AlreadyWithdrawn number)
+
 abbrev pub already_withdrawn : List Command → Command → Option Rule
-already_withdrawn law (Withdraw id) = option_map (λ number. AlreadyWithdrawn number) (option_and_then (λ f. f.withdrawn) (facts_of id law))
+already_withdrawn law (Withdraw id) = option_and_then (λ f. withdrawn_before f.standing) (facts_of id law)
 already_withdrawn law _ = None
 
 -- NotWithdrawn: a restoring of an id that stands
 abbrev pub not_withdrawn : List Command → Command → Option Rule
-not_withdrawn law (Restore id) = option_and_then (λ f. broken_where (is_none f.withdrawn) (NotWithdrawn id)) (facts_of id law)
+not_withdrawn law (Restore id) = option_and_then (λ f. broken_where (is_live f.standing) (NotWithdrawn id)) (facts_of id law)
 not_withdrawn law _ = None
 
 -- WrongKind: a correction of another kind than its id, or a destination that is no textual modification

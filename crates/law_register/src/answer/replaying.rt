@@ -52,7 +52,7 @@ fn apply_edit<L: Ledger>(
 {
     match apply(alloc, &mut version.tree, id, edit, steps)? {
         Outcome::Done => version.applied.push(id),
-        Outcome::Unapplied(cause) => version.unapplied.push(id, cause),
+        Outcome::Unapplied(cause) => version.unapplied.push((id, cause)),
     }
 }
 

@@ -1,12 +1,12 @@
 //! Modifications of an act, each with its source.
 
-ghost use Rattle.std.specs.Prelude.{◌≡◌, [], ◌++◌, ◌∷◌, OnOk, OnErr};
+ghost use Rattle.std.specs.Prelude.{◌≡◌};
 
+use crate::series::Series;
 use bearing_mods::{EfficacyEffect, ForceEffect};
 use desk_base::{Day, Id, Memory, Period, Text};
 use frbr_names::WorkName;
 use std::alloc::Global;
-use std::marker::Model;
 use textual_mods::TextualMod;
 
 /// The place of the provision that modifies: the act, and the order within it.
@@ -157,78 +157,5 @@ impl Modification {
     }
 }
 
-/// Modifications in order. A clause sees them as a list.
-#[derive(Debug, Drop)]
-pub struct Mods {
-    items: Vec<Modification>,
-}
-
-impl Model for Mods {
-    ghost use Rattle.std.specs.Prelude.{List};
-    ghost use Rattle.law_register.specs.declared.law.modification.Modification.{Modification};
-
-    ghost Value = { List Modification };
-
-    ghost use Rattle.act_tree.specs.Codes.{branches_code};
-    ghost use Rattle.act_tree.specs.OwnCode.{own_code};
-    ghost use Rattle.std.specs.Coded.{codes};
-
-    ghost coded = { Prim.hlevel (codes, branches_code own_code) };
-
-    ghost view = { λ m. m.items.items };
-}
-
-impl Mods {
-    /// No modifications. It takes no memory.
-    pub fn new(alloc: Global) -> Mods
-        ensures { result ≡ [] }
-    {
-        Mods {
-            items: Vec::new(alloc),
-        }
-    }
-
-    /// Adds a modification behind the others.
-    pub fn push(&mut self, modification: Modification) -> Result<(), Memory>
-        ensures ok { OnOk result (self.new ≡ self.old ++ modification ∷ []) }
-        ensures err { OnErr result (self.new ≡ self.old) }
-    {
-        self.items.push(modification)?;
-        Ok(())
-    }
-
-    /// The modifications as a slice.
-    pub fn as_slice(&self) -> &[Modification]
-        ensures { result.now ≡ self.now }
-    {
-        self.items.as_slice()
-    }
-
-    /// The vector of the modifications.
-    pub fn into_vec(self) -> Vec<Modification>
-        ensures { result.items ≡ self }
-    {
-        self.items
-    }
-}
-
-impl PartialEq for Mods {
-    ghost use Rattle.std.specs.Cmp.Lexicographic.{pointwise, lists_per};
-    ghost use Rattle.law_register.specs.contracts.law.modification.ModificationPartialEq.TheImpl.{ghosts};
-    ghost use Rattle.law_register.specs.contracts.law.modification.ModificationPartialEq.TheImpl.Laws.{laws-law};
-
-    ghost eq = { pointwise ghosts.eq };
-
-    ghost laws = { lists_per laws-law };
-
-    fn eq(&self, other: &Mods) -> bool {
-        self.as_slice() == other.as_slice()
-    }
-}
-
-impl Eq for Mods {
-    ghost use Rattle.std.specs.Cmp.Lexicographic.{lists_equiv};
-    ghost use Rattle.law_register.specs.contracts.law.modification.ModificationEq.TheImpl.Laws.{laws-law};
-
-    ghost laws = { lists_equiv laws-law };
-}
+/// Modifications in order.
+pub type Mods = Series<Modification>;

@@ -5,7 +5,7 @@ ghost use Rattle.std.specs.Str.{bytes_eq};
 ghost use Rattle.indexmap.specs.IndexMap.{get_by, index_map_len, spare};
 ghost use Rattle.law_register.specs.Answer.Counted.{is_same_id};
 
-use crate::{Drafter, Reply};
+use crate::{Drafter, Reply, Standing};
 use arrayvec::ArrayVec;
 use desk_base::{Id, Memory};
 use frbr_names::WorkName;
@@ -98,8 +98,8 @@ pub struct IdMark {
     pub entry: usize,
     /// The place of that in a record, from 0; 0 in any other command.
     pub place: usize,
-    /// The number of the law entry that withdrew it. `None`: it stands.
-    pub withdrawn: Option<u32>,
+    /// Whether it stands, or which law entry withdrew it.
+    pub standing: Standing,
 }
 
 /// A law entry, as a step among those that concern its work.

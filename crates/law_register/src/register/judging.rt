@@ -15,7 +15,8 @@ use crate::register::limits::{
     MOST_DRAFT_ITEMS, MOST_DRAFTERS, MOST_ENTRY_BYTES, MOST_IDS, MOST_LAWS, MOST_REGISTER_BYTES,
 };
 use crate::{
-    Command, Destination, Drafter, Entry, Kind, Modification, Register, Reply, Rule, Verdict,
+    Command, Destination, Drafter, Entry, Kind, Modification, Register, Reply, Rule, Standing,
+    Verdict,
 };
 use desk_base::{Id, Memory};
 use frbr_names::WorkName;
@@ -316,9 +317,9 @@ impl Register {
         ensures { result ≡ verdicts.already_withdrawn (laws self.now.entries) command.now }
     {
         match command {
-            Command::Withdraw { id } => match self.withdrawn(*id) {
-                Some(Some(number)) => Some(Rule::AlreadyWithdrawn(number)),
-                Some(None) | None => None,
+            Command::Withdraw { id } => match self.standing(*id) {
+                Some(Standing::Withdrawn(number)) => Some(Rule::AlreadyWithdrawn(number)),
+                Some(Standing::Live) | None => None,
             },
             _ => None,
         }
@@ -328,10 +329,9 @@ impl Register {
         ensures { result ≡ verdicts.not_withdrawn (laws self.now.entries) command.now }
     {
         match command {
-            Command::Restore { id } => match self.withdrawn(*id) {
-                Some(Some(_)) => None,
-                Some(None) => Some(Rule::NotWithdrawn(*id)),
-                None => None,
+            Command::Restore { id } => match self.standing(*id) {
+                Some(Standing::Live) => Some(Rule::NotWithdrawn(*id)),
+                Some(Standing::Withdrawn(_)) | None => None,
             },
             _ => None,
         }

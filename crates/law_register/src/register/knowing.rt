@@ -152,7 +152,7 @@ fn add_known(
         Some(body) => {
             let known = KnownMod {
                 id,
-                live: mark.withdrawn.is_none(),
+                live: mark.standing.is_live(),
                 body: body.copy(alloc)?,
             };
             Ok(mods.push(known)?)

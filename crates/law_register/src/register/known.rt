@@ -1,11 +1,11 @@
 //! What is known of a work at a viewpoint: its act as enacted, and its modifications.
 
-ghost use Rattle.std.specs.Prelude.{◌≡◌, [], ◌++◌, ◌∷◌, OnOk, OnErr, IfOk, take};
+ghost use Rattle.std.specs.Prelude.{◌≡◌, IfOk};
 
+use crate::series::Series;
 use crate::{Act, Modification};
 use desk_base::{Id, Memory};
 use std::alloc::Global;
-use std::marker::Model;
 
 /// A modification of a work, as it is known at a viewpoint.
 #[derive(Debug, Drop)]
@@ -31,53 +31,10 @@ impl KnownMod {
     }
 }
 
-/// The modifications of a work in ascending order of their ids. A clause sees them as a list.
-#[derive(Debug, Drop)]
-pub struct KnownMods {
-    items: Vec<KnownMod>,
-}
-
-impl Model for KnownMods {
-    ghost use Rattle.std.specs.Prelude.{List};
-    ghost use Rattle.law_register.specs.declared.register.known.KnownMod.{KnownMod};
-
-    ghost Value = { List KnownMod };
-
-    ghost use Rattle.act_tree.specs.Codes.{branches_code};
-    ghost use Rattle.act_tree.specs.OwnCode.{own_code};
-    ghost use Rattle.std.specs.Coded.{codes};
-
-    ghost coded = { Prim.hlevel (codes, branches_code own_code) };
-
-    ghost view = { λ m. m.items.items };
-}
+/// The modifications of a work in ascending order of their ids.
+pub type KnownMods = Series<KnownMod>;
 
 impl KnownMods {
-    /// No modifications. It takes no memory.
-    pub fn new(alloc: Global) -> KnownMods
-        ensures { result ≡ [] }
-    {
-        KnownMods {
-            items: Vec::new(alloc),
-        }
-    }
-
-    /// Adds a modification behind the others.
-    pub fn push(&mut self, known: KnownMod) -> Result<(), Memory>
-        ensures ok { OnOk result (self.new ≡ self.old ++ known ∷ []) }
-        ensures err { OnErr result (self.new ≡ self.old) }
-    {
-        self.items.push(known)?;
-        Ok(())
-    }
-
-    /// The modifications as a slice.
-    pub fn as_slice(&self) -> &[KnownMod]
-        ensures { result.now ≡ self.now }
-    {
-        self.items.as_slice()
-    }
-
     /// The same modifications; their texts are shared.
     pub fn copy(&self, alloc: Global) -> Result<KnownMods, Memory>
         ensures { IfOk result (λ copy. copy ≡ self.now) }

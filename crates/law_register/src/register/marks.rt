@@ -17,7 +17,7 @@ use crate::register::indexes::{
     ItemMarks, KnownIds, RequestKey, RequestMark, Requests, StepMark, WorkKey, WorkMark, Works,
     drafter_key, work_key,
 };
-use crate::{Command, Drafter, Entry, Modification, Reply};
+use crate::{Command, Drafter, Entry, Modification, Reply, Standing};
 use arrayvec::ArrayVec;
 use desk_base::Id;
 use frbr_names::WorkName;
@@ -84,7 +84,7 @@ pub fn record(ids: &mut KnownIds, number: u32, recorded: usize, bodies: &[BodyMa
             recorded,
             entry: body.entry,
             place: body.place,
-            withdrawn: None,
+            standing: Standing::Live,
         };
         put_id(ids, id, mark);
         item += 1;
@@ -189,22 +189,22 @@ fn correct(ids: &mut KnownIds, id: Id, at: usize)
             recorded: mark.recorded,
             entry: at,
             place: 0,
-            withdrawn: mark.withdrawn,
+            standing: mark.standing,
         };
         put_id(ids, id, corrected);
     }
 }
 
-fn set_withdrawn(ids: &mut KnownIds, id: Id, withdrawn: Option<u32>)
+fn set_standing(ids: &mut KnownIds, id: Id, standing: Standing)
     requires { 0 < spare ids.old }
-    ensures { (i : Id) → get_by (is_same_id i) ids.new ≡ (if is_same_id id i then option_map (spec.with_withdrawn withdrawn) (get_by (is_same_id i) ids.old) else get_by (is_same_id i) ids.old) }
+    ensures { (i : Id) → get_by (is_same_id i) ids.new ≡ (if is_same_id id i then option_map (spec.with_standing standing) (get_by (is_same_id i) ids.old) else get_by (is_same_id i) ids.old) }
 {
     if let Some(mark) = ids.get(&id).copied() {
         let changed = IdMark {
             recorded: mark.recorded,
             entry: mark.entry,
             place: mark.place,
-            withdrawn,
+            standing,
         };
         put_id(ids, id, changed);
     }
@@ -220,8 +220,8 @@ pub fn note_ids(ids: &mut KnownIds, number: u32, at: usize, command: &Command, b
         Command::Record { .. } => record(ids, number, at, bodies),
         Command::File { .. } => record(ids, number, at, bodies),
         Command::Correct { id, .. } => correct(ids, *id, at),
-        Command::Withdraw { id } => set_withdrawn(ids, *id, Some(number)),
-        Command::Restore { id } => set_withdrawn(ids, *id, None),
+        Command::Withdraw { id } => set_standing(ids, *id, Standing::Withdrawn(number)),
+        Command::Restore { id } => set_standing(ids, *id, Standing::Live),
         _ => {}
     }
 }

@@ -6,7 +6,7 @@ ghost use Rattle.law_register.specs.Register.Verdicts as verdicts;
 
 use crate::register::contents;
 use crate::register::indexes::Indexes;
-use crate::{Command, Draft, Drafter, Entry, Kind, Modification, Reply};
+use crate::{Command, Draft, Drafter, Entry, Kind, Modification, Reply, Standing};
 use desk_base::{Id, Memory};
 use frbr_names::WorkName;
 use std::alloc::Global;
@@ -239,11 +239,11 @@ impl Register {
         }
     }
 
-    pub(crate) fn withdrawn(&self, id: Id) -> Option<Option<u32>>
-        ensures { result ≡ option_map (λ f. f.withdrawn) (facts_of id (laws self.now.entries)) }
+    pub(crate) fn standing(&self, id: Id) -> Option<Standing>
+        ensures { result ≡ option_map (λ f. f.standing) (facts_of id (laws self.now.entries)) }
     {
         match self.indexes.id(id) {
-            Some(mark) => Some(mark.withdrawn),
+            Some(mark) => Some(mark.standing),
             None => None,
         }
     }

@@ -1,7 +1,7 @@
 -- The sum so far and the modifications left make what the first sum and all of them make.
 use Rattle.std.proofs.Common.{◌≡◌, ◌+◌, ◌≤◌, drop, min}
 use Rattle.law_register.specs.Law.Sizes.{modifications_size}
-use Rattle.law_register.proofs.law.modification.Mods.plus_size.Given as goal
+use Rattle.law_register.proofs.law.sizes.Mods.plus_size.Given as goal
 
 abbrev pub invariant-loop-modification : goal.invariant-loop-modification
 invariant-loop-modification l = record {
