@@ -1,5 +1,5 @@
 -- What one modification more makes of a version.
-use Rattle.std.proofs.Common.{◌≡◌, ◌∙◌, sym, ap, refl, subst, ℕ, zero, suc, ◌+◌, ◌-◌, ◌^◌, ◌<◌, min, Bool, true, false, ◌||◌, List, [], ◌∷◌, ◌++◌, append_assoc, cond, drop, length, length-append, Option, Some, None, Ok, Err, Result, arith}
+use Rattle.std.proofs.Common.{◌≡◌, ◌∙◌, sym, ap, refl, subst, ℕ, ◌+◌, ◌-◌, ◌^◌, ◌<◌, min, Bool, true, false, ◌||◌, List, [], ◌∷◌, ◌++◌, append_assoc, cond, length, length-append, Option, Some, None, Ok, Err, Result, arith}
 use Rattle.std.specs.List.{All, AllByRecursion, find, list_any}
 use Rattle.std.proofs.lemmas.List.Elements.{All-head, All-tail}
 use Rattle.desk_base.specs.declared.id.Id.{Id}
@@ -8,7 +8,6 @@ use Rattle.act_tree.specs.Branches.{Branches, branches_of}
 use Rattle.act_tree.specs.Brought.{has_brought}
 use Rattle.act_tree.specs.Faults.{first_cause, first_fault}
 use Rattle.act_tree.specs.Provisions.{Provision}
-use Rattle.act_tree.specs.Trees.{TreeValue}
 use Rattle.textual_mods.proofs.Starting.{enacted_brings_none, enacted_fits}
 use Rattle.textual_mods.specs.Edits as edits
 use Rattle.textual_mods.specs.declared.edit.TextualMod.{TextualMod}
@@ -16,7 +15,7 @@ use Rattle.law_register.specs.declared.law.act.Act.{Act}
 use Rattle.law_register.specs.declared.register.known.KnownMod.{KnownMod}
 use Rattle.law_register.specs.Answer.Counted.{is_same_id}
 use Rattle.law_register.specs.Answer.Replay.{VersionValue, as_enacted, taken, edit_of, edited_by, replayed}
-use Rattle.law_register.specs.Answer.Soundness.{IsFreshBut, IsReplayed, IsSoundBody, id_twice}
+use Rattle.law_register.specs.Answer.Soundness.{IsReplayed, IsSoundBody, id_twice}
 use Rattle.law_register.proofs.ApartIds.{none_left, none_before, one_less, other_id}
 
 -- other modifications have no wId in the new text that had none in the old one

@@ -13,7 +13,6 @@ use Rattle.desk_base.specs.declared.id.Id.{Id}
 use Rattle.law_register.specs.declared.answer.due.Due.{Due}
 use Rattle.law_register.specs.declared.answer.question.Reading.{Reading}
 use Rattle.law_register.specs.declared.law.modification.Destination.TheVariants as to
-use Rattle.law_register.specs.declared.law.modification.ModSource.{ModSource}
 use Rattle.law_register.specs.declared.law.modification.Modification.{Modification}
 use Rattle.law_register.specs.declared.law.modification.Modification.TheVariants.{Textual, Force, Efficacy}
 use Rattle.law_register.specs.declared.register.known.Known.{Known}

@@ -1,5 +1,5 @@
 -- The indexes of the entries that enact stand for the acts of the law, once one more entry stands behind the others; and their works.
-use Rattle.std.proofs.Common.{◌≡◌, ◌∙◌, sym, ap, subst, ℕ, List, [], ◌∷◌, ◌++◌, length, map, Option, Some, None, refl}
+use Rattle.std.proofs.Common.{◌≡◌, ◌∙◌, sym, ap, subst, ℕ, List, [], ◌∷◌, ◌++◌, length, map, Some, refl}
 use Rattle.std.proofs.lemmas.List.{append-nil}
 use Rattle.law_register.specs.declared.law.act.Act.{Act}
 use Rattle.law_register.specs.declared.law.command.Command.{Command}

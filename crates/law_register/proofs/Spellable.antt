@@ -1,5 +1,5 @@
 -- What is accepted and well spelled can be spelled as bytes.
-use Rattle.std.proofs.Common.{◌≡◌, ◌∙◌, sym, ap, subst, ℕ, ◌+◌, ◌≤◌, nat_le, nat_lt, ◌⊎◌, inl, inr, Bool, true, false, cond, not, ◌&&◌, ◌||◌, List, [], ◌∷◌, ◌++◌, length, codes, Option, Some, None, Result, Ok, Err, is_ok, unwrap_or, ◌<◌, refl, arith}
+use Rattle.std.proofs.Common.{◌≡◌, ◌∙◌, sym, ap, subst, ℕ, ◌+◌, ◌≤◌, nat_le, nat_lt, inl, inr, Bool, true, false, cond, not, ◌&&◌, ◌||◌, List, [], ◌∷◌, ◌++◌, length, codes, Option, Some, None, Ok, Err, is_ok, unwrap_or, ◌<◌, refl, arith}
 use Rattle.std.proofs.lemmas.List.{length-append}
 use Rattle.std.proofs.lemmas.List.Folds.{list_all-append}
 use Rattle.std.proofs.lemmas.Bool.Decides.{nat_tests}
@@ -7,13 +7,12 @@ use Rattle.std.specs.List.{list_all}
 use Rattle.std.specs.Str.{bytes_eq}
 use Rattle.frbr_names.specs.Reads.{Read}
 use Rattle.frbr_names.specs.Rules.{is_portion, is_portion_byte}
-use Rattle.frbr_names.specs.Expressions.{Expression, IsEnding, KeepsRules, SpellsExpression, expression_of, is_expression, is_language, is_portion_or_none, portion_text, version_text, versioned_text}
+use Rattle.frbr_names.specs.Expressions.{Expression, IsEnding, SpellsExpression, expression_of, is_expression, is_language, is_portion_or_none, portion_text, version_text, versioned_text}
 use Rattle.frbr_names.proofs.DateLemmas.{day_is_long}
 use Rattle.frbr_names.proofs.ExpressionLemmas.{expression_spelled}
 use Rattle.frbr_names.specs.Works.{Work, date_named, date_read, work_of}
 use Rattle.eid_paths.specs.declared.numbering.Numbering.{Numbering}
 use Rattle.act_tree.specs.Branches.{Branch, Branches, branch, no_branches, more_branches, branches_of, listed, listed-branches_of, heights, count, counts}
-use Rattle.act_tree.specs.Eids.{eid_below}
 use Rattle.act_tree.specs.Faults.{all_eids, first_fault, is_long, has_long, have_long}
 use Rattle.act_tree.specs.Provisions.{Own}
 use Rattle.act_tree.specs.Wids.{one_twice}
@@ -34,14 +33,14 @@ use Rattle.law_register.specs.declared.law.modification.Modification.{Modificati
 use Rattle.law_register.specs.declared.law.modification.Modification.TheVariants.{Textual, Force, Efficacy}
 use Rattle.law_register.specs.declared.register.entry.Entry.{Entry}
 use Rattle.act_tree.specs.Limits.{has_few_refs, have_few_refs, is_wid}
-use Rattle.textual_mods.specs.EditLimits.{text_fits, spot_fits, payload_fits, pairs_fit, text_pos_fits, split_at_fits, edit_fits, payload_fault}
+use Rattle.textual_mods.specs.EditLimits.{text_fits, spot_fits, payload_fits, text_pos_fits, split_at_fits, edit_fits, payload_fault}
 use Rattle.law_register.specs.Law.Bounds.{destination_fits, modification_fits, brought_fault}
 use Rattle.law_register.specs.Law.Same.{same_number}
 use Rattle.law_register.specs.Law.Spelling.{is_spelled_node, are_spelled_nodes, is_spelled_day, is_spelled_edit, is_spelled_modification, are_spelled_modifications, is_spelled_act, is_well_spelled}
 use Rattle.law_register.specs.Law.Spellable.{is_counted, can_spell_own, can_spell_node, can_spell_nodes, can_spell_payload, can_spell_text_pos, can_spell_split_at, can_spell_edit, can_spell_destination, can_spell_modification, can_spell_command, can_be_spelled, can_all_be_spelled}
 use Rattle.law_register.specs.Register.LawList.{front}
 use Rattle.law_register.specs.Register.Registers.{are_well_spelled}
-use Rattle.law_register.specs.Register.Verdicts.{tree_rule, first_item, bad_tree, bad_item, bad_record, bad_modification, law_number, is_accepted, is_legal, verdict}
+use Rattle.law_register.specs.Register.Verdicts.{tree_rule, first_item, bad_tree, bad_item, bad_modification, law_number, is_accepted, is_legal, verdict}
 use Rattle.law_register.proofs.Legal.{first_kept, second_kept, not_broken, IsNew, accepted_new, kept_rules, legally}
 use Rattle.law_register.proofs.Puts.{left_true, right_true, and_true, number_same}
 use Rattle.law_register.proofs.ShortNames.{short_work}

@@ -60,7 +60,8 @@ pub fn works_are_short(work: &WorkName)
 
 /// Of each request of a drafter a register has one entry at most.
 pub fn requests_are_once(register: &Register)
-    ensures { (i j : ℕ) (a b : Entry) → slice_get register.now.entries i ≡ Some a → slice_get register.now.entries j ≡ Some b
+    ensures { (i j : ℕ) (a b : Entry)
+        → slice_get register.now.entries i ≡ Some a → slice_get register.now.entries j ≡ Some b
         → a.drafter ≡ b.drafter → a.request ≡ b.request → i ≡ j }
 {
     let _ = &register.entries;

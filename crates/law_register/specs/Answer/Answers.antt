@@ -35,7 +35,8 @@ abbrev mutual
   pub all_shown : Known → Reading → ℕ → Numbering → Bool → Option (List ℕ) → Branches Provision → Branches Shown
   all_shown known reading day numbering flag above no_branches = no_branches
   all_shown known reading day numbering flag above (more_branches b bs) =
-      more_branches (shown known reading day numbering flag above b) (all_shown known reading day numbering flag above bs)
+      more_branches (shown known reading day numbering flag above b)
+      (all_shown known reading day numbering flag above bs)
 
 -- the whole text of a tree as an answer shows it, below a root of that flag
 abbrev pub shown_tree : Known → Reading → ℕ → Bool → TreeValue → Branches Shown
@@ -99,7 +100,8 @@ answer_with known version q nodes = record {
 }
 
 -- the answer of what was asked for of a text, or the rule that it is not there
-abbrev pub answer_part : Known → VersionValue → Question → Result (List (Branch Shown)) QueryRule → Result Answer QueryRule
+abbrev pub answer_part : Known → VersionValue → Question → Result (List (Branch Shown)) QueryRule
+    → Result Answer QueryRule
 answer_part known version q (Ok nodes) = Ok (answer_with known version q nodes)
 answer_part known version q (Err rule) = Err rule
 
@@ -111,7 +113,8 @@ unless_broken (Some rule) answer = Err rule
 -- the answer to a question that breaks no rule before its text is looked at, from a version of its work
 abbrev pub answer_of_text : Known → VersionValue → Question → Result Answer QueryRule
 answer_of_text known version q =
-    answer_part known version q (asked_part q.portion (shown_text known q.reading (asked_day q.version known.act) version))
+    answer_part known version q
+    (asked_part q.portion (shown_text known q.reading (asked_day q.version known.act) version))
 
 -- the answer to a question from a version of its work, or the first rule that it breaks
 abbrev pub answer_from : Known → VersionValue → Question → Result Answer QueryRule

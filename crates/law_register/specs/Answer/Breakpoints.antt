@@ -66,4 +66,5 @@ has_day day days = list_any (λ d. day == d) days
 
 -- a day is named by what is known of a work: by the act's force period, or by a modification that stands
 abbrev pub is_named : Known → ℕ → Bool
-is_named known day = has_day day (period_days known.act.force) || list_any (λ m. m.live && has_day day (days_of m.body)) known.mods
+is_named known day =
+    has_day day (period_days known.act.force) || list_any (λ m. m.live && has_day day (days_of m.body)) known.mods

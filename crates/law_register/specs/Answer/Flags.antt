@@ -27,7 +27,8 @@ is_marked reading.Efficacy mods day wid =
 -- the flag of a provision below one of this flag: whether it bears, where it is marked, and else the flag above; so it is that
 -- of the nearest marked provision on the way up, the root included
 abbrev pub flag_below : Known → Reading → ℕ → Bool → List ℕ → Bool
-flag_below known reading day above wid = if is_marked reading known.mods day wid then node_bears known reading day wid else above
+flag_below known reading day above wid =
+    if is_marked reading known.mods day wid then node_bears known reading day wid else above
 
 -- the flag of the root: whether the act bears
 abbrev pub root_flag : Known → Reading → ℕ → Bool

@@ -27,7 +27,11 @@ pub record VersionValue : Type 0 where
 -- the act as enacted, before any modification
 abbrev pub as_enacted : Act → VersionValue
 as_enacted act = record {
-  tree = record { numbering = act.numbering; body = all_enacted act.numbering None (branches_of act.body); changes = 0 };
+  tree = record {
+    numbering = act.numbering;
+    body = all_enacted act.numbering None (branches_of act.body);
+    changes = 0;
+  };
   applied = [];
   unapplied = [];
 }

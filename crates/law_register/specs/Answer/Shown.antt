@@ -14,7 +14,8 @@ pub record Shown : Type 0 where
 -- it is told apart by its four parts
 abbrev pub shown_code : Coded Shown
 shown_code =
-    code_by (List ℕ × (List ℕ × (Bool × Own))) (coded× (coded_list coded_ℕ) (coded× (coded_list coded_ℕ) (coded× coded_bool own_code)))
+    code_by (List ℕ × (List ℕ × (Bool × Own)))
+    (coded× (coded_list coded_ℕ) (coded× (coded_list coded_ℕ) (coded× coded_bool own_code)))
     (λ s. (s.wid, (s.eid, (s.bears, s.own))))
     (λ t. record { wid = t.0; eid = t.1.0; bears = t.1.1.0; own = t.1.1.1 })
     (λ _. refl)

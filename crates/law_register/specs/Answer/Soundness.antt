@@ -33,7 +33,8 @@ pub record IsSound (known : Known) : Type 0 where
 -- a text has no wId of a modification but of these
 abbrev pub IsFreshBut : List Id → Branches Provision → Type 0
 IsFreshBut ids body =
-    (other : Id) → other.law < 2 ^ 32 → other.item < 2 ^ 16 → list_any (is_same_id other) ids ≡ false → has_brought other body ≡ false
+    (other : Id) → other.law < 2 ^ 32 → other.item < 2 ^ 16 → list_any (is_same_id other) ids ≡ false
+    → has_brought other body ≡ false
 
 -- a version as replay makes it: its tree is well-formed, has no wId of a modification that was not applied, and has as many
 -- changes as modifications were applied

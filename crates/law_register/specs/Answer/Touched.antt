@@ -75,7 +75,8 @@ day_corrected entries id body (Some facts) = day_saying (mods_of entries facts.w
 abbrev pub day_changed : List Entry → Command → Option ℕ
 day_changed entries (Record work bodies) = day_recorded bodies
 day_changed entries (Correct id body) =
-    sooner (day_known entries id (facts_of id (laws entries))) (day_corrected entries id body (facts_of id (laws entries)))
+    sooner (day_known entries id (facts_of id (laws entries)))
+    (day_corrected entries id body (facts_of id (laws entries)))
 day_changed entries (Withdraw id) = day_known entries id (facts_of id (laws entries))
 day_changed entries (Restore id) = day_known entries id (facts_of id (laws entries))
 day_changed entries _ = None

@@ -1,6 +1,6 @@
 -- What can be spelled as bytes, where two bytes count each text and each list: none is longer than they count, nodes nest at most 12 deep,
 -- and no law entry has the number 0. Drafters, nums and the IRIs of works are short by their types.
-use Rattle.std.specs.Prelude.{ℕ, nat_le, nat_lt, Bool, true, ◌&&◌, List, length, Option, unwrap_or}
+use Rattle.std.specs.Prelude.{nat_le, nat_lt, Bool, true, ◌&&◌, List, length, unwrap_or}
 use Rattle.std.specs.List.{list_all}
 use Rattle.act_tree.specs.Branches.{Branch, Branches, branch, no_branches, more_branches, branches_of, listed, heights}
 use Rattle.act_tree.specs.Provisions.{Own}
@@ -11,7 +11,7 @@ use Rattle.textual_mods.specs.declared.edit.TextPos.TheVariants as stands
 use Rattle.textual_mods.specs.declared.edit.TextualMod.{TextualMod}
 use Rattle.textual_mods.specs.declared.edit.TextualMod.TheVariants.{Repeal, SubstituteNodes, SubstituteText, InsertNodes, InsertText, Renumber, Split, Join}
 use Rattle.law_register.specs.declared.law.command.Command.{Command}
-use Rattle.law_register.specs.declared.law.command.Command.TheVariants.{Enact, Record, Correct, Withdraw, Restore, DraftAdd, DraftDrop, File}
+use Rattle.law_register.specs.declared.law.command.Command.TheVariants.{Enact, Record, Correct, DraftAdd}
 use Rattle.law_register.specs.declared.law.modification.Destination.{Destination}
 use Rattle.law_register.specs.declared.law.modification.Destination.TheVariants as to
 use Rattle.law_register.specs.declared.law.modification.Modification.{Modification}
@@ -24,7 +24,8 @@ is_counted items = nat_le (length items) 65535
 
 -- what a node says of itself
 abbrev pub can_spell_own : Own → Bool
-can_spell_own own = is_counted own.heading && (is_counted own.content && (is_counted own.refs && list_all is_counted own.refs))
+can_spell_own own =
+    is_counted own.heading && (is_counted own.content && (is_counted own.refs && list_all is_counted own.refs))
 
 -- a node with all beneath it, and likewise nodes side by side
 abbrev mutual
@@ -37,7 +38,8 @@ abbrev mutual
 
 -- the nodes that an act or an edit brings
 abbrev pub can_spell_payload : List (Branch Own) → Bool
-can_spell_payload nodes = is_counted nodes && (nat_le (heights (branches_of nodes)) 12 && can_spell_nodes (branches_of nodes))
+can_spell_payload nodes =
+    is_counted nodes && (nat_le (heights (branches_of nodes)) 12 && can_spell_nodes (branches_of nodes))
 
 -- where a text is inserted
 abbrev pub can_spell_text_pos : TextPos → Bool

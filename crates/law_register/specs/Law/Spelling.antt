@@ -59,7 +59,8 @@ is_spelled_day (Some date) day = agrees_with date day
 
 -- an act
 unfoldable pub is_spelled_act : Act → Bool
-is_spelled_act act = is_language act.language && is_spelled_day (date_named act.work) act.day && is_spelled_payload act.body
+is_spelled_act act =
+    is_language act.language && is_spelled_day (date_named act.work) act.day && is_spelled_payload act.body
 
 -- a command
 unfoldable pub is_well_spelled : Command → Bool

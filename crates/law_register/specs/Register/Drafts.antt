@@ -40,7 +40,8 @@ redrafted number _ items = items
 abbrev pub drafted_from : List ℕ → ℕ → List DraftItem → List Entry → List DraftItem
 drafted_from drafter count items [] = items
 drafted_from drafter count items (e ∷ es) =
-    if is_by drafter e then drafted_from drafter (count + additions e.command) (redrafted (count + 1) e.command items) es
+    if is_by drafter e
+    then drafted_from drafter (count + additions e.command) (redrafted (count + 1) e.command items) es
     else drafted_from drafter count items es
 
 -- the draft of a drafter

@@ -18,13 +18,15 @@ entry_of drafter request day law command =
 -- the entries and the reply after a command of which this is said: it is appended where it is accepted, and nothing changes where it is a
 -- repeat; or the rule for which it is refused
 abbrev pub entered_by : List Entry → List ℕ → ℕ → ℕ → Command → Verdict → Result (List Entry × Reply) Rule
-entered_by entries drafter request day command (Accepted law reply) = Ok (entries ++ entry_of drafter request day law command ∷ [], reply)
+entered_by entries drafter request day command (Accepted law reply) =
+    Ok (entries ++ entry_of drafter request day law command ∷ [], reply)
 entered_by entries drafter request day command (Repeat reply) = Ok (entries, reply)
 entered_by entries drafter request day command (Refused rule) = Err rule
 
 -- the entries and the reply after a command of a drafter's request, which comes on a day; or the rule that it breaks
 unfoldable pub entered : List Entry → List ℕ → ℕ → ℕ → Command → Result (List Entry × Reply) Rule
-entered entries drafter request day command = entered_by entries drafter request day command (verdict entries drafter request command)
+entered entries drafter request day command =
+    entered_by entries drafter request day command (verdict entries drafter request command)
 
 -- a command is not entered: this is the rule, or there was not enough memory
 abbrev pub Fails : {A : Type 0} → EnterFault → Result A Rule → Type 0

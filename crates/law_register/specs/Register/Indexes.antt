@@ -1,9 +1,10 @@
 -- What the indexes of a register stand for.
-use Rattle.std.specs.Prelude.{◌≡◌, ◌+◌, ◌-◌, ◌≤◌, if◌then◌else◌, ℕ, ◌==◌, Bool, true, false, ◌&&◌, List, [], ◌∷◌, ◌++◌, not, length, filter, take, drop, slice_get, Option, Some, None, option_map, is_some}
+use Rattle.std.specs.Prelude.{◌≡◌, ◌+◌, ◌-◌, ◌≤◌, if◌then◌else◌, ℕ, ◌==◌, Bool, true, ◌&&◌, List, [], ◌∷◌, ◌++◌, not, length, filter, take, drop, slice_get, Option, Some, None, option_map, is_some}
 use Rattle.std.specs.List.{list_any}
 use Rattle.std.specs.Option.{option_and_then, option_map_or, option_or}
 use Rattle.std.specs.Str.{bytes_eq}
-use Rattle.indexmap.specs.IndexMap.{get_by, index_map_len}
+use Rattle.arrayvec.specs.declared.array_vec.ArrayVec.{ArrayVec}
+use Rattle.indexmap.specs.IndexMap.{IndexMap, get_by, index_map_len}
 use Rattle.desk_base.specs.declared.id.Id.{Id}
 use Rattle.law_register.specs.declared.law.act.Act.{Act}
 use Rattle.law_register.specs.declared.law.command.Command.{Command}
@@ -64,7 +65,18 @@ body_of place _ = None
 abbrev pub marks_work : List Entry → List ℕ → ItemMark → Bool
 marks_work entries work m = is_named work (told_at entries m.entry work_named)
 
--- the marks of a request, a drafter, a work and an id
+-- the marks of a drafter, a work and an id, where the keys of drafters and works are the bytes of their names
+module _ {V S : Type 0} where
+  abbrev pub drafter_in : IndexMap (ArrayVec ℕ 32 (Unit {0})) V S → List ℕ → Option V
+  drafter_in marks drafter = get_by (λ k. bytes_eq drafter k.items) marks
+
+  abbrev pub work_in : IndexMap (ArrayVec ℕ 162 (Unit {0})) V S → List ℕ → Option V
+  work_in marks work = get_by (λ k. bytes_eq work k.items) marks
+
+  abbrev pub id_in : IndexMap Id V S → Id → Option V
+  id_in marks id = get_by (is_same_id id) marks
+
+-- the same, and that of a request, in the indexes
 abbrev pub is_request : List ℕ → ℕ → RequestKey → Bool
 is_request drafter request k = bytes_eq drafter k.drafter.items && (request == k.request)
 
@@ -72,13 +84,13 @@ abbrev pub request_mark : Indexes → List ℕ → ℕ → Option RequestMark
 request_mark ix drafter request = get_by (is_request drafter request) ix.requests
 
 abbrev pub drafter_mark : Indexes → List ℕ → Option DrafterMark
-drafter_mark ix drafter = get_by (λ k. bytes_eq drafter k.items) ix.drafters
+drafter_mark ix drafter = drafter_in ix.drafters drafter
 
 abbrev pub work_mark : Indexes → List ℕ → Option WorkMark
-work_mark ix work = get_by (λ k. bytes_eq work k.items) ix.works
+work_mark ix work = work_in ix.works work
 
 abbrev pub id_mark : Indexes → Id → Option IdMark
-id_mark ix id = get_by (is_same_id id) ix.ids
+id_mark ix id = id_in ix.ids id
 
 -- a request's mark leads to its entry, and has the reply
 abbrev pub RequestStands : List Entry → Option RequestMark → Option (Entry × Reply) → Type 0
@@ -98,12 +110,14 @@ items_in m = option_map_or (λ k. k.items.items) m []
 abbrev pub ItemsStand : List Entry → List ItemMark → List DraftItem → Type 0
 ItemsStand entries [] [] = Unit {0}
 ItemsStand entries (m ∷ ms) (i ∷ items) =
-    (m.item ≡ i.item) × (told_at entries m.entry work_named ≡ Some i.work) × (told_at entries m.entry (body_of 0) ≡ Some i.body) × ItemsStand entries ms items
+    (m.item ≡ i.item) × (told_at entries m.entry work_named ≡ Some i.work)
+    × (told_at entries m.entry (body_of 0) ≡ Some i.body) × ItemsStand entries ms items
 ItemsStand entries [] (i ∷ items) = ⊥
 ItemsStand entries (m ∷ ms) [] = ⊥
 
 -- a drafter's mark counts what was added, and leads to the items of the draft
-pub record DraftStands (entries : List Entry) (m : Option DrafterMark) (count : ℕ) (draft : List DraftItem) : Type 0 where
+pub record DraftStands (entries : List Entry) (m : Option DrafterMark) (count : ℕ)
+    (draft : List DraftItem) : Type 0 where
   pub added : added_of m ≡ count
   pub items : ItemsStand entries (items_in m) draft
 
@@ -125,7 +139,8 @@ recorded_mark at b = record { recorded = at; entry = b.entry; place = b.place; s
 abbrev pub recorded_from : ℕ → ℕ → ℕ → List BodyMark → Id → Option IdMark → Option IdMark
 recorded_from number at item [] id m = m
 recorded_from number at item (b ∷ bs) id m =
-    recorded_from number at (item + 1) bs id (if is_same_id (record { law = number; item = item }) id then Some (recorded_mark at b) else m)
+    recorded_from number at (item + 1) bs id
+    (if is_same_id (record { law = number; item = item }) id then Some (recorded_mark at b) else m)
 
 -- the marks of a draft's items after a command of its drafter at this index, where `number` is that of the next item
 abbrev pub items_after : List Entry → ℕ → ℕ → Command → List ItemMark → List ItemMark
@@ -146,7 +161,8 @@ abbrev pub id_after : ℕ → ℕ → Command → List BodyMark → Id → Optio
 id_after number at (Record work mods) bodies id m = recorded_from number at 1 bodies id m
 id_after number at (File work seen) bodies id m = recorded_from number at 1 bodies id m
 id_after number at (Correct other body) bodies id m = if is_same_id other id then option_map (corrected at) m else m
-id_after number at (Withdraw other) bodies id m = if is_same_id other id then option_map (with_standing (Withdrawn number)) m else m
+id_after number at (Withdraw other) bodies id m =
+    if is_same_id other id then option_map (with_standing (Withdrawn number)) m else m
 id_after number at (Restore other) bodies id m = if is_same_id other id then option_map (with_standing Live) m else m
 id_after number at _ bodies id m = m
 
@@ -160,7 +176,8 @@ enacted_after number at command m = option_or m (newly_enacted number at command
 
 -- the mark of a work after a law entry that concerns it, and records so many modifications
 abbrev pub work_after : ℕ → ℕ → Command → ℕ → Option WorkMark → WorkMark
-work_after number at command count m = record { enacted = enacted_after number at command (enacted_in m); last = number; ids = ids_in m + count }
+work_after number at command count m =
+    record { enacted = enacted_after number at command (enacted_in m); last = number; ids = ids_in m + count }
 
 -- the work of an id, by its mark, and the work that a command concerns, by the marks of ids
 abbrev pub work_of_mark : List Entry → Option IdMark → Option (List ℕ)
@@ -184,7 +201,8 @@ EnactedStands entries None (Some found) = ⊥
 EnactedStands entries (Some m) None = ⊥
 
 -- a work's mark leads to its act, has the last law entry that concerns it, and counts its ids
-pub record WorkStands (entries : List Entry) (m : Option WorkMark) (found : Option (ℕ × Act)) (number count : ℕ) : Type 0 where
+pub record WorkStands (entries : List Entry) (m : Option WorkMark) (found : Option (ℕ × Act))
+    (number count : ℕ) : Type 0 where
   pub act : EnactedStands entries (enacted_in m) found
   pub last : last_in m ≡ number
   pub ids : ids_in m ≡ count
@@ -200,7 +218,8 @@ ActsStand entries (at ∷ ats) [] = ⊥
 abbrev pub IdStands : List Entry → Option IdMark → Option IdFacts → Type 0
 IdStands entries None None = Unit {0}
 IdStands entries (Some m) (Some f) =
-    (told_at entries m.recorded work_named ≡ Some f.work) × (told_at entries m.entry (body_of m.place) ≡ Some f.body) × (m.standing ≡ f.standing)
+    (told_at entries m.recorded work_named ≡ Some f.work)
+    × (told_at entries m.entry (body_of m.place) ≡ Some f.body) × (m.standing ≡ f.standing)
 IdStands entries None (Some f) = ⊥
 IdStands entries (Some m) None = ⊥
 
@@ -216,14 +235,16 @@ recorded_for _ = None
 
 -- the entry at an index is this to the law, and its modifications are those to which marks lead
 abbrev pub LawStands : List Entry → ℕ → List BodyMark → Command → Type 0
-LawStands entries at bodies (Record work mods) = (told_at entries at recorded_for ≡ Some work) × BodiesStand entries bodies mods
+LawStands entries at bodies (Record work mods) =
+    (told_at entries at recorded_for ≡ Some work) × BodiesStand entries bodies mods
 LawStands entries at bodies (File work seen) = ⊥
 LawStands entries at bodies (DraftAdd work body) = ⊥
 LawStands entries at bodies (DraftDrop item) = ⊥
 LawStands entries at bodies law = (told_at entries at (λ c. Some c) ≡ Some law) × (bodies ≡ [])
 
 -- the step of a law entry behind others leads to it, and to the last one before it that concerns the same work
-pub record StepStands (entries : List Entry) (bodies : List BodyMark) (earlier : List Command) (s : StepMark) (l : Command) : Type 0 where
+pub record StepStands (entries : List Entry) (bodies : List BodyMark) (earlier : List Command) (s : StepMark)
+    (l : Command) : Type 0 where
   pub law : LawStands entries s.entry (bodies_at bodies s) l
   pub first : s.first ≤ s.until
   pub until : s.until ≤ length bodies
@@ -239,11 +260,14 @@ StepsStand entries bodies before (s ∷ steps) [] = ⊥
 
 -- what the indexes tell is what the definitions tell of the entries
 pub record StandFor (ix : Indexes) (entries : List Entry) : Type 0 where
-  pub requests : (drafter : List ℕ) (request : ℕ) → RequestStands entries (request_mark ix drafter request) (request_of entries drafter request)
-  pub drafts : (drafter : List ℕ) → DraftStands entries (drafter_mark ix drafter) (added drafter entries) (draft_of drafter entries)
+  pub requests : (drafter : List ℕ) (request : ℕ)
+      → RequestStands entries (request_mark ix drafter request) (request_of entries drafter request)
+  pub drafts : (drafter : List ℕ)
+      → DraftStands entries (drafter_mark ix drafter) (added drafter entries) (draft_of drafter entries)
   pub present : (drafter : List ℕ) → is_some (drafter_mark ix drafter) ≡ list_any (bytes_eq drafter) (drafters entries)
   pub drafter_count : index_map_len ix.drafters ≡ length (drafters entries)
-  pub works : (work : List ℕ) → WorkStands entries (work_mark ix work) (enacted work (laws entries)) (last_on work (laws entries)) (length (ids_of work (laws entries)))
+  pub works : (work : List ℕ) → WorkStands entries (work_mark ix work) (enacted work (laws entries))
+      (last_on work (laws entries)) (length (ids_of work (laws entries)))
   pub ids : (id : Id) → IdStands entries (id_mark ix id) (facts_of id (laws entries))
   pub steps : StepsStand entries ix.bodies.items [] ix.steps.items (laws entries)
   pub acts : ActsStand entries ix.acts.items (acts_of (laws entries))

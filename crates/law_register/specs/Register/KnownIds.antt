@@ -40,9 +40,12 @@ marked standing f = record f { standing = standing }
 
 -- what law entry `number` makes of what is known of an id: it is recorded as item of that number, corrected, withdrawn, or restored
 abbrev pub facts_after : Id → ℕ → Command → Option IdFacts → Option IdFacts
-facts_after id number (Record work mods) facts = if id.law == number then first_facts work (item_at id.item mods) else facts
-facts_after id number (Correct other body) facts = if is_same_id other id then option_map (corrected body) facts else facts
-facts_after id number (Withdraw other) facts = if is_same_id other id then option_map (marked (Withdrawn number)) facts else facts
+facts_after id number (Record work mods) facts =
+    if id.law == number then first_facts work (item_at id.item mods) else facts
+facts_after id number (Correct other body) facts =
+    if is_same_id other id then option_map (corrected body) facts else facts
+facts_after id number (Withdraw other) facts =
+    if is_same_id other id then option_map (marked (Withdrawn number)) facts else facts
 facts_after id number (Restore other) facts = if is_same_id other id then option_map (marked Live) facts else facts
 facts_after id number _ facts = facts
 
@@ -94,7 +97,8 @@ ids_of work laws = ids_from 1 work laws
 
 -- an id as it is known
 abbrev pub known_as : Id → Option IdFacts → List KnownMod
-known_as id facts = option_to_list (option_map (λ f. record { id = id; live = is_live f.standing; body = f.body }) facts)
+known_as id facts =
+    option_to_list (option_map (λ f. record { id = id; live = is_live f.standing; body = f.body }) facts)
 
 -- these ids as they are known by the law
 abbrev pub known_ids : List Command → List Id → List KnownMod
@@ -115,4 +119,5 @@ known_by work viewpoint front laws (Some found) = Some (record {
 -- what is known of a work at a viewpoint: nothing, if none of the law entries numbered at most so enacts it
 abbrev pub known_at : List Entry → List ℕ → ℕ → Option Known
 known_at entries work viewpoint =
-    known_by work viewpoint (front entries) (take viewpoint (laws entries)) (enacted work (take viewpoint (laws entries)))
+    known_by work viewpoint (front entries) (take viewpoint (laws entries))
+    (enacted work (take viewpoint (laws entries)))

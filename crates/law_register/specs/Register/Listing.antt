@@ -22,7 +22,8 @@ use Rattle.law_register.specs.Register.Standings.{is_live}
 abbrev pub numbers_from : List Command → List ℕ → List ℕ → List Command → List ℕ
 numbers_from before work found [] = found
 numbers_from before work found (law ∷ laws) =
-    numbers_from (before ++ law ∷ []) work (if concerns before work law then (length before + 1) ∷ found else found) laws
+    numbers_from (before ++ law ∷ []) work
+    (if concerns before work law then (length before + 1) ∷ found else found) laws
 
 -- the numbers of the law entries that concern a work, newest first
 abbrev pub numbers_on : List ℕ → List Command → List ℕ
@@ -51,7 +52,8 @@ ids_marked number item (b ∷ bodies) = record { law = number; item = item } ∷
 
 -- an id as it is known, by its mark
 abbrev pub known_told : Id → Standing → Option Modification → List KnownMod
-known_told id standing said = option_to_list (option_map (λ body. record { id = id; live = is_live standing; body = body }) said)
+known_told id standing said =
+    option_to_list (option_map (λ body. record { id = id; live = is_live standing; body = body }) said)
 
 abbrev pub known_mark : List Entry → Id → Option IdMark → List KnownMod
 known_mark entries id m = option_map_or (λ k. known_told id k.standing (told_at entries k.entry (body_of k.place))) m []

@@ -1,5 +1,5 @@
 -- What one more entry makes of the marks of the indexes.
-use Rattle.std.specs.Prelude.{◌≡◌, ℕ, ◌+◌, ◌<◌, ◌≤◌, ◌^◌, ◌==◌, ◌&&◌, ◌||◌, List, [], ◌∷◌, ◌++◌, length, filter, map, Option, Some, None, is_some, if◌then◌else◌}
+use Rattle.std.specs.Prelude.{◌≡◌, ℕ, ◌+◌, ◌<◌, ◌≤◌, ◌^◌, ◌==◌, ◌&&◌, ◌||◌, List, [], ◌∷◌, ◌++◌, length, filter, map, Option, Some, is_some, if◌then◌else◌}
 use Rattle.std.specs.Option.{option_map_or}
 use Rattle.std.specs.Str.{bytes_eq}
 use Rattle.indexmap.specs.IndexMap.{index_map_len}
@@ -85,18 +85,25 @@ pub record CanNote (ix : Indexes) (e : Entry) : Type 0 where
 -- an entry, which got this reply, is noted behind others
 pub record IsNoted (old new : Indexes) (entries : List Entry) (e : Entry) (reply : Reply) : Type 0 where
   pub requests : (d : List ℕ) (r : ℕ) → request_mark new d r
-      ≡ (if bytes_eq e.drafter d && (e.request == r) then Some (record { entry = length entries; reply = reply }) else request_mark old d r)
+      ≡ (if bytes_eq e.drafter d && (e.request == r)
+      then Some (record { entry = length entries; reply = reply }) else request_mark old d r)
   pub added : (d : List ℕ) → added_of (drafter_mark new d)
-      ≡ (if bytes_eq e.drafter d then added_of (drafter_mark old d) + additions e.command else added_of (drafter_mark old d))
+      ≡ (if bytes_eq e.drafter d
+      then added_of (drafter_mark old d) + additions e.command else added_of (drafter_mark old d))
   pub items : (d : List ℕ) → items_in (drafter_mark new d)
-      ≡ (if bytes_eq e.drafter d then items_after entries (length entries) (added_of (drafter_mark old d) + 1) e.command (items_in (drafter_mark old d))
+      ≡ (if bytes_eq e.drafter d then items_after entries (length entries) (added_of (drafter_mark old d) + 1) e.command
+      (items_in (drafter_mark old d))
       else items_in (drafter_mark old d))
   pub present : (d : List ℕ) → is_some (drafter_mark new d) ≡ bytes_eq e.drafter d || is_some (drafter_mark old d)
-  pub count : index_map_len new.drafters ≡ index_map_len old.drafters + (if is_some (drafter_mark old e.drafter) then 0 else 1)
+  pub count : index_map_len new.drafters
+      ≡ index_map_len old.drafters + (if is_some (drafter_mark old e.drafter) then 0 else 1)
   pub works : (w : List ℕ) → work_mark new w
       ≡ (if is_named w (concerned_by entries (id_mark old) e.command)
-      then Some (work_after (old.front + 1) (length entries) e.command (length (new_bodies old entries e)) (work_mark old w)) else work_mark old w)
-  pub ids : (i : Id) → id_mark new i ≡ id_after (old.front + 1) (length entries) e.command (new_bodies old entries e) i (id_mark old i)
+      then Some (work_after (old.front + 1) (length entries) e.command (length (new_bodies old entries e))
+      (work_mark old w))
+      else work_mark old w)
+  pub ids : (i : Id) → id_mark new i
+      ≡ id_after (old.front + 1) (length entries) e.command (new_bodies old entries e) i (id_mark old i)
   pub steps : new.steps.items ≡ with_step e.command (new_step old entries e) old.steps.items
   pub bodies : new.bodies.items ≡ old.bodies.items ++ new_bodies old entries e
   pub acts : new.acts.items ≡ with_act e.command (length entries) old.acts.items

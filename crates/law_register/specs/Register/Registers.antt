@@ -18,7 +18,8 @@ abbrev pub map_room : Indexes → ℕ
 map_room ix = min (spare ix.requests) (min (spare ix.drafters / 2) (min (spare ix.works) (spare ix.ids / 64)))
 
 abbrev pub index_room : Indexes → ℕ
-index_room ix = min (map_room ix) (min (vec_capacity ix.steps - vec_len ix.steps) (min ((vec_capacity ix.bodies - vec_len ix.bodies) / 64) (vec_capacity ix.acts - vec_len ix.acts)))
+index_room ix = min (map_room ix) (min (vec_capacity ix.steps - vec_len ix.steps)
+    (min ((vec_capacity ix.bodies - vec_len ix.bodies) / 64) (vec_capacity ix.acts - vec_len ix.acts)))
 
 -- indexes with the same entries, in the same order, and the same counts
 pub record IsSame (old new : Indexes) : Type 0 where

@@ -10,7 +10,6 @@ use Rattle.act_tree.specs.Faults.{first_fault}
 use Rattle.act_tree.specs.Limits.{have_few_refs}
 use Rattle.act_tree.specs.declared.build_fault.BuildFault.{BuildFault}
 use Rattle.textual_mods.specs.declared.fitting.TheConstants.{MAX_ITEMS}
-use Rattle.law_register.specs.declared.law.act.Act.{Act}
 use Rattle.law_register.specs.declared.law.command.Command.{Command}
 use Rattle.law_register.specs.declared.law.command.Command.TheVariants.{Enact, Record, Correct, Withdraw, Restore, DraftAdd, DraftDrop, File}
 use Rattle.law_register.specs.declared.law.modification.Destination.{Destination}
@@ -58,14 +57,16 @@ brought_by _ = []
 
 -- NumberReused: the request was that of another command, whose reply's number is shown
 abbrev pub number_reused : Command → (Entry × Reply) → Option Rule
-number_reused command found = broken_where (not (same_command found.0.command command)) (NumberReused (reply_number found.1))
+number_reused command found =
+    broken_where (not (same_command found.0.command command)) (NumberReused (reply_number found.1))
 
 -- Drafters
 
 -- DraftersFull: a drafter without an entry, where as many as there may be have one
 abbrev pub drafters_full : List Entry → List ℕ → Option Rule
 drafters_full entries drafter =
-    broken_where (not (list_any (bytes_eq drafter) (drafters entries)) && nat_le MOST_DRAFTERS (length (drafters entries)))
+    broken_where
+    (not (list_any (bytes_eq drafter) (drafters entries)) && nat_le MOST_DRAFTERS (length (drafters entries)))
     (DraftersFull MOST_DRAFTERS)
 
 -- Works
@@ -101,7 +102,8 @@ bad_item number m = broken_where (not (modification_fits m)) (BadModification nu
 
 abbrev pub bad_record : List Modification → Option Rule
 bad_record mods =
-    option_or (broken_where (not (nat_lt 0 (length mods) && nat_le (length mods) MAX_ITEMS)) (BadModification 0)) (first_item bad_item 1 mods)
+    option_or (broken_where (not (nat_lt 0 (length mods) && nat_le (length mods) MAX_ITEMS)) (BadModification 0))
+    (first_item bad_item 1 mods)
 
 abbrev pub bad_modification : Command → Option Rule
 bad_modification (Enact act) = broken_where (not (have_few_refs (branches_of act.body))) (BadModification 0)
@@ -123,7 +125,8 @@ abbrev pub unknown_id : List Command → Id → Option Rule
 unknown_id law id = broken_where (is_none (facts_of id law)) (UnknownModification id.law id.item)
 
 abbrev pub unknown_thing : List Command → List ℕ → Destination → Option Rule
-unknown_thing law work (to.Modification id) = broken_where (not (is_of work (facts_of id law))) (UnknownModification id.law id.item)
+unknown_thing law work (to.Modification id) =
+    broken_where (not (is_of work (facts_of id law))) (UnknownModification id.law id.item)
 unknown_thing law work (to.Node wid) = None
 
 abbrev pub unknown_destination : List Command → List ℕ → Modification → Option Rule
@@ -143,7 +146,8 @@ unknown_item item draft = broken_where (not (has_item item draft)) (UnknownModif
 
 abbrev pub unknown_modification : List Command → List DraftItem → Command → Option Rule
 unknown_modification law draft (Record work mods) = first_item (λ number m. unknown_destination law work m) 1 mods
-unknown_modification law draft (Correct id body) = option_or (unknown_id law id) (unknown_for law (facts_of id law) body)
+unknown_modification law draft (Correct id body) =
+    option_or (unknown_id law id) (unknown_for law (facts_of id law) body)
 unknown_modification law draft (Withdraw id) = unknown_id law id
 unknown_modification law draft (Restore id) = unknown_id law id
 unknown_modification law draft (DraftAdd work body) = unknown_destination law work body
@@ -161,7 +165,8 @@ already_withdrawn law _ = None
 
 -- NotWithdrawn: a restoring of an id that stands
 abbrev pub not_withdrawn : List Command → Command → Option Rule
-not_withdrawn law (Restore id) = option_and_then (λ f. broken_where (is_live f.standing) (NotWithdrawn id)) (facts_of id law)
+not_withdrawn law (Restore id) =
+    option_and_then (λ f. broken_where (is_live f.standing) (NotWithdrawn id)) (facts_of id law)
 not_withdrawn law _ = None
 
 -- WrongKind: a correction of another kind than its id, or a destination that is no textual modification
@@ -179,7 +184,8 @@ wrong_destination law (Efficacy source destination on effect) = wrong_thing law 
 
 abbrev pub wrong_correction : List Command → Id → Modification → Option Rule
 wrong_correction law id body =
-    option_or (broken_where (not (is_kind (kind_of body) (facts_of id law))) (WrongKind id)) (wrong_destination law body)
+    option_or (broken_where (not (is_kind (kind_of body) (facts_of id law))) (WrongKind id))
+    (wrong_destination law body)
 
 abbrev pub wrong_kind : List Command → Command → Option Rule
 wrong_kind law (Correct id body) = wrong_correction law id body
@@ -211,7 +217,8 @@ empty_draft draft _ = None
 
 -- DraftFull: an addition to a draft that has as many items as it may
 abbrev pub draft_full : List DraftItem → Command → Option Rule
-draft_full draft (DraftAdd work body) = broken_where (nat_le MOST_DRAFT_ITEMS (length draft)) (DraftFull MOST_DRAFT_ITEMS)
+draft_full draft (DraftAdd work body) =
+    broken_where (nat_le MOST_DRAFT_ITEMS (length draft)) (DraftFull MOST_DRAFT_ITEMS)
 draft_full draft _ = None
 
 -- WorkFull: a work would have more ids than it may
@@ -231,5 +238,6 @@ law_full entries command =
 -- RegisterFull: the entry is too large, or all entries with it
 abbrev pub register_full : List Entry → List ℕ → Command → Option Rule
 register_full entries drafter command =
-    broken_where (nat_lt MOST_ENTRY_BYTES (size_of drafter command) || nat_lt MOST_REGISTER_BYTES (entries_size entries + size_of drafter command))
+    broken_where (nat_lt MOST_ENTRY_BYTES (size_of drafter command)
+    || nat_lt MOST_REGISTER_BYTES (entries_size entries + size_of drafter command))
     (RegisterFull MOST_REGISTER_BYTES)

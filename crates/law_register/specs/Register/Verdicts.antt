@@ -1,7 +1,7 @@
 -- What the register says of a command: a repeat, else the first broken rule, else accepted.
 pub use Rattle.law_register.specs.Register.Rulebook.{broken_where, first_item, brought_by, number_reused, drafters_full, unknown_in, unknown_work, work_exists, tree_rule, bad_tree, bad_item, bad_record, bad_modification, bad_times, bad_period, unknown_id, unknown_thing, unknown_destination, unknown_for, has_item, unknown_item, unknown_modification, already_withdrawn, not_withdrawn, is_kind, wrong_thing, wrong_destination, wrong_correction, wrong_kind, last_from, last_on, stale, empty_draft, draft_full, full_with, work_full, law_full, register_full}
 pub use Rattle.law_register.specs.Register.Requests.{reply_to, law_number, request_from, request_of, drafters_from, drafters, reply_number}
-use Rattle.std.specs.Prelude.{ℕ, Bool, true, false, ◌&&◌, List, [], ◌∷◌, ◌++◌, Option, Some, None}
+use Rattle.std.specs.Prelude.{ℕ, Bool, true, false, ◌&&◌, List, [], ◌∷◌, ◌++◌, Option}
 use Rattle.std.specs.Option.{option_map_or, option_or}
 use Rattle.law_register.specs.declared.law.command.Command.{Command}
 use Rattle.law_register.specs.declared.register.entry.Entry.{Entry}
@@ -66,7 +66,8 @@ is_accepted law _ = false
 -- entries behind others are legal: each is accepted behind those before it
 abbrev pub is_legal_from : List Entry → List Entry → Bool
 is_legal_from before [] = true
-is_legal_from before (e ∷ es) = is_accepted e.law (verdict before e.drafter e.request e.command) && is_legal_from (before ++ e ∷ []) es
+is_legal_from before (e ∷ es) =
+    is_accepted e.law (verdict before e.drafter e.request e.command) && is_legal_from (before ++ e ∷ []) es
 
 -- a legal register: each entry is accepted behind those before it, with the law number that it has
 abbrev pub is_legal : List Entry → Bool

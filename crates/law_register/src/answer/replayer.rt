@@ -44,7 +44,8 @@ pub trait Replayer {
     ) -> Result<Version, Memory>
         requires sound { IsSound known.now }
         ensures version { IfOk result (λ version. version_view version ≡ replay_on known.now reading day) }
-        ensures changes { IfOk result (λ version. (tree_view version.tree).changes ≡ min (length version.applied) (2 ^ 64 - 1)) }
+        ensures changes { IfOk result
+            (λ version. (tree_view version.tree).changes ≡ min (length version.applied) (2 ^ 64 - 1)) }
         ensures steps { steps.new ≤ steps.old + length (order known.now reading day) };
 
     /// Whether a node of a tree bears on a day.
@@ -58,7 +59,8 @@ pub trait Replayer {
         node: NodeId,
     ) -> Result<bool, Memory>
         requires { has_node tree.now node ≡ true }
-        ensures { IfOk result (λ found. flag known.now reading day (tree_view tree.now).body (provision_at tree.now node).wid ≡ Some found) };
+        ensures { IfOk result (λ found. flag known.now reading day (tree_view tree.now).body
+            (provision_at tree.now node).wid ≡ Some found) };
 
     /// The answer to a question, from the version that it asks for, or the first rule that it breaks.
     fn answer_of(
@@ -68,6 +70,7 @@ pub trait Replayer {
         version: Version,
         question: &Question,
     ) -> Result<Answer, AskFault>
-        requires { version_view version ≡ replay_on known.now question.now.reading (answers.asked_day question.now.version known.now.act) }
+        requires { version_view version
+            ≡ replay_on known.now question.now.reading (answers.asked_day question.now.version known.now.act) }
         ensures { answers.Answers result (answers.answer_on known.now question.now) };
 }

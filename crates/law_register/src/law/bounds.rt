@@ -71,7 +71,8 @@ fn brought_by(command: &Command) -> &[Modification]
 
 // The first fault of the nodes that the first of some modifications with a fault brings.
 fn first_tree(alloc: Global, mods: &[Modification]) -> Result<Option<Rule>, Memory>
-    ensures { IfOk result (λ rule. rule ≡ verdicts.first_item (λ number m. verdicts.tree_rule (spec.brought_fault m)) 1 mods.now) }
+    ensures { IfOk result
+        (λ rule. rule ≡ verdicts.first_item (λ number m. verdicts.tree_rule (spec.brought_fault m)) 1 mods.now) }
 {
     for modification in mods {
         if let Some(fault) = modification.brought_fault(alloc)? {

@@ -156,7 +156,8 @@ fn add_item(
     work: &WorkName,
     draft: &mut Draft,
 ) -> Result<(), Memory>
-    ensures { OnOk result (draft.new ≡ draft.old ++ item_told mark.item (Some work.now) (told_at entries.now mark.entry (body_of 0))) }
+    ensures { OnOk result
+        (draft.new ≡ draft.old ++ item_told mark.item (Some work.now) (told_at entries.now mark.entry (body_of 0))) }
 {
     match body_at(entries, mark.entry, 0) {
         Some(body) => {

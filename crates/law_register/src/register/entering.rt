@@ -98,7 +98,8 @@ impl Register {
     }
 
     fn append(&mut self, entry: Entry, reply: Reply) -> Result<Reply, EnterFault>
-        requires accepted { is_accepted entry.law (verdict self.old.entries entry.drafter entry.request entry.command) ≡ true }
+        requires accepted { is_accepted entry.law
+            (verdict self.old.entries entry.drafter entry.request entry.command) ≡ true }
         requires spelled { is_well_spelled entry.command ≡ true }
         ensures outcome { Enters self.new.entries result (Ok (self.old.entries ++ entry ∷ [], reply)) }
         ensures err { OnErr result (self.new.entries ≡ self.old.entries) }

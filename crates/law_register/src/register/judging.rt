@@ -71,7 +71,8 @@ impl Register {
     }
 
     fn judge_again(&self, drafter: &Drafter, request: u64, command: &Command) -> Option<Verdict>
-        ensures { result ≡ option_map (λ found. verdicts.again command.now found) (verdicts.request_of self.now.entries drafter.now request) }
+        ensures { result ≡ option_map (λ found. verdicts.again command.now found)
+            (verdicts.request_of self.now.entries drafter.now request) }
     {
         let entry = self.request(drafter, request)?;
         match self.reply(drafter, request) {
@@ -260,7 +261,8 @@ impl Register {
     }
 
     fn unknown_item(&self, work: &WorkName, mods: &[Modification]) -> Option<Rule>
-        ensures { result ≡ verdicts.first_item (λ number m. verdicts.unknown_destination (laws self.now.entries) work.now m) 1 mods.now }
+        ensures { result ≡ verdicts.first_item
+            (λ number m. verdicts.unknown_destination (laws self.now.entries) work.now m) 1 mods.now }
     {
         for body in mods {
             if let Some(rule) = self.unknown_destination(work, body) {
@@ -300,7 +302,8 @@ impl Register {
     }
 
     fn unknown_modification(&self, drafter: &Drafter, command: &Command) -> Option<Rule>
-        ensures { result ≡ verdicts.unknown_modification (laws self.now.entries) (draft_of drafter.now self.now.entries) command.now }
+        ensures { result ≡ verdicts.unknown_modification (laws self.now.entries)
+            (draft_of drafter.now self.now.entries) command.now }
     {
         match command {
             Command::Record { work, mods } => self.unknown_item(work, mods.as_slice()),
@@ -372,7 +375,8 @@ impl Register {
     }
 
     fn wrong_item(&self, mods: &[Modification]) -> Option<Rule>
-        ensures { result ≡ verdicts.first_item (λ number m. verdicts.wrong_destination (laws self.now.entries) m) 1 mods.now }
+        ensures { result
+            ≡ verdicts.first_item (λ number m. verdicts.wrong_destination (laws self.now.entries) m) 1 mods.now }
     {
         for body in mods {
             if let Some(rule) = self.wrong_destination(body) {
@@ -419,7 +423,8 @@ impl Register {
     }
 
     fn empty_draft(&self, drafter: &Drafter, command: &Command) -> Result<Option<Rule>, Memory>
-        ensures { IfOk result (λ rule. rule ≡ verdicts.empty_draft (draft_of drafter.now self.now.entries) command.now) }
+        ensures { IfOk result
+            (λ rule. rule ≡ verdicts.empty_draft (draft_of drafter.now self.now.entries) command.now) }
     {
         match command {
             Command::File { work, .. } => {
@@ -460,7 +465,8 @@ impl Register {
     }
 
     fn work_full(&self, drafter: &Drafter, command: &Command) -> Option<Rule>
-        ensures { result ≡ verdicts.work_full (laws self.now.entries) (draft_of drafter.now self.now.entries) command.now }
+        ensures { result
+            ≡ verdicts.work_full (laws self.now.entries) (draft_of drafter.now self.now.entries) command.now }
     {
         match command {
             Command::Record { work, mods } => self.full_with(work, mods.as_slice().len()),

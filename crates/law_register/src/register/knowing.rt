@@ -6,7 +6,7 @@ ghost use Rattle.indexmap.specs.IndexMap.{get_by};
 ghost use Rattle.desk_base.specs.declared.id.Id.{Id};
 ghost use Rattle.law_register.specs.Answer.Counted.{is_same_id};
 ghost use Rattle.law_register.specs.Answer.Soundness.{IsSound};
-ghost use Rattle.law_register.specs.Register.Indexes.{IdStands, act_of, bodies_at, enacted_in, told_at, work_mark};
+ghost use Rattle.law_register.specs.Register.Indexes.{IdStands, act_of, bodies_at, enacted_in, id_in, told_at, work_mark};
 ghost use Rattle.law_register.specs.Register.KnownIds.{facts_of, ids_of, known_at, known_by, known_ids};
 ghost use Rattle.law_register.specs.Register.Listing.{enacted_within, id_told, ids_marked, known_mark, known_marks, number_within, numbers_on, own_facts};
 ghost use Rattle.law_register.specs.Register.LawList.{laws};
@@ -85,7 +85,8 @@ fn note_marks(
     number: u32,
 ) -> Result<(), Memory>
     requires { length bodies.now ≤ 64 }
-    ensures { OnOk result ((i : Id) → get_by (is_same_id i) marks.new ≡ id_told number at bodies.now i (get_by (is_same_id i) marks.old) (slice_get entries.now at)) }
+    ensures { OnOk result
+        ((i : Id) → id_in marks.new i ≡ id_told number at bodies.now i (id_in marks.old i) (slice_get entries.now at)) }
 {
     marks.reserve(64)?;
     match entries.get(at) {
@@ -106,9 +107,11 @@ impl WorkIds {
         requires few { length (bodies_at bodies.now step) ≤ 64 }
         requires first { step.first ≤ step.until }
         requires until { step.until ≤ length bodies.now }
-        ensures marks { OnOk result ((i : Id) → get_by (is_same_id i) self.new.marks
-            ≡ id_told number step.entry (bodies_at bodies.now step) i (get_by (is_same_id i) self.old.marks) (slice_get entries.now step.entry)) }
-        ensures ids { OnOk result (self.new.ids.items ≡ self.old.ids.items ++ ids_marked number 1 (bodies_at bodies.now step)) }
+        ensures marks { OnOk result ((i : Id) → id_in self.new.marks i
+            ≡ id_told number step.entry (bodies_at bodies.now step) i (id_in self.old.marks i)
+            (slice_get entries.now step.entry)) }
+        ensures ids { OnOk result
+            (self.new.ids.items ≡ self.old.ids.items ++ ids_marked number 1 (bodies_at bodies.now step)) }
     {
         let bodies = &bodies[step.first..step.until];
         note_marks(&mut self.marks, entries, step.entry, bodies, number)?;
@@ -124,7 +127,8 @@ fn ids_of(
     viewpoint: u32,
 ) -> Result<WorkIds, Memory>
     requires { IsKept indexes.now entries.now }
-    ensures marks { IfOk result (λ known. (i : Id) → IdStands entries.now (get_by (is_same_id i) known.marks) (own_facts work.now (facts_of i (take viewpoint (laws entries.now))))) }
+    ensures marks { IfOk result (λ known. (i : Id) → IdStands entries.now (id_in known.marks i)
+        (own_facts work.now (facts_of i (take viewpoint (laws entries.now))))) }
     ensures ids { IfOk result (λ known. known.ids.items ≡ ids_of work.now (take viewpoint (laws entries.now))) }
 {
     let mut numbers = numbers_on(alloc, indexes, entries, work, viewpoint)?;
@@ -162,7 +166,7 @@ fn add_known(
 }
 
 fn known_mods(alloc: Global, entries: &[Entry], known: &WorkIds) -> Result<KnownMods, Memory>
-    ensures { IfOk result (λ mods. mods ≡ known_marks entries.now (λ i. get_by (is_same_id i) known.now.marks) known.now.ids.items) }
+    ensures { IfOk result (λ mods. mods ≡ known_marks entries.now (id_in known.now.marks) known.now.ids.items) }
 {
     let mut mods = KnownMods::new(alloc);
     for id in &known.ids {

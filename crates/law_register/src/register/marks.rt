@@ -7,7 +7,7 @@ ghost use Rattle.law_register.specs.Answer.Counted.{is_same_id};
 ghost use Rattle.law_register.specs.Register.Indexes as spec;
 ghost use Rattle.law_register.specs.Register.Concerns.{is_named};
 ghost use Rattle.law_register.specs.Register.Marks as marking;
-ghost use Rattle.law_register.specs.Register.Indexes.{is_request, recorded_from, added_of, items_in, ids_in};
+ghost use Rattle.law_register.specs.Register.Indexes.{added_of, drafter_in, id_in, ids_in, is_request, items_in, recorded_from, work_in};
 ghost use Rattle.law_register.specs.Register.Drafts.{additions};
 
 use crate::law::sizes::entry_size;
@@ -40,9 +40,9 @@ pub fn put_drafter(
     mark: DrafterMark,
 ) -> Option<DrafterMark>
     requires { 0 < spare drafters.old }
-    ensures had { result ≡ get_by (λ k. bytes_eq drafter.items k.items) drafters.old }
-    ensures marks { (d : List ℕ) → get_by (λ k. bytes_eq d k.items) drafters.new
-        ≡ (if bytes_eq drafter.items d then Some mark else get_by (λ k. bytes_eq d k.items) drafters.old) }
+    ensures had { result ≡ drafter_in drafters.old drafter.items }
+    ensures marks { (d : List ℕ) → drafter_in drafters.new d
+        ≡ (if bytes_eq drafter.items d then Some mark else drafter_in drafters.old d) }
     ensures count { index_map_len drafters.new ≡ index_map_len drafters.old + (if is_some result then 0 else 1) }
     ensures room { spare drafters.old ≤ spare drafters.new + 1 }
 {
@@ -55,8 +55,8 @@ pub fn put_drafter(
 /// Gives a work a mark.
 pub fn put_work(works: &mut Works, work: WorkKey, mark: WorkMark)
     requires { 0 < spare works.old }
-    ensures marks { (w : List ℕ) → get_by (λ k. bytes_eq w k.items) works.new
-        ≡ (if bytes_eq work.items w then Some mark else get_by (λ k. bytes_eq w k.items) works.old) }
+    ensures marks { (w : List ℕ) → work_in works.new w
+        ≡ (if bytes_eq work.items w then Some mark else work_in works.old w) }
     ensures room { spare works.old ≤ spare works.new + 1 }
 {
     let _ = works.insert(work, mark);
@@ -65,7 +65,7 @@ pub fn put_work(works: &mut Works, work: WorkKey, mark: WorkMark)
 /// Gives an id a mark.
 pub fn put_id(ids: &mut KnownIds, id: Id, mark: IdMark)
     requires { 0 < spare ids.old }
-    ensures marks { (i : Id) → get_by (is_same_id i) ids.new ≡ (if is_same_id id i then Some mark else get_by (is_same_id i) ids.old) }
+    ensures marks { (i : Id) → id_in ids.new i ≡ (if is_same_id id i then Some mark else id_in ids.old i) }
     ensures room { spare ids.old ≤ spare ids.new + 1 }
 {
     let _ = ids.insert(id, mark);
@@ -75,7 +75,7 @@ pub fn put_id(ids: &mut KnownIds, id: Id, mark: IdMark)
 pub fn record(ids: &mut KnownIds, number: u32, recorded: usize, bodies: &[BodyMark])
     requires few { length bodies.now ≤ 64 }
     requires room { 64 ≤ spare ids.old }
-    ensures { (i : Id) → get_by (is_same_id i) ids.new ≡ recorded_from number recorded 1 bodies.now i (get_by (is_same_id i) ids.old) }
+    ensures { (i : Id) → id_in ids.new i ≡ recorded_from number recorded 1 bodies.now i (id_in ids.old i) }
 {
     let mut item = 1;
     for body in bodies {
@@ -161,19 +161,20 @@ pub fn note_draft(
     command: &Command,
 )
     requires room { 2 ≤ spare drafters.old }
-    requires few { length (items_in (get_by (λ k. bytes_eq drafter.now k.items) drafters.old)) + additions command.now ≤ 64 }
-    requires small { added_of (get_by (λ k. bytes_eq drafter.now k.items) drafters.old) ≤ 536870912 }
-    ensures added { (d : List ℕ) → added_of (get_by (λ k. bytes_eq d k.items) drafters.new)
-        ≡ (if bytes_eq drafter.now d then added_of (get_by (λ k. bytes_eq d k.items) drafters.old) + additions command.now
-        else added_of (get_by (λ k. bytes_eq d k.items) drafters.old)) }
-    ensures items { (d : List ℕ) → items_in (get_by (λ k. bytes_eq d k.items) drafters.new)
+    requires few { length (items_in (drafter_in drafters.old drafter.now)) + additions command.now ≤ 64 }
+    requires small { added_of (drafter_in drafters.old drafter.now) ≤ 536870912 }
+    ensures added { (d : List ℕ) → added_of (drafter_in drafters.new d)
+        ≡ (if bytes_eq drafter.now d then added_of (drafter_in drafters.old d) + additions command.now
+        else added_of (drafter_in drafters.old d)) }
+    ensures items { (d : List ℕ) → items_in (drafter_in drafters.new d)
         ≡ (if bytes_eq drafter.now d
-        then spec.items_after entries.now at (added_of (get_by (λ k. bytes_eq d k.items) drafters.old) + 1) command.now (items_in (get_by (λ k. bytes_eq d k.items) drafters.old))
-        else items_in (get_by (λ k. bytes_eq d k.items) drafters.old)) }
-    ensures present { (d : List ℕ) → is_some (get_by (λ k. bytes_eq d k.items) drafters.new)
-        ≡ bytes_eq drafter.now d || is_some (get_by (λ k. bytes_eq d k.items) drafters.old) }
+        then spec.items_after entries.now at (added_of (drafter_in drafters.old d) + 1) command.now
+        (items_in (drafter_in drafters.old d))
+        else items_in (drafter_in drafters.old d)) }
+    ensures present { (d : List ℕ) → is_some (drafter_in drafters.new d)
+        ≡ bytes_eq drafter.now d || is_some (drafter_in drafters.old d) }
     ensures count { index_map_len drafters.new
-        ≡ index_map_len drafters.old + (if is_some (get_by (λ k. bytes_eq drafter.now k.items) drafters.old) then 0 else 1) }
+        ≡ index_map_len drafters.old + (if is_some (drafter_in drafters.old drafter.now) then 0 else 1) }
 {
     let had = put_drafter(drafters, drafter_key(drafter), mark_or_none(None));
     let mark = redrafted(mark_or_none(had), entries, at, command);
@@ -182,7 +183,8 @@ pub fn note_draft(
 
 fn correct(ids: &mut KnownIds, id: Id, at: usize)
     requires { 0 < spare ids.old }
-    ensures { (i : Id) → get_by (is_same_id i) ids.new ≡ (if is_same_id id i then option_map (spec.corrected at) (get_by (is_same_id i) ids.old) else get_by (is_same_id i) ids.old) }
+    ensures { (i : Id) → id_in ids.new i
+        ≡ (if is_same_id id i then option_map (spec.corrected at) (id_in ids.old i) else id_in ids.old i) }
 {
     if let Some(mark) = ids.get(&id).copied() {
         let corrected = IdMark {
@@ -197,7 +199,8 @@ fn correct(ids: &mut KnownIds, id: Id, at: usize)
 
 fn set_standing(ids: &mut KnownIds, id: Id, standing: Standing)
     requires { 0 < spare ids.old }
-    ensures { (i : Id) → get_by (is_same_id i) ids.new ≡ (if is_same_id id i then option_map (spec.with_standing standing) (get_by (is_same_id i) ids.old) else get_by (is_same_id i) ids.old) }
+    ensures { (i : Id) → id_in ids.new i
+        ≡ (if is_same_id id i then option_map (spec.with_standing standing) (id_in ids.old i) else id_in ids.old i) }
 {
     if let Some(mark) = ids.get(&id).copied() {
         let changed = IdMark {
@@ -214,7 +217,7 @@ fn set_standing(ids: &mut KnownIds, id: Id, standing: Standing)
 pub fn note_ids(ids: &mut KnownIds, number: u32, at: usize, command: &Command, bodies: &[BodyMark])
     requires few { length bodies.now ≤ 64 }
     requires room { 64 ≤ spare ids.old }
-    ensures { (i : Id) → get_by (is_same_id i) ids.new ≡ spec.id_after number at command.now bodies.now i (get_by (is_same_id i) ids.old) }
+    ensures { (i : Id) → id_in ids.new i ≡ spec.id_after number at command.now bodies.now i (id_in ids.old i) }
 {
     match command {
         Command::Record { .. } => record(ids, number, at, bodies),
@@ -275,10 +278,10 @@ pub fn note_work(
     count: u32,
 )
     requires room { 0 < spare works.old }
-    requires few { ids_in (get_by (λ k. bytes_eq work.now k.items) works.old) + count < 2 ^ 32 }
-    ensures { (w : List ℕ) → get_by (λ k. bytes_eq w k.items) works.new
-        ≡ (if bytes_eq work.now w then Some (spec.work_after number at command.now count (get_by (λ k. bytes_eq w k.items) works.old))
-        else get_by (λ k. bytes_eq w k.items) works.old) }
+    requires few { ids_in (work_in works.old work.now) + count < 2 ^ 32 }
+    ensures { (w : List ℕ) → work_in works.new w
+        ≡ (if bytes_eq work.now w then Some (spec.work_after number at command.now count (work_in works.old w))
+        else work_in works.old w) }
 {
     let key = work_key(work);
     let mark = work_after(works.get(&key).copied(), number, at, command, count);
@@ -323,7 +326,7 @@ fn bodies_of(entries: &[Entry], at: usize, draft: &[ItemMark], command: &Command
 }
 
 fn work_of_id<'a>(ids: &KnownIds, entries: &'a [Entry], id: Id) -> Option<&'a WorkName>
-    ensures { option_map (λ w. w.now) result ≡ spec.work_of_mark entries.now (get_by (is_same_id id) ids.now) }
+    ensures { option_map (λ w. w.now) result ≡ spec.work_of_mark entries.now (id_in ids.now id) }
 {
     match ids.get(&id) {
         Some(mark) => contents::work_at(entries, mark.recorded),
@@ -332,7 +335,7 @@ fn work_of_id<'a>(ids: &KnownIds, entries: &'a [Entry], id: Id) -> Option<&'a Wo
 }
 
 fn concerned<'a>(ids: &KnownIds, entries: &'a [Entry], command: &'a Command) -> Option<&'a WorkName>
-    ensures { option_map (λ w. w.now) result ≡ spec.concerned_by entries.now (λ id. get_by (is_same_id id) ids.now) command.now }
+    ensures { option_map (λ w. w.now) result ≡ spec.concerned_by entries.now (id_in ids.now) command.now }
 {
     match command {
         Command::Enact { act } => Some(&act.work),
@@ -354,11 +357,12 @@ fn note_concerned(
     count: u32,
 )
     requires room { 0 < spare works.old }
-    requires few { (w : List ℕ) → ids_in (get_by (λ k. bytes_eq w k.items) works.old) ≤ 512 }
+    requires few { (w : List ℕ) → ids_in (work_in works.old w) ≤ 512 }
     requires count { count ≤ 64 }
-    ensures { (w : List ℕ) → get_by (λ k. bytes_eq w k.items) works.new
-        ≡ (if is_named w (option_map (λ n. n.now) work.entry) then Some (spec.work_after number at command.now count (get_by (λ k. bytes_eq w k.items) works.old))
-        else get_by (λ k. bytes_eq w k.items) works.old) }
+    ensures { (w : List ℕ) → work_in works.new w
+        ≡ (if is_named w (option_map (λ n. n.now) work.entry)
+        then Some (spec.work_after number at command.now count (work_in works.old w))
+        else work_in works.old w) }
 {
     match work {
         Some(work) => note_work(works, work, number, at, command, count),
@@ -368,7 +372,7 @@ fn note_concerned(
 
 /// The number of the last law entry that concerns a work, or 0.
 pub fn last_on(works: &Works, work: &WorkName) -> u32
-    ensures { result ≡ spec.last_in (get_by (λ k. bytes_eq work.now k.items) works.now) }
+    ensures { result ≡ spec.last_in (work_in works.now work.now) }
 {
     match works.get(&work_key(work)) {
         Some(mark) => mark.last,
@@ -377,7 +381,7 @@ pub fn last_on(works: &Works, work: &WorkName) -> u32
 }
 
 fn last_before(works: &Works, work: Option<&WorkName>) -> u32
-    ensures { result ≡ marking.last_before (λ w. get_by (λ k. bytes_eq w k.items) works.now) (option_map (λ n. n.now) work.entry) }
+    ensures { result ≡ marking.last_before (work_in works.now) (option_map (λ n. n.now) work.entry) }
 {
     match work {
         Some(work) => last_on(works, work),

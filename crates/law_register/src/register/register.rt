@@ -32,7 +32,10 @@ impl Model for Register {
 
     ghost coded = { Prim.hlevel (codes, branches_code own_code) };
 
-    ghost view = { λ r. record { entries = r.entries.items; spare = min (vec_capacity r.entries - vec_len r.entries) (index_room r.indexes) } };
+    ghost view = { λ r. record {
+      entries = r.entries.items;
+      spare = min (vec_capacity r.entries - vec_len r.entries) (index_room r.indexes);
+    } };
 
     ghost invariant = { λ r. IsKept r.indexes r.entries.items };
 }
@@ -97,7 +100,8 @@ impl Register {
     /// Appends a well-spelled entry that is accepted behind the others with its law number. It takes no memory.
     pub fn push(&mut self, entry: Entry)
         requires room { 1 ≤ self.old.spare }
-        requires accepted { verdicts.is_accepted entry.law (verdicts.verdict self.old.entries entry.drafter entry.request entry.command) ≡ true }
+        requires accepted { verdicts.is_accepted entry.law
+            (verdicts.verdict self.old.entries entry.drafter entry.request entry.command) ≡ true }
         requires spelled { is_well_spelled entry.command ≡ true }
         ensures { self.new.entries ≡ self.old.entries ++ entry ∷ [] }
     {
@@ -212,7 +216,8 @@ impl Register {
 
     /// The work that an id modifies. `None`: it is not recorded.
     pub fn work_of(&self, id: Id) -> Option<&WorkName>
-        ensures { option_map (λ work. work.now) result ≡ option_map (λ f. f.work) (facts_of id (laws self.now.entries)) }
+        ensures { option_map (λ work. work.now) result
+            ≡ option_map (λ f. f.work) (facts_of id (laws self.now.entries)) }
     {
         match self.indexes.id(id) {
             Some(mark) => contents::work_at(&self.entries, mark.recorded),
@@ -222,7 +227,8 @@ impl Register {
 
     /// What an id says, as it was last recorded or corrected. `None`: it is not recorded.
     pub fn body_of(&self, id: Id) -> Option<&Modification>
-        ensures { option_map (λ body. body.now) result ≡ option_map (λ f. f.body) (facts_of id (laws self.now.entries)) }
+        ensures { option_map (λ body. body.now) result
+            ≡ option_map (λ f. f.body) (facts_of id (laws self.now.entries)) }
     {
         match self.indexes.id(id) {
             Some(mark) => contents::body_at(&self.entries, mark.entry, mark.place),
@@ -249,7 +255,8 @@ impl Register {
     }
 
     pub(crate) fn request(&self, drafter: &Drafter, request: u64) -> Option<&Entry>
-        ensures { option_map (λ e. e.now) result ≡ option_map (λ found. found.0) (verdicts.request_of self.now.entries drafter.now request) }
+        ensures { option_map (λ e. e.now) result
+            ≡ option_map (λ found. found.0) (verdicts.request_of self.now.entries drafter.now request) }
     {
         match self.indexes.request(drafter, request) {
             Some(mark) => self.entries.get(mark.entry),

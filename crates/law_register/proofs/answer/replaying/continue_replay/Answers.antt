@@ -1,9 +1,7 @@
-use Rattle.std.proofs.Common.{rules, ◌≡◌, ◌∙◌, ◌+◌, ◌<◌, ◌++◌, sym, ap, arith, drop, get_or, length, List, ◌∷◌, false}
+use Rattle.std.proofs.Common.{rules, ◌≡◌, ◌∙◌, ◌+◌, ◌<◌, ◌++◌, sym, ap, arith, drop, get_or, length, List, ◌∷◌}
 use Rattle.std.proofs.lemmas.List.{drop_more}
-use Rattle.std.specs.List.{list_any}
 use Rattle.desk_base.specs.declared.id.Id.{Id}
 use Rattle.law_register.specs.declared.register.known.KnownMod.{KnownMod}
-use Rattle.law_register.specs.Answer.Counted.{is_same_id}
 use Rattle.law_register.specs.Answer.Replay.{VersionValue, edit_of, edited_by, replayed}
 use Rattle.law_register.specs.Answer.Soundness.{id_twice}
 use Rattle.law_register.specs.Answer.Versions.{version_view}
