@@ -2,6 +2,7 @@ pub mod Answers
 pub mod Asking
 pub mod Bearing
 pub mod Breakpoints
+pub mod Costs
 pub mod Counted
 pub mod Flags
 pub mod Order

@@ -1,3 +1,4 @@
 pub mod Law
 pub mod Register
 pub mod Answer
+pub mod Desk

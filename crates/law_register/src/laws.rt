@@ -7,6 +7,7 @@ ghost use Rattle.law_register.specs.Register.Drafters.{is_drafter};
 ghost use Rattle.law_register.specs.Register.KnownIds.{ids_of};
 ghost use Rattle.law_register.specs.Register.LawList.{laws, front, law_numbers, first_numbers};
 ghost use Rattle.law_register.specs.Law.Same.{same_command};
+ghost use Rattle.law_register.specs.Law.Sizes.{entry_size};
 ghost use Rattle.law_register.specs.Law.Spellable.{can_all_be_spelled, can_be_spelled};
 ghost use Rattle.law_register.specs.Law.Spelling.{is_well_spelled};
 ghost use Rattle.law_register.specs.Register.Registers.{are_well_spelled};
@@ -40,6 +41,21 @@ pub fn accepted_can_be_spelled(_register: &Register, _entry: &Entry)
 /// Each entry of a register can be spelled as bytes.
 pub fn entries_can_be_spelled(register: &Register)
     ensures { can_all_be_spelled register.now.entries ≡ true }
+{
+    let _ = &register.entries;
+}
+
+/// An entry that is accepted behind those of a register takes 1 to 16,777,216 bytes.
+pub fn accepted_are_small(_register: &Register, _entry: &Entry)
+    requires { is_accepted _entry.now.law
+        (verdict _register.now.entries _entry.now.drafter _entry.now.request _entry.now.command) ≡ true }
+    ensures some { 1 ≤ entry_size _entry.now }
+    ensures most { entry_size _entry.now ≤ 16777216 }
+{}
+
+/// A register has 536,870,912 entries at most.
+pub fn entries_are_few(register: &Register)
+    ensures { length register.now.entries ≤ 536870912 }
 {
     let _ = &register.entries;
 }

@@ -2,6 +2,7 @@
 #![tactic(auto)]
 
 mod answer;
+mod desk;
 mod law;
 pub mod laws;
 mod register;
@@ -12,6 +13,7 @@ pub use answer::{
     Answer, AnswerNode, AnswerNodes, AskFault, Days, Due, Ids, QueryRule, Question, Reading,
     Replayer, Unapplied, Version, continue_replay, enact,
 };
+pub use desk::{CommandFault, Damage, Desk, FaultMark, OpenFault};
 pub use law::{Act, Command, Destination, Kind, ModSource, Modification, Mods, entry_size};
 pub use register::{
     Draft, DraftItem, Drafter, EnterFault, Entry, Known, KnownMod, KnownMods, Register, Reply,

@@ -3,8 +3,8 @@
 ghost use Rattle.std.specs.Prelude.{◌≡◌, ◌+◌, ◌≤◌, IfOk, IfSome};
 ghost use Rattle.law_register.specs.Answer.Answers.{Answers, answer_on};
 ghost use Rattle.law_register.specs.Answer.Asking.{answer_at, known_for};
+ghost use Rattle.law_register.specs.Answer.Costs.{bearing_at, bearing_by};
 ghost use Rattle.law_register.specs.Answer.Soundness.{IsSound};
-ghost use Rattle.viewpoints.specs.Costs.{bearing_at, bearing_by};
 
 use desk_base::{Memory, Steps};
 use law_register::{Answer, AskFault, Known, QueryRule, Question, Register, Replayer, known_at};
@@ -64,7 +64,7 @@ impl Past {
 
     /// The answer to a question at its viewpoint, or the first rule that it breaks. It takes one step at most for each modification
     /// that bears, and none where a rule is broken that can be judged without a text.
-    #[tactic(auto, unfolding(law_register::specs::Answer::Asking::answer_at, crate::specs::Costs::bearing_at))]
+    #[tactic(auto, unfolding(law_register::specs::Answer::Asking::answer_at, law_register::specs::Answer::Costs::bearing_at))]
     pub fn answer_past<P: Replayer, L: Ledger>(
         &mut self,
         alloc: Global,

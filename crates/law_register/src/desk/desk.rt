@@ -1,0 +1,78 @@
+//! Desk: who takes commands and answers questions. A clause sees its entries, the one that is pending, the marks of
+//! faults, its keeper's count of faults, the days that its clock tells, and the names of what it was lent.
+
+ghost use Rattle.std.specs.Prelude.{◌≡◌, ◌+◌, ◌<◌, ◌≤◌, true};
+ghost use Rattle.law_register.specs.Answer.Answers.{Answers};
+ghost use Rattle.law_register.specs.Answer.Asking.{answer_at};
+ghost use Rattle.law_register.specs.Answer.Costs.{bearing_at};
+ghost use Rattle.law_register.specs.Desk.Commands.{Ends, HasCommandCause, mark_of, marks_after};
+ghost use Rattle.law_register.specs.Desk.States.{DeskState, IsSound, standing};
+ghost use Rattle.law_register.specs.Law.Spelling.{is_well_spelled};
+ghost use Rattle.law_register.specs.Register.LawList.{front};
+
+use crate::{Answer, AskFault, Command, CommandFault, Drafter, Question, Register, Reply};
+use desk_base::Steps;
+use std::alloc::Global;
+use std::sync::ledger::Ledger;
+
+/// A register that takes commands and answers questions. Whatever keeps its entries may fail: then the entry of a
+/// command is pending until the next command finds out whether it was kept.
+pub trait Desk {
+    /// What contracts alone see of it.
+    ghost state: { Self → DeskState };
+
+    /// Does a well-spelled command of a drafter's request. First a pending entry is settled, then the clock is asked
+    /// once for the day, then the command is judged: a repeat gets the first reply, and one that is accepted becomes
+    /// an entry of that day, once the keeper has it. Where the keeper fails, the command leaves a mark. No step is
+    /// taken.
+    fn command<L: Ledger>(
+        &mut self,
+        alloc: Global,
+        drafter: &Drafter,
+        request: u64,
+        command: Command,
+        steps: &mut Steps<L>,
+    ) -> Result<Reply, CommandFault>
+        requires { is_well_spelled command ≡ true }
+        ensures outcome { Ends drafter.now request command
+            (standing (state self.old)) (standing (state self.new)) result }
+        ensures marks { (state self.new).marks ≡ marks_after (state self.old).marks
+            (mark_of drafter.now request (state self.new).entries) result }
+        ensures cause { HasCommandCause (state self.old).faults (state self.new).faults result }
+        ensures origin { (state self.new).origin ≡ (state self.old).origin }
+        ensures steps { steps.new ≡ steps.old };
+
+    /// The answer to a question at the front or ahead of it, or the first rule that it breaks. An entry that is
+    /// pending is not seen. It takes one step at most for each modification that bears.
+    fn ask<L: Ledger>(
+        &self,
+        alloc: Global,
+        question: &Question,
+        steps: &mut Steps<L>,
+    ) -> Result<Answer, AskFault>
+        requires { front (state self.now).entries ≤ question.now.viewpoint }
+        ensures answer { Answers result (answer_at (state self.now).entries question.now) }
+        ensures steps { steps.new ≤ steps.old + bearing_at (state self.now).entries question.now };
+
+    /// The answer to a question at a viewpoint before the front, or the first rule that it breaks. An entry that is
+    /// pending is not seen. It takes one step at most for each modification that bears.
+    fn ask_past<L: Ledger>(
+        &mut self,
+        alloc: Global,
+        question: &Question,
+        steps: &mut Steps<L>,
+    ) -> Result<Answer, AskFault>
+        requires { question.now.viewpoint < front (state self.old).entries }
+        ensures answer { Answers result (answer_at (state self.old).entries question.now) }
+        ensures same { state self.new ≡ state self.old }
+        ensures steps { steps.new ≤ steps.old + bearing_at (state self.old).entries question.now };
+
+    /// How many law entries there are.
+    fn front(&self) -> u32
+        ensures { result ≡ front (state self.now).entries };
+
+    /// The register, without an entry that is pending.
+    fn register(&self) -> &Register
+        ensures entries { result.now.entries ≡ (state self.now).entries }
+        ensures sound { IsSound (state self.now) };
+}
