@@ -1,9 +1,11 @@
 -- What can be held against an insertion, told before it is made: by the levels that are brought, and by how deep and how
 -- many the provisions would be.
-use Rattle.std.specs.Prelude.{ℕ, ◌+◌, ◌||◌, ◌&&◌, Bool, true, List, max, nat_lt, Option, Some, None, if◌then◌else◌}
+use Rattle.std.specs.Prelude.{ℕ, ◌+◌, ◌||◌, ◌&&◌, Bool, true, false, not, List, max, nat_lt, Option, Some, None, if◌then◌else◌}
 use Rattle.std.specs.List.{list_any}
 use Rattle.std.specs.Str.{bytes_eq}
 use Rattle.eid_paths.specs.declared.numbering.Numbering.{Numbering}
+use Rattle.eid_paths.specs.Elements.{is_throughout}
+use Rattle.eid_paths.specs.Levels.{level_text}
 use Rattle.eid_paths.specs.Nums.{is_num}
 use Rattle.act_tree.specs.declared.build_fault.BuildFault.{BuildFault}
 use Rattle.act_tree.specs.declared.build_fault.BuildFault.TheVariants.{EidTwice, TooDeep, TooManyNodes}
@@ -35,6 +37,25 @@ begins_again numbering top new body =
 abbrev pub goes_on_again : Numbering → Bool → Branches Own → Branches Own → Bool
 goes_on_again numbering top new siblings =
     one_among (all_going_on numbering top new) (all_going_on numbering top siblings)
+
+-- the same, told node by node: one of the levels that begin an eId is among others
+abbrev mutual
+  pub begun_among : List (List ℕ) → Numbering → Bool → Branch Own → Bool
+  begun_among levels numbering top (branch own below) =
+      ((top || is_throughout numbering own.element) && is_among (level_text own.element own.num) levels)
+      || all_begun_among levels numbering false below
+
+  pub all_begun_among : List (List ℕ) → Numbering → Bool → Branches Own → Bool
+  all_begun_among levels numbering top no_branches = false
+  all_begun_among levels numbering top (more_branches b bs) =
+      begun_among levels numbering top b || all_begun_among levels numbering top bs
+
+-- and one of the levels that begin none, of provisions that are no children of the root, is
+abbrev pub on_among : List (List ℕ) → Numbering → Branches Own → Bool
+on_among levels numbering no_branches = false
+on_among levels numbering (more_branches (branch own below) bs) =
+    (not (is_throughout numbering own.element) && is_among (level_text own.element own.num) levels)
+    || on_among levels numbering bs
 
 -- a number of provisions that are brought among the children of a node is taken
 abbrev pub number_taken : Tree → ℕ → Branches Own → Bool
