@@ -51,6 +51,7 @@ pub mod Ways
 pub mod LevelsDiffer
 pub mod EidsOfTree
 pub mod FoundNodes
+pub mod LevelsFound
 pub mod LevelsNoted
 pub mod Copying
 pub mod NotAsMany

@@ -22,7 +22,7 @@ abbrev pub AreNew : Tree → List (List ℕ) → Type 0
 AreNew t ws = (v : List ℕ) → is_among v (root_wid ∷ all_wids (tree_view t).body) ≡ true → is_among v ws ≡ false
 
 -- a node that is not the root has not the root's wId
-not_root : (t : Tree) (i : ℕ) → has_node t i ≡ true → (i ≡ 0 → ⊥) → bytes_eq (provision_at t i).wid root_wid ≡ false
+pub not_root : (t : Tree) (i : ℕ) → has_node t i ≡ true → (i ≡ 0 → ⊥) → bytes_eq (provision_at t i).wid root_wid ≡ false
 unfolding has_node provision_at
 not_root t i node other =
     let w : List ℕ = (provision_in (at t.arena i)).wid in

@@ -58,3 +58,7 @@ has_beginning_twice tree = one_twice (all_beginning tree.numbering true (all_own
 -- two siblings that begin no eId have one level; the children of the root begin one each
 abbrev pub has_siblings_alike : TreeValue → Bool
 has_siblings_alike tree = alike_beneath tree.numbering (all_owns tree.body)
+
+-- the levels that begin an eId in a tree
+abbrev pub levels_begun : TreeValue → List (List ℕ)
+levels_begun tree = all_beginning tree.numbering true (all_owns tree.body)

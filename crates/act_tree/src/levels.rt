@@ -1,15 +1,20 @@
-//! The levels of provisions that stand side by side, of which none is a child of the root.
+//! The levels of provisions: those that begin an eId, and those of siblings that begin none.
 
-ghost use Rattle.std.specs.Prelude.{◌≡◌, [], ◌∷◌, true, map, OnOk, IfOk};
+ghost use Rattle.std.specs.Prelude.{◌≡◌, [], ◌∷◌, true, OnOk, IfOk};
 ghost use Rattle.std.specs.List.{All};
-ghost use Rattle.act_tree.specs.Branches.{branches_of};
-ghost use Rattle.act_tree.specs.LevelsOfNodes.{levels_at};
+ghost use Rattle.act_tree.specs.EidLevels.{own_level};
+ghost use Rattle.act_tree.specs.LevelsOfNodes.{begun_at, levels_at, own_begun};
 ghost use Rattle.act_tree.specs.Seen.{has_node};
 ghost use Rattle.act_tree.specs.Surveys.{gathered, repeats};
-ghost use Rattle.act_tree.specs.Wids.{one_twice};
+ghost use Rattle.act_tree.specs.Slots.{provision_of};
+ghost use Rattle.act_tree.specs.Wids.{is_among, one_twice};
+ghost use Rattle.eid_paths.specs.Levels.{level_text};
+ghost use Rattle.std.specs.Str.{bytes_eq};
 
+use crate::arena::Slot;
 use crate::{NodeId, Tree, eid_below};
 use desk_base::{Memory, Text};
+use eid_paths::{Element, Num};
 use indexmap::IndexSet;
 use std::alloc::Global;
 
@@ -46,4 +51,73 @@ pub fn are_alike(alloc: Global, tree: &Tree, ids: &[NodeId]) -> Result<bool, Mem
         }
     }
     Ok(false)
+}
+
+// Whether a provision has this level. (The copies carry the rule of nums, by which equal levels have equal parts.)
+fn is_level(slot: &Slot, element: Element, num: &Num) -> bool
+    ensures { result ≡ bytes_eq (level_text element num.now) (own_level (provision_of slot.now).own) }
+{
+    let own = slot.num.copy();
+    let other = num.copy();
+    let same = own == other;
+    slot.element == element && same
+}
+
+// Whether a node begins an eId by this level; `top` says that it is a child of the root.
+fn begins_at(tree: &Tree, top: bool, element: Element, num: &Num, id: NodeId) -> bool
+    requires { has_node tree.now id ≡ true }
+    ensures { result ≡ is_among (level_text element num.now) (own_begun tree.now top id) }
+{
+    let slot = tree.slot(id);
+    if top || tree.numbering().has(slot.element) {
+        is_level(slot, element, num)
+    } else {
+        false
+    }
+}
+
+/// Whether one of these nodes, or of those beneath them, begins an eId by this level; `top` says that they are the
+/// children of the root.
+pub fn begins(tree: &Tree, top: bool, element: Element, num: &Num, ids: &[NodeId]) -> bool
+    requires { All (λ id. has_node tree.now id ≡ true) ids.now }
+    ensures { result ≡ is_among (level_text element num.now) (begun_at tree.now top ids.now) }
+{
+    for id in ids {
+        let here = begins_at(tree, top, element, num, *id);
+        if here {
+            return true;
+        }
+        let beneath = begins(tree, false, element, num, tree.children(*id));
+        if beneath {
+            return true;
+        }
+    }
+    false
+}
+
+// Whether a node begins no eId and has this level, as a provision that is no child of the root.
+fn goes_on_at(tree: &Tree, element: Element, num: &Num, id: NodeId) -> bool
+    requires { has_node tree.now id ≡ true }
+    ensures { result ≡ is_among (level_text element num.now) (levels_at tree.now (id ∷ [])) }
+{
+    let slot = tree.slot(id);
+    if tree.numbering().has(slot.element) {
+        false
+    } else {
+        is_level(slot, element, num)
+    }
+}
+
+/// Whether one of these nodes, which are no children of the root, begins no eId and has this level.
+pub fn goes_on(tree: &Tree, element: Element, num: &Num, ids: &[NodeId]) -> bool
+    requires { All (λ id. has_node tree.now id ≡ true) ids.now }
+    ensures { result ≡ is_among (level_text element num.now) (levels_at tree.now ids.now) }
+{
+    for id in ids {
+        let here = goes_on_at(tree, element, num, *id);
+        if here {
+            return true;
+        }
+    }
+    false
 }

@@ -10,7 +10,7 @@ use crate::arena::{Arena, Slot};
 use crate::eids::eid_of_number;
 use crate::grafting::{bringer, place_in};
 use crate::laying::{lay, root_slot};
-use crate::levels::are_alike;
+use crate::levels::{are_alike, begins, goes_on};
 use crate::survey::Survey;
 use crate::surveying::fault_of;
 use crate::walks::{count, find_eid, survey};
@@ -99,12 +99,13 @@ impl Tree {
     ghost use Rattle.act_tree.specs.Changes.{after, before, changed, grafted, is_in, joined, merged, next_of, parted, removed, renumbered, substituted, with_content};
     ghost use Rattle.act_tree.specs.declared.surveying.TheConstants.{NONE_THROUGHOUT};
     ghost use Rattle.act_tree.specs.Eids.{all_enacted};
-    ghost use Rattle.act_tree.specs.EidLevels.{levels_on};
+    ghost use Rattle.act_tree.specs.EidLevels.{levels_begun, levels_on};
+    ghost use Rattle.eid_paths.specs.Levels.{level_text};
     ghost use Rattle.act_tree.specs.EidsOfNodes.{IsNodeOf};
     ghost use Rattle.act_tree.specs.EidsOfWids.{eid_of_wid, has_eid, level_of_own};
     ghost use Rattle.act_tree.specs.Trees.{unchanged};
     ghost use Rattle.act_tree.specs.NodesStay.{NodesStay};
-    ghost use Rattle.act_tree.specs.Wids.{all_wids, one_twice};
+    ghost use Rattle.act_tree.specs.Wids.{all_wids, is_among, one_twice};
     ghost use Rattle.act_tree.specs.Seen.{tree_view, has_node, provision_at, children_at, branch_at, below_at, with_body, once_changed, changed_at, removed_at, substituted_at, grafted_at, nums_by_wid, next_at};
     ghost use Rattle.std.specs.Prelude.{◌↔◌, [], ◌∷◌, drop};
     ghost use Rattle.act_tree.specs.Arena.{above_in};
@@ -341,6 +342,23 @@ impl Tree {
         let below = self.arena.below_both(alloc, one, other)?;
         let alike = are_alike(alloc, self, below.as_slice())?;
         Ok(alike)
+    }
+
+    /// Whether a node begins an eId by this level: it is a child of the root, or its element is numbered throughout. The
+    /// nodes are searched, and no eId is spelled.
+    pub fn has_level(&self, element: Element, num: &Num) -> bool
+        ensures { result ≡ is_among (level_text element num.now) (levels_begun (tree_view self.now)) }
+    {
+        begins(self, true, element, num, self.children(self.root()))
+    }
+
+    /// Whether a child of a node that is not the root has this level, and begins no eId by it.
+    pub fn has_child_level(&self, id: NodeId, element: Element, num: &Num) -> bool
+        requires { has_node self.now id ≡ true }
+        ensures { result ≡ is_among (level_text element num.now)
+            (levels_on (tree_view self.now).numbering (below_at self.now id)) }
+    {
+        goes_on(self, element, num, self.children(id))
     }
 
     /// The first cause for which the tree is not well-formed: two nodes have one eId, it is deeper than 12 levels, has

@@ -19,27 +19,27 @@ use Rattle.textual_mods.proofs.Limits.{IsPlaced, is_placed, is_short, fault_by}
 use Rattle.textual_mods.proofs.OnePlace.{first_of, beneath_it, behind_it, found_past, AreDistinct, are_distinct, not_changed, elsewhere, at_place}
 use Rattle.textual_mods.proofs.Readers.{next_past, next_none}
 
-abbrev one_if : Bool → ℕ
+abbrev pub one_if : Bool → ℕ
 one_if true = 1
 one_if false = 0
 
 -- how often a text stands among others
-abbrev times : List ℕ → List (List ℕ) → ℕ
+abbrev pub times : List ℕ → List (List ℕ) → ℕ
 times x [] = 0
 times x (w ∷ ws) = one_if (bytes_eq x w) + times x ws
 
-times-append : (x : List ℕ) (vs ws : List (List ℕ)) → times x (vs ++ ws) ≡ times x vs + times x ws
+pub times-append : (x : List ℕ) (vs ws : List (List ℕ)) → times x (vs ++ ws) ≡ times x vs + times x ws
 times-append x [] ws = omega arith
 times-append x (v ∷ vs) ws = omega (arith, times-append x vs ws)
 
-none_times : (x : List ℕ) (ws : List (List ℕ)) → is_among x ws ≡ false → times x ws ≡ 0
+pub none_times : (x : List ℕ) (ws : List (List ℕ)) → is_among x ws ≡ false → times x ws ≡ 0
 none_times x [] none = refl
 none_times x (w ∷ ws) none =
     let here : one_if (bytes_eq x w) ≡ 0 = ap one_if (none_left (bytes_eq x w) _ none) in
     let later : times x ws ≡ 0 = none_times x ws (none_right (bytes_eq x w) _ none) in
     omega arith
 
-some_times : (x : List ℕ) (ws : List (List ℕ)) → is_among x ws ≡ true → 1 ≤ times x ws
+pub some_times : (x : List ℕ) (ws : List (List ℕ)) → is_among x ws ≡ true → 1 ≤ times x ws
 some_times x [] there = absurd cc
 some_times x (w ∷ ws) there =
     elim (cases_Bool (bytes_eq x w)) [
@@ -50,7 +50,7 @@ some_times x (w ∷ ws) there =
     ]
 
 -- texts differ exactly where none stands more than once
-few_once : (ws : List (List ℕ)) → ((x : List ℕ) → times x ws ≤ 1) → one_twice ws ≡ false
+pub few_once : (ws : List (List ℕ)) → ((x : List ℕ) → times x ws ≤ 1) → one_twice ws ≡ false
 few_once [] few = refl
 few_once (w ∷ ws) few =
     let here : one_if (bytes_eq w w) ≡ 1 = ap one_if (equal_text w w refl) in
@@ -62,7 +62,7 @@ few_once (w ∷ ws) few =
     ])
     (few_once ws (λ x. let all : one_if (bytes_eq x w) + times x ws ≤ 1 = few x in omega arith))
 
-once_few : (ws : List (List ℕ)) (x : List ℕ) → one_twice ws ≡ false → times x ws ≤ 1
+pub once_few : (ws : List (List ℕ)) (x : List ℕ) → one_twice ws ≡ false → times x ws ≤ 1
 once_few [] x once = omega arith
 once_few (w ∷ ws) x once =
     elim (cases_Bool (bytes_eq x w)) [
@@ -77,7 +77,7 @@ once_few (w ∷ ws) x once =
     ]
 
 module _ (n : Numbering) (x : List ℕ) where
-  begun_joined : (t : Bool) (bs cs : Branches Provision) → times x (all_beginning n t (all_owns (joined bs cs))) ≡ times x (all_beginning n t (all_owns bs)) + times x (all_beginning n t (all_owns cs))
+  pub begun_joined : (t : Bool) (bs cs : Branches Provision) → times x (all_beginning n t (all_owns (joined bs cs))) ≡ times x (all_beginning n t (all_owns bs)) + times x (all_beginning n t (all_owns cs))
   begun_joined t no_branches cs = omega arith
   begun_joined t (more_branches b bs) cs =
       omega (arith, begun_joined t bs cs, times-append x (beginning n t (owns b)) (all_beginning n t (all_owns (joined bs cs))), times-append x (beginning n t (owns b)) (all_beginning n t (all_owns bs)))
@@ -138,11 +138,11 @@ module _ (n : Numbering) (x : List ℕ) where
       (λ _. let less : times x (all_going_on n t (all_owns (merged c inside rest))) ≤ times x (going_on n t (owns inside)) + times x (all_going_on n t (all_owns rest)) = on_merged c t inside rest in omega arith)
       (λ _. omega (arith, times-append x (going_on n t (owns inside)) (all_going_on n t (all_owns rest))))
 
-heights_joined : (bs cs : Branches Provision) → heights (all_owns (joined bs cs)) ≡ max (heights (all_owns bs)) (heights (all_owns cs))
+pub heights_joined : (bs cs : Branches Provision) → heights (all_owns (joined bs cs)) ≡ max (heights (all_owns bs)) (heights (all_owns cs))
 heights_joined no_branches cs = omega arith
 heights_joined (more_branches b bs) cs = omega (arith, heights_joined bs cs)
 
-counts_joined : (bs cs : Branches Provision) → counts (all_owns (joined bs cs)) ≡ counts (all_owns bs) + counts (all_owns cs)
+pub counts_joined : (bs cs : Branches Provision) → counts (all_owns (joined bs cs)) ≡ counts (all_owns bs) + counts (all_owns cs)
 counts_joined no_branches cs = omega arith
 counts_joined (more_branches b bs) cs = omega (arith, counts_joined bs cs)
 
@@ -184,11 +184,11 @@ alike_joined : (n : Numbering) (bs cs : Branches Provision) → alike_beneath n 
 alike_joined n no_branches cs one two = two
 alike_joined n (more_branches b bs) cs one two = neither _ _ (none_left (alike_inside n (owns b)) _ one) (alike_joined n bs cs (none_right (alike_inside n (owns b)) _ one) two)
 
-long_joined : (bs cs : Branches Provision) → have_long (all_owns bs) ≡ false → have_long (all_owns cs) ≡ false → have_long (all_owns (joined bs cs)) ≡ false
+pub long_joined : (bs cs : Branches Provision) → have_long (all_owns bs) ≡ false → have_long (all_owns cs) ≡ false → have_long (all_owns (joined bs cs)) ≡ false
 long_joined no_branches cs one two = two
 long_joined (more_branches b bs) cs one two = neither _ _ (none_left (has_long (owns b)) _ one) (long_joined bs cs (none_right (has_long (owns b)) _ one) two)
 
-or_none : (s : Bool) → (s || false) ≡ s
+pub or_none : (s : Bool) → (s || false) ≡ s
 or_none true = refl
 or_none false = refl
 

@@ -4,6 +4,8 @@ pub mod Contents
 pub mod EitherOrder
 pub mod Finding
 pub mod Held
+pub mod InsertedTrees
+pub mod InsertionLimits
 pub mod JoinChange
 pub mod JoinLimits
 pub mod JoinedTrees

@@ -20,7 +20,7 @@ mutual
   own_again : (n : Numbering) (above : Option (List ℕ)) (b : Branch Own) → owns (enacted n above b) ≡ b
   own_again n above (branch own below) = ap (branch own) (owns_again n (Some (eid_below n above own.element own.num)) below)
 
-  owns_again : (n : Numbering) (above : Option (List ℕ)) (bs : Branches Own) → all_owns (all_enacted n above bs) ≡ bs
+  pub owns_again : (n : Numbering) (above : Option (List ℕ)) (bs : Branches Own) → all_owns (all_enacted n above bs) ≡ bs
   owns_again n above no_branches = refl
   owns_again n above (more_branches b bs) =
       ap (λ c. more_branches c (all_owns (all_enacted n above bs))) (own_again n above b) ∙ ap (more_branches b) (owns_again n above bs)

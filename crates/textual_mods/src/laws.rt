@@ -1,16 +1,18 @@
 //! What holds of every edit. Each law is a function that does nothing, whose clause is the law.
 
-ghost use Rattle.std.specs.Prelude.{◌≡◌, ◌↔◌, ◌||◌, ◌++◌, ℕ, IsTrue, List, [], ◌∷◌, None, false, true, nat_eq};
+ghost use Rattle.std.specs.Prelude.{◌≡◌, ◌↔◌, ◌||◌, ◌++◌, ℕ, IsTrue, List, [], ◌∷◌, None, false, true, nat_eq, option_map};
 ghost use Rattle.std.specs.List.{starts_with};
 ghost use Rattle.act_tree.specs.Branches.{branches_of};
-ghost use Rattle.act_tree.specs.Brought.{bringer, has_brought};
+ghost use Rattle.act_tree.specs.Brought.{bringer, brought, has_brought};
 ghost use Rattle.act_tree.specs.Changes.{Step, any_holds, changed};
 ghost use Rattle.act_tree.specs.Eids.{all_enacted};
-ghost use Rattle.act_tree.specs.Faults.{first_cause, first_fault};
-ghost use Rattle.act_tree.specs.Seen.{tree_view};
+ghost use Rattle.act_tree.specs.Faults.{fault_cause, first_cause, first_fault};
+ghost use Rattle.act_tree.specs.Seen.{tree_view, has_node, grafted_at, with_body};
+ghost use Rattle.act_tree.specs.declared.surveying.TheConstants.{NONE_THROUGHOUT};
 ghost use Rattle.act_tree.specs.Trees.{unchanged};
 ghost use Rattle.act_tree.specs.Wids.{all_wids, is_among, one_twice};
 ghost use Rattle.textual_mods.specs.Edits.{applied, outcome_of};
+ghost use Rattle.textual_mods.specs.Insertions.{have_nums, insertion_fault};
 ghost use Rattle.textual_mods.specs.Laws.{tree_with, IsMade, twice_changed, wid_of_second, nums_before, stand_apart, edits_apart, LooksAtNoSibling, made_of};
 ghost use Rattle.textual_mods.specs.Targets.{provision_named};
 ghost use Rattle.textual_mods.specs.declared.edit.TextualMod.{TextualMod as EditValue};
@@ -18,7 +20,7 @@ ghost use Rattle.textual_mods.specs.declared.edit.TextualMod.TheVariants.{Join, 
 ghost use Rattle.textual_mods.specs.declared.outcome.Outcome.TheVariants.{Unapplied};
 
 use crate::{Pairs, SplitAt, TextualMod};
-use act_tree::{Cause, Nodes, Tree};
+use act_tree::{Cause, NodeId, Nodes, Tree};
 use desk_base::{Id, Text};
 use eid_paths::{Num, Numbering};
 
@@ -115,6 +117,19 @@ pub fn edits_apart_go_in_either_order(
     ensures made { IsMade (tree_with (tree_view tree.now) other two.now) by one.now }
     ensures same { tree_with (tree_with (tree_view tree.now) by one.now) other two.now
         ≡ tree_with (tree_with (tree_view tree.now) other two.now) by one.now }
+{}
+
+/// What can be held against an insertion is told before it is made, by what is brought: a level of it that begins an eId
+/// begins one already, or stands in it twice; a level of it that begins none is that of a sibling; the text would be too
+/// deep, or would have too many provisions.
+pub fn faults_of_insertions_are_told_before(tree: &Tree, parent: NodeId, by: Id, nodes: &Nodes)
+    requires fits { first_cause (tree_view tree.now) ≡ None }
+    requires node { has_node tree.now parent ≡ true }
+    requires payload { first_fault NONE_THROUGHOUT (branches_of nodes.now) ≡ None }
+    requires nums { have_nums (branches_of nodes.now) ≡ true }
+    ensures { (place : ℕ) → first_cause (with_body tree.now (grafted_at tree.now parent place
+        (brought by (branches_of nodes.now))))
+        ≡ option_map fault_cause (insertion_fault tree.now parent (branches_of nodes.now)) }
 {}
 
 /// `==` holds of edits, and of pairs, exactly where they are equal.

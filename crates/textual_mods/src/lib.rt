@@ -2,10 +2,12 @@
 #![tactic(auto)]
 
 mod applying;
+mod brought;
 mod copying;
 mod edit;
 mod fitting;
 mod held_back;
+mod inserting;
 mod joining;
 pub mod laws;
 mod occurrences;

@@ -12,6 +12,7 @@ ghost use Rattle.textual_mods.specs.Edits.{answer_to, settled};
 ghost use Rattle.textual_mods.specs.StructureEdits.{repealed, nodes_substituted, nodes_inserted, is_anchor, placed};
 
 use crate::held_back::{held_back, or_step};
+use crate::inserting::insert_at;
 use crate::settling::settle;
 use crate::targets::provision_named;
 use crate::{Outcome, Pos};
@@ -72,6 +73,7 @@ pub fn insert_nodes<L: Ledger>(
     new: &Nodes,
     steps: &mut Steps<L>,
 ) -> Result<Outcome, Memory>
+    requires fits { first_cause (tree_view tree.old) ≡ None }
     requires payload { first_fault NONE_THROUGHOUT (branches_of new.now) ≡ None }
     requires fresh { has_brought by (tree_view tree.old).body ≡ false }
     ensures outcome { IfOk result (λ o. o ≡ answer_to tree.old (nodes_inserted by wid.now pos (branches_of new.now))) }
@@ -83,9 +85,7 @@ pub fn insert_nodes<L: Ledger>(
     let Some((parent, place)) = place_for(tree, wid, pos) else {
         return Ok(held_back(Cause::AnchorMissing, steps));
     };
-    let before = or_step(tree.copy(alloc), steps)?;
-    tree.graft(alloc, parent, place, new, by, steps)?;
-    settle(alloc, tree, before)
+    insert_at(alloc, tree, by, parent, place, new, steps)
 }
 
 // Among whose children nodes stand that are inserted, and behind how many of them. `None`: the place is not there.

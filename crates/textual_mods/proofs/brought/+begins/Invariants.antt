@@ -1,0 +1,13 @@
+-- A level of the nodes left is taken exactly where one of all is, for none of those passed is.
+use Rattle.std.proofs.Common.{◌≡◌, drop}
+use Rattle.act_tree.specs.Branches.{branches_of}
+use Rattle.act_tree.specs.EidLevels.{levels_begun}
+use Rattle.act_tree.specs.Seen.{tree_view}
+use Rattle.act_tree.specs.Specs.{specs_view}
+use Rattle.textual_mods.specs.Insertions.{all_begun_among}
+use Rattle.textual_mods.proofs.brought.+begins.Given as goal
+
+abbrev pub invariant-begin_again-loop-node : goal.invariant-begin_again-loop-node
+invariant-begin_again-loop-node l =
+    all_begun_among (levels_begun (tree_view l.tree)) (tree_view l.tree).numbering l.top (branches_of (specs_view (drop l.node-index l.node-items)))
+    ≡ all_begun_among (levels_begun (tree_view l.tree)) (tree_view l.tree).numbering l.top (branches_of (specs_view l.node-items))

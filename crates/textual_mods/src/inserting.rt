@@ -1,0 +1,167 @@
+//! Inserting: whether nodes may stand among the children of a node, which is known before they are put there.
+
+ghost use Rattle.std.specs.Prelude.{◌≡◌, ◌+◌, ◌-◌, ◌≤◌, ◌^◌, min, length, map, nat_lt, true, false, None, Ok, IfOk, OnOk, OnErr, if◌then◌else◌};
+ghost use Rattle.std.specs.List.{All};
+ghost use Rattle.std.specs.Str.{bytes_eq};
+ghost use Rattle.act_tree.specs.Branches.{branches_of, heights};
+ghost use Rattle.act_tree.specs.Brought.{brought, has_brought};
+ghost use Rattle.act_tree.specs.Faults.{all_eids, all_owns, first_cause, first_fault};
+ghost use Rattle.act_tree.specs.Seen.{tree_view, has_node, provision_at, branch_at, below_at, children_at, grafted_at};
+ghost use Rattle.act_tree.specs.Wids.{one_twice};
+ghost use Rattle.act_tree.specs.declared.surveying.TheConstants.{NONE_THROUGHOUT};
+ghost use Rattle.textual_mods.specs.Edits.{answer_to, settled};
+ghost use Rattle.textual_mods.specs.Insertions as spec;
+ghost use Rattle.textual_mods.specs.Insertions.{goes_on_again, have_nums, heights_over, insertion_fault, is_root, number_taken};
+
+use crate::Outcome;
+use crate::brought::{begin_again, count_of_all, go_on_again, height_of_all, nums_are_kept};
+use crate::held_back::{held_back, or_step};
+use act_tree::{BuildFault, NodeId, Nodes, Tree, fault_of};
+use desk_base::{Id, Memory, Steps};
+use std::alloc::Global;
+use std::sync::ledger::Ledger;
+
+// The height of what is put beneath a node, if it has the wId, and else none.
+fn height_beneath(tree: &Tree, wid: &str, high: u32, id: NodeId) -> u32
+    requires { has_node tree.now id ≡ true }
+    ensures { result ≡ (if bytes_eq (provision_at tree.now id).wid wid.now then high else 0) }
+{
+    if tree.provision(id).wid.as_str() == wid {
+        high
+    } else {
+        0
+    }
+}
+
+// How high nodes are that have others of this height beneath each that has the wId. The number stands still at 2^32 - 1.
+fn height_over(tree: &Tree, wid: &str, high: u32, ids: &[NodeId]) -> u32
+    requires { All (λ id. has_node tree.now id ≡ true) ids.now }
+    ensures { result ≡ min (heights_over wid.now high (branches_of (map (branch_at tree.now) ids.now))) (2 ^ 32 - 1) }
+{
+    let mut tallest: u32 = 0;
+    for id in ids {
+        let own = height_beneath(tree, wid, high, *id);
+        let beneath = height_over(tree, wid, high, tree.children(*id));
+        tallest = tallest.max(own.max(beneath).saturating_add(1));
+    }
+    tallest
+}
+
+// Whether a tree is too deep with nodes among the children of a node.
+fn is_too_deep(tree: &Tree, parent: NodeId, new: &Nodes) -> bool
+    requires fits { first_cause (tree_view tree.now) ≡ None }
+    requires node { has_node tree.now parent ≡ true }
+    requires payload { first_fault NONE_THROUGHOUT (branches_of new.now) ≡ None }
+    requires nums { have_nums (branches_of new.now) ≡ true }
+    ensures { result ≡ nat_lt 12 (spec.height_with (provision_at tree.now parent).wid
+        (heights (branches_of new.now)) (tree_view tree.now).body) }
+{
+    if parent == tree.root() {
+        return false;
+    }
+    let wid = tree.provision(parent).wid;
+    let high = height_of_all(new);
+    height_over(tree, wid.as_str(), high, tree.children(tree.root())) > 12
+}
+
+// Whether two nodes would have one eId right below the root of the tree.
+fn has_eid_twice(alloc: Global, tree: &Tree, nodes: &Nodes) -> Result<bool, Memory>
+    ensures { IfOk result (λ twice. twice
+        ≡ one_twice (all_eids (tree_view tree.now).numbering None (branches_of nodes.now))) }
+{
+    match fault_of(alloc, tree.numbering(), nodes)? {
+        Some(BuildFault::EidTwice) => Ok(true),
+        _ => Ok(false),
+    }
+}
+
+// Whether one of some nodes, among the children of a node, has the level of a child and begins no eId, as that child.
+fn goes_on_taken(tree: &Tree, parent: NodeId, new: &Nodes) -> bool
+    requires { has_node tree.now parent ≡ true }
+    ensures { result ≡ goes_on_again (tree_view tree.now).numbering (is_root tree.now parent)
+        (branches_of new.now) (all_owns (below_at tree.now parent)) }
+{
+    if parent == tree.root() {
+        return false;
+    }
+    go_on_again(tree, parent, new)
+}
+
+// Whether a number of nodes is taken, among the children of a node.
+fn is_number_taken(alloc: Global, tree: &Tree, parent: NodeId, new: &Nodes) -> Result<bool, Memory>
+    requires fits { first_cause (tree_view tree.now) ≡ None }
+    requires node { has_node tree.now parent ≡ true }
+    requires payload { first_fault NONE_THROUGHOUT (branches_of new.now) ≡ None }
+    requires nums { have_nums (branches_of new.now) ≡ true }
+    ensures { IfOk result (λ taken. taken ≡ number_taken tree.now parent (branches_of new.now)) }
+{
+    let top = parent == tree.root();
+    if begin_again(tree, top, new) {
+        return Ok(true);
+    }
+    if goes_on_taken(tree, parent, new) {
+        return Ok(true);
+    }
+    let twice = has_eid_twice(alloc, tree, new)?;
+    Ok(twice)
+}
+
+/// The first fault of a tree with nodes among the children of a node, if it would have one. The nodes of the tree are
+/// searched for the levels that are brought; nothing of it is copied, and none of its eIds is spelled.
+pub fn fault_of_insertion(
+    alloc: Global,
+    tree: &Tree,
+    parent: NodeId,
+    new: &Nodes,
+) -> Result<Option<BuildFault>, Memory>
+    requires fits { first_cause (tree_view tree.now) ≡ None }
+    requires node { has_node tree.now parent ≡ true }
+    requires payload { first_fault NONE_THROUGHOUT (branches_of new.now) ≡ None }
+    requires nums { have_nums (branches_of new.now) ≡ true }
+    ensures { IfOk result (λ fault. fault ≡ insertion_fault tree.now parent (branches_of new.now)) }
+{
+    let taken = is_number_taken(alloc, tree, parent, new)?;
+    if taken {
+        return Ok(Some(BuildFault::EidTwice));
+    }
+    if is_too_deep(tree, parent, new) {
+        return Ok(Some(BuildFault::TooDeep));
+    }
+    if tree.count().saturating_add(count_of_all(new)) > 4096 {
+        return Ok(Some(BuildFault::TooManyNodes));
+    }
+    Ok(None)
+}
+
+/// Puts nodes among the children of a node, behind the first so many, unless the tree would not be well-formed with them.
+pub fn insert_at<L: Ledger>(
+    alloc: Global,
+    tree: &mut Tree,
+    by: Id,
+    parent: NodeId,
+    place: usize,
+    new: &Nodes,
+    steps: &mut Steps<L>,
+) -> Result<Outcome, Memory>
+    requires fits { first_cause (tree_view tree.old) ≡ None }
+    requires node { has_node tree.old parent ≡ true }
+    requires place { place ≤ length (children_at tree.old parent) }
+    requires payload { first_fault NONE_THROUGHOUT (branches_of new.now) ≡ None }
+    requires fresh { has_brought by (tree_view tree.old).body ≡ false }
+    ensures outcome { IfOk result (λ o. o
+        ≡ answer_to tree.old (λ _. Ok (grafted_at tree.old parent place (brought by (branches_of new.now))))) }
+    ensures tree { OnOk result (tree_view tree.new
+        ≡ settled tree.old (λ _. Ok (grafted_at tree.old parent place (brought by (branches_of new.now))))) }
+    ensures kept { OnErr result (tree_view tree.new ≡ tree_view tree.old) }
+    ensures step { steps.new ≡ steps.old + 1 }
+{
+    nums_are_kept(new);
+    let fault = or_step(fault_of_insertion(alloc, tree, parent, new), steps)?;
+    match fault {
+        Some(fault) => Ok(held_back(fault.cause(), steps)),
+        None => {
+            tree.graft(alloc, parent, place, new, by, steps)?;
+            Ok(Outcome::Done)
+        }
+    }
+}
