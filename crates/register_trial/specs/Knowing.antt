@@ -35,7 +35,8 @@ mods_text (m ∷ ms) = mod_text m ++ mods_text ms
 -- what is known of a work: the law entry that enacts it, the front, and its ids
 abbrev pub known_line : Option Known → List ℕ
 known_line None = codes "none"
-known_line (Some known) = codes "enacted " ++ decimal known.enacted ++ codes " front " ++ decimal known.front ++ mods_text known.mods
+known_line (Some known) =
+    codes "enacted " ++ decimal known.enacted ++ codes " front " ++ decimal known.front ++ mods_text known.mods
 
 -- an answer, or the rule that the question breaks
 abbrev pub answer_line : Result Answer QueryRule → List ℕ

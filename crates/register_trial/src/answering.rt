@@ -17,7 +17,8 @@ use viewpoints::Past;
 
 // The line of an answer, or of the rule that a question breaks.
 fn answer_line(alloc: Global, told: Result<Answer, AskFault>) -> Result<Vec<u8>, Memory>
-    ensures { (answer : Result Answer QueryRule) → Answers told answer → IfOk result (λ line. line.items ≡ spec.answer_line answer) }
+    ensures { (answer : Result Answer QueryRule) → Answers told answer
+        → IfOk result (λ line. line.items ≡ spec.answer_line answer) }
 {
     match told {
         Ok(answer) => put_answer(alloc, &answer),

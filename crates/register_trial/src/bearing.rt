@@ -69,7 +69,8 @@ pub fn told_of_days(
     work: &WorkName,
     viewpoint: u32,
 ) -> Result<Vec<u8>, Memory>
-    ensures { IfOk result (λ line. line.items ≡ spec.days_line (known.known_at register.now.entries work.now viewpoint)) }
+    ensures { IfOk result
+        (λ line. line.items ≡ spec.days_line (known.known_at register.now.entries work.now viewpoint)) }
 {
     let line = match known_at(alloc, register, work, viewpoint)? {
         Some(known) => days_line(alloc, FromEnacted.breakpoints(alloc, &known)?.as_slice())?,

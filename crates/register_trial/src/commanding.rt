@@ -16,7 +16,8 @@ fn settle(alloc: Global, register: &mut Register, day: Day, asked: Asked) -> Res
     requires { is_well_spelled asked.command ≡ true }
     ensures line { IfOk result (λ line. line.items ≡ spec.verdict_line (spec.verdict_on register.old.entries asked)) }
     ensures ok { OnOk result (register.new.entries ≡ spec.asked_entered register.old.entries day asked) }
-    ensures err { OnErr result (spec.IsEither register.old.entries (spec.asked_entered register.old.entries day asked) register.new.entries) }
+    ensures err { OnErr result
+        (spec.IsEither register.old.entries (spec.asked_entered register.old.entries day asked) register.new.entries) }
 {
     let before = register.len();
     let Asked {

@@ -41,7 +41,8 @@ pub fn told_of_known(
     work: &WorkName,
     viewpoint: u32,
 ) -> Result<Vec<u8>, Memory>
-    ensures { IfOk result (λ line. line.items ≡ spec.known_line (known.known_at register.now.entries work.now viewpoint)) }
+    ensures { IfOk result
+        (λ line. line.items ≡ spec.known_line (known.known_at register.now.entries work.now viewpoint)) }
 {
     let line = match known_at(alloc, register, work, viewpoint)? {
         Some(known) => known_line(alloc, &known)?,

@@ -99,9 +99,11 @@ pub fn told_of_line<L: Ledger>(
     line: &[u8],
     steps: &mut Steps<L>,
 ) -> Result<Vec<u8>, Memory>
-    ensures told { spec.is_command line.now ≡ true → IfOk result (λ told. told.items ≡ command_line register.old.entries (asked_of line.now)) }
+    ensures told { spec.is_command line.now ≡ true
+        → IfOk result (λ told. told.items ≡ command_line register.old.entries (asked_of line.now)) }
     ensures ok { OnOk result (register.new.entries ≡ spec.entries_behind register.old.entries day line.now) }
-    ensures err { OnErr result (IsEither register.old.entries (spec.entries_behind register.old.entries day line.now) register.new.entries) }
+    ensures err { OnErr result
+        (IsEither register.old.entries (spec.entries_behind register.old.entries day line.now) register.new.entries) }
 {
     if is_command(line) {
         return told_of_command(alloc, register, day, line);

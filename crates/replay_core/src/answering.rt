@@ -54,7 +54,8 @@ fn portion_of(
     eid: &str,
 ) -> Result<Option<AnswerNode>, Memory>
     ensures { IfOk result (λ found. option_map shown_view found
-        ≡ portion_among eid.now (spec.shown_tree on.now.known.now on.now.reading on.now.day flag (tree_view tree.now))) }
+        ≡ portion_among eid.now
+        (spec.shown_tree on.now.known.now on.now.reading on.now.day flag (tree_view tree.now))) }
 {
     find_portion(alloc, on, tree, flag, None, eid, top(tree))
 }
@@ -138,7 +139,8 @@ pub fn answer(
     version: Version,
     question: &Question,
 ) -> Result<Answer, AskFault>
-    requires { version_view version ≡ replay_on known.now question.now.reading (spec.asked_day question.now.version known.now.act) }
+    requires { version_view version
+        ≡ replay_on known.now question.now.reading (spec.asked_day question.now.version known.now.act) }
     ensures { Answers result (spec.answer_on known.now question.now) }
 {
     match question.first_rule(known)? {
@@ -154,7 +156,8 @@ fn flag_of_wid(
     tree: &Tree,
     wid: &str,
 ) -> Result<Option<bool>, Memory>
-    ensures { IfOk result (λ found. found ≡ flags.flag on.now.known.now on.now.reading on.now.day (tree_view tree.now).body wid.now) }
+    ensures { IfOk result
+        (λ found. found ≡ flags.flag on.now.known.now on.now.reading on.now.day (tree_view tree.now).body wid.now) }
 {
     let flag = on.root_flag(alloc)?;
     if wid == "body" {
@@ -166,7 +169,8 @@ fn flag_of_wid(
 // The flag of a node.
 fn flag_of_node(alloc: Global, on: &OnDay<'_>, tree: &Tree, node: NodeId) -> Result<bool, Memory>
     requires { has_node tree.now node ≡ true }
-    ensures { IfOk result (λ found. flags.flag on.now.known.now on.now.reading on.now.day (tree_view tree.now).body (provision_at tree.now node).wid ≡ Some found) }
+    ensures { IfOk result (λ found. flags.flag on.now.known.now on.now.reading on.now.day (tree_view tree.now).body
+        (provision_at tree.now node).wid ≡ Some found) }
 {
     let wid = tree.provision(node).wid;
     match flag_of_wid(alloc, on, tree, wid.as_str())? {
@@ -185,7 +189,8 @@ pub fn flag_at(
     node: NodeId,
 ) -> Result<bool, Memory>
     requires { has_node tree.now node ≡ true }
-    ensures { IfOk result (λ found. flags.flag known.now reading day (tree_view tree.now).body (provision_at tree.now node).wid ≡ Some found) }
+    ensures { IfOk result (λ found. flags.flag known.now reading day (tree_view tree.now).body
+        (provision_at tree.now node).wid ≡ Some found) }
 {
     let on = OnDay::new(alloc, known, reading, day)?;
     flag_of_node(alloc, &on, tree, node)

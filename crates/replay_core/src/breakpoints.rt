@@ -75,7 +75,8 @@ fn insert_body(days: &mut BTreeSet<Day>, body: &Modification) -> Result<(), Memo
 
 // Puts the days of a known modification in their places, if it stands.
 fn insert_known(days: &mut BTreeSet<Day>, known: &KnownMod) -> Result<(), Memory>
-    ensures { OnOk result (days.new.keys ≡ spec.insert_days (if known.now.live then spec.days_of known.now.body else []) days.old.keys) }
+    ensures { OnOk result
+        (days.new.keys ≡ spec.insert_days (if known.now.live then spec.days_of known.now.body else []) days.old.keys) }
 {
     if known.live {
         insert_body(days, &known.body)

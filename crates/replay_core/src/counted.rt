@@ -101,8 +101,10 @@ fn put(groups: &mut Groups, thing: &Destination, group: Group) -> Result<Option<
 fn take_out(alloc: Global, groups: &mut Groups, thing: &Destination) -> Result<Group, Memory>
     ensures forces { IfOk result (λ group. group.forces.items ≡ forces_at groups.old thing.now) }
     ensures efficacies { IfOk result (λ group. group.efficacies.items ≡ efficacies_at groups.old thing.now) }
-    ensures other_forces { OnOk result ((t : Destination) → forces_at groups.new t ≡ (if is_same thing.now t then [] else forces_at groups.old t)) }
-    ensures other_efficacies { OnOk result ((t : Destination) → efficacies_at groups.new t ≡ (if is_same thing.now t then [] else efficacies_at groups.old t)) }
+    ensures other_forces { OnOk result
+        ((t : Destination) → forces_at groups.new t ≡ (if is_same thing.now t then [] else forces_at groups.old t)) }
+    ensures other_efficacies { OnOk result ((t : Destination) → efficacies_at groups.new t
+        ≡ (if is_same thing.now t then [] else efficacies_at groups.old t)) }
 {
     let empty = Group::new(alloc);
     let own = put(groups, thing, empty)?;
@@ -145,7 +147,8 @@ fn count_efficacy(
     one: CountedEfficacy,
 ) -> Result<(), Memory>
     ensures efficacies { OnOk result ((t : Destination) → efficacies_at groups.new t
-        ≡ (if is_same thing.now t then take_turn efficacy_turn one (efficacies_at groups.old t) else efficacies_at groups.old t)) }
+        ≡ (if is_same thing.now t then take_turn efficacy_turn one (efficacies_at groups.old t)
+        else efficacies_at groups.old t)) }
     ensures forces { OnOk result ((t : Destination) → forces_at groups.new t ≡ forces_at groups.old t) }
 {
     let mut group = take_out(alloc, groups, thing)?;
@@ -214,9 +217,11 @@ fn count_body(
 // Counts a known modification, if it stands.
 fn count_known(alloc: Global, groups: &mut Groups, day: Day, known: &KnownMod) -> Result<(), Memory>
     ensures forces { OnOk result ((t : Destination) → forces_at groups.new t
-        ≡ take_turns force_turn (if known.now.live then force_from t day known.now.id known.now.body else []) (forces_at groups.old t)) }
+        ≡ take_turns force_turn (if known.now.live then force_from t day known.now.id known.now.body else [])
+        (forces_at groups.old t)) }
     ensures efficacies { OnOk result ((t : Destination) → efficacies_at groups.new t
-        ≡ take_turns efficacy_turn (if known.now.live then efficacy_from t day known.now.id known.now.body else []) (efficacies_at groups.old t)) }
+        ≡ take_turns efficacy_turn (if known.now.live then efficacy_from t day known.now.id known.now.body else [])
+        (efficacies_at groups.old t)) }
 {
     if known.live {
         count_body(alloc, groups, day, known.id, &known.body)

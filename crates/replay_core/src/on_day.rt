@@ -130,7 +130,8 @@ impl<'a> OnDay<'a> {
     // Whether a modification is counted that is directed at a provision: one of force, or in the reading of efficacy one of
     // either kind.
     fn is_marked(&self, thing: &Destination) -> bool
-        ensures { (wid : List ℕ) → thing.now ≡ to.Node wid → result ≡ flags.is_marked self.now.reading self.now.known.now.mods self.now.day wid }
+        ensures { (wid : List ℕ) → thing.now ≡ to.Node wid
+            → result ≡ flags.is_marked self.now.reading self.now.known.now.mods self.now.day wid }
     {
         match self.reading {
             Reading::Force => !self.forces(thing).is_empty(),
@@ -163,7 +164,8 @@ impl<'a> OnDay<'a> {
 
     /// The flag of a provision of this wId, below one of the flag `above`.
     pub fn flag_below(&self, above: bool, wid: &Text) -> Result<bool, Memory>
-        ensures { IfOk result (λ flag. flag ≡ flags.flag_below self.now.known.now self.now.reading self.now.day above wid.now) }
+        ensures { IfOk result
+            (λ flag. flag ≡ flags.flag_below self.now.known.now self.now.reading self.now.day above wid.now) }
     {
         let thing = Destination::Node(wid.copy()?);
         if self.is_marked(&thing) {

@@ -24,7 +24,8 @@ pub fn replay<L: Ledger>(
 ) -> Result<Version, Memory>
     requires sound { IsSound known.now }
     ensures version { IfOk result (λ version. version_view version ≡ replay_on known.now reading day) }
-    ensures changes { IfOk result (λ version. (tree_view version.tree).changes ≡ min (length version.applied) (2 ^ 64 - 1)) }
+    ensures changes { IfOk result
+        (λ version. (tree_view version.tree).changes ≡ min (length version.applied) (2 ^ 64 - 1)) }
     ensures steps { steps.new ≤ steps.old + length (order known.now reading day) }
 {
     let ids = order_at(alloc, known, reading, day)?;

@@ -25,7 +25,8 @@ fn show(
     children: AnswerNodes,
 ) -> Result<AnswerNode, Memory>
     requires { has_node tree.now id ≡ true }
-    ensures { IfOk result (λ n. shown_view n ≡ branch (shown_as bears eid (provision_at tree.now id)) (branches_of children)) }
+    ensures { IfOk result
+        (λ n. shown_view n ≡ branch (shown_as bears eid (provision_at tree.now id)) (branches_of children)) }
 {
     let provision = tree.provision(id);
     Ok(AnswerNode {
@@ -44,7 +45,8 @@ fn show(
 // The eId of a provision below the one of the eId `above`, or right below the root where that is `None`.
 fn eid_of(alloc: Global, tree: &Tree, above: Option<&str>, id: NodeId) -> Result<Text, Memory>
     requires { has_node tree.now id ≡ true }
-    ensures { IfOk result (λ eid. eid ≡ spec.eid_below (tree_view tree.now).numbering (option_map (λ s. s.now) above.entry)
+    ensures { IfOk result
+        (λ eid. eid ≡ spec.eid_below (tree_view tree.now).numbering (option_map (λ s. s.now) above.entry)
         (provision_at tree.now id).own.element (provision_at tree.now id).own.num) }
 {
     let provision = tree.provision(id);
@@ -60,7 +62,8 @@ fn eid_of(alloc: Global, tree: &Tree, above: Option<&str>, id: NodeId) -> Result
 // The flag of a provision below one of the flag `above`.
 fn flag_of(on: &OnDay<'_>, tree: &Tree, above: bool, id: NodeId) -> Result<bool, Memory>
     requires { has_node tree.now id ≡ true }
-    ensures { IfOk result (λ flag. flag ≡ flag_below on.now.known.now on.now.reading on.now.day above (provision_at tree.now id).wid) }
+    ensures { IfOk result
+        (λ flag. flag ≡ flag_below on.now.known.now on.now.reading on.now.day above (provision_at tree.now id).wid) }
 {
     on.flag_below(above, tree.provision(id).wid)
 }
@@ -77,7 +80,8 @@ pub fn show_all(
 ) -> Result<AnswerNodes, Memory>
     requires { All (λ id. has_node tree.now id ≡ true) ids.now }
     ensures { IfOk result (λ shown. branches_of shown
-        ≡ all_shown on.now.known.now on.now.reading on.now.day (tree_view tree.now).numbering flag (option_map (λ s. s.now) above.entry)
+        ≡ all_shown on.now.known.now on.now.reading on.now.day (tree_view tree.now).numbering flag
+        (option_map (λ s. s.now) above.entry)
         (branches_of (map (branch_at tree.now) ids.now))) }
 {
     let mut shown = AnswerNodes::new(alloc);
@@ -104,7 +108,8 @@ pub fn find_portion(
 ) -> Result<Option<AnswerNode>, Memory>
     requires { All (λ id. has_node tree.now id ≡ true) ids.now }
     ensures { IfOk result (λ found. option_map shown_view found
-        ≡ portion_among eid.now (all_shown on.now.known.now on.now.reading on.now.day (tree_view tree.now).numbering flag (option_map (λ s. s.now) above.entry)
+        ≡ portion_among eid.now (all_shown on.now.known.now on.now.reading on.now.day
+        (tree_view tree.now).numbering flag (option_map (λ s. s.now) above.entry)
         (branches_of (map (branch_at tree.now) ids.now)))) }
 {
     for id in ids {
@@ -134,7 +139,8 @@ pub fn find_flag(
 ) -> Result<Option<bool>, Memory>
     requires { All (λ id. has_node tree.now id ≡ true) ids.now }
     ensures { IfOk result (λ found. found
-        ≡ flag_among on.now.known.now on.now.reading on.now.day flag wid.now (branches_of (map (branch_at tree.now) ids.now))) }
+        ≡ flag_among on.now.known.now on.now.reading on.now.day flag wid.now
+        (branches_of (map (branch_at tree.now) ids.now))) }
 {
     for id in ids {
         let bears = flag_of(on, tree, flag, *id)?;

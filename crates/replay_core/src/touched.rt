@@ -148,7 +148,8 @@ fn day_corrected(
     id: Id,
     body: &Modification,
 ) -> Result<Option<Day>, Memory>
-    ensures { IfOk result (λ day. day ≡ spec.day_corrected register.now.entries id body.now (facts_of id (laws register.now.entries))) }
+    ensures { IfOk result
+        (λ day. day ≡ spec.day_corrected register.now.entries id body.now (facts_of id (laws register.now.entries))) }
 {
     match register.work_of(id) {
         Some(work) => day_in_work(alloc, register, work, id, body),
@@ -157,7 +158,8 @@ fn day_corrected(
 }
 
 fn day_known(alloc: Global, register: &Register, id: Id) -> Result<Option<Day>, Memory>
-    ensures { IfOk result (λ day. day ≡ spec.day_known register.now.entries id (facts_of id (laws register.now.entries))) }
+    ensures { IfOk result
+        (λ day. day ≡ spec.day_known register.now.entries id (facts_of id (laws register.now.entries))) }
 {
     match register.body_of(id) {
         Some(body) => day_corrected(alloc, register, id, body),
@@ -171,7 +173,8 @@ fn day_of_filing(
     drafter: &Drafter,
     work: &WorkName,
 ) -> Result<Option<Day>, Memory>
-    ensures { IfOk result (λ day. day ≡ spec.day_recorded (map (λ i. i.body) (items_of work.now (draft_of drafter.now register.now.entries)))) }
+    ensures { IfOk result
+        (λ day. day ≡ spec.day_recorded (map (λ i. i.body) (items_of work.now (draft_of drafter.now register.now.entries)))) }
 {
     let draft = register.draft(alloc, drafter)?;
     Ok(day_filed(draft.as_slice(), work))

@@ -16,7 +16,8 @@ unless_refused None cost = cost
 -- how many modifications of a work bear on the day that a question asks for; none are looked for where the question breaks a rule
 -- that can be judged without a text
 abbrev pub bearing_by : Question → Known → ℕ
-bearing_by q known = unless_refused (first_rule known q) (length (order known q.reading (asked_day q.version known.act)))
+bearing_by q known =
+    unless_refused (first_rule known q) (length (order known q.reading (asked_day q.version known.act)))
 
 -- the same, where the work is known
 abbrev pub bearing_for : Question → Option Known → ℕ

@@ -46,10 +46,7 @@ impl Reading {
 fn is_too_early(version: Option<Day>, act: &Act) -> bool
     ensures { result ≡ answers.is_too_early version act.now }
 {
-    match version {
-        Some(day) => day < act.day,
-        None => false,
-    }
+    version.is_some_and(|day| day < act.day)
 }
 
 /// What is asked: an expression of a work, as known at a viewpoint, in a reading.
@@ -94,10 +91,7 @@ impl Question {
     pub fn asked_day(&self, act: &Act) -> Day
         ensures { result ≡ answers.asked_day self.now.version act.now }
     {
-        match self.version {
-            Some(day) => day,
-            None => act.day,
-        }
+        self.version.unwrap_or(act.day)
     }
 
     /// The first rule that it breaks before any text is looked at, by what is known of its work: any but that of the portion.

@@ -51,30 +51,21 @@ pub fn act_of(command: &Command) -> Option<&Act>
 pub fn work_at(entries: &[Entry], index: usize) -> Option<&WorkName>
     ensures { option_map (λ w. w.now) result ≡ told_at entries.now index work_named }
 {
-    match entries.get(index) {
-        Some(entry) => work_named(&entry.command),
-        None => None,
-    }
+    work_named(&entries.get(index)?.command)
 }
 
 /// The modification that the command of the entry at an index brings.
 pub fn body_at(entries: &[Entry], index: usize, place: usize) -> Option<&Modification>
     ensures { option_map (λ m. m.now) result ≡ told_at entries.now index (body_of place) }
 {
-    match entries.get(index) {
-        Some(entry) => body_of(&entry.command, place),
-        None => None,
-    }
+    body_of(&entries.get(index)?.command, place)
 }
 
 /// The act that the command of the entry at an index enacts.
 pub fn act_at(entries: &[Entry], index: usize) -> Option<&Act>
     ensures { option_map (λ a. a.now) result ≡ told_at entries.now index act_of }
 {
-    match entries.get(index) {
-        Some(entry) => act_of(&entry.command),
-        None => None,
-    }
+    act_of(&entries.get(index)?.command)
 }
 
 fn add_work(entries: &[Entry], at: usize, works: &mut Vec<WorkName>) -> Result<(), Memory>
@@ -101,10 +92,7 @@ pub fn works_at(alloc: Global, entries: &[Entry], ats: &[usize]) -> Result<Vec<W
 pub fn is_item_of(entries: &[Entry], mark: ItemMark, work: &WorkName) -> bool
     ensures { result ≡ marks_work entries.now work.now mark }
 {
-    match work_at(entries, mark.entry) {
-        Some(own) => own == work,
-        None => false,
-    }
+    work_at(entries, mark.entry).is_some_and(|own| own == work)
 }
 
 /// The items of a draft that modify a work, in order.

@@ -29,20 +29,17 @@ fn again(entry: &Entry, reply: Reply, command: &Command) -> Verdict
     if entry.command == *command {
         return Verdict::Repeat(reply);
     }
-    match reply {
-        Reply::Law(number) => Verdict::Refused(Rule::NumberReused(number)),
-        Reply::Draft(number) => Verdict::Refused(Rule::NumberReused(number)),
-    }
+    let (Reply::Law(number) | Reply::Draft(number)) = reply;
+    Verdict::Refused(Rule::NumberReused(number))
 }
 
 fn is_law(command: &Command) -> bool
     ensures { (es : List Entry) → is_some (verdicts.law_number es command.now) ≡ result }
 {
-    match command {
-        Command::DraftAdd { .. } => false,
-        Command::DraftDrop { .. } => false,
-        _ => true,
-    }
+    !matches!(
+        command,
+        Command::DraftAdd { .. } | Command::DraftDrop { .. }
+    )
 }
 
 impl Register {
@@ -172,11 +169,8 @@ impl Register {
     fn drafters_full(&self, drafter: &Drafter) -> Option<Rule>
         ensures { result ≡ verdicts.drafters_full self.now.entries drafter.now }
     {
-        if !self.has_drafter(drafter) && self.drafter_count() >= usize::from(MOST_DRAFTERS) {
-            Some(Rule::DraftersFull(MOST_DRAFTERS))
-        } else {
-            None
-        }
+        let full = self.drafter_count() >= usize::from(MOST_DRAFTERS);
+        (!self.has_drafter(drafter) && full).then_some(Rule::DraftersFull(MOST_DRAFTERS))
     }
 
     fn unknown_in(&self, work: &WorkName) -> Result<Option<Rule>, Memory>
@@ -203,10 +197,7 @@ impl Register {
         ensures { result ≡ verdicts.work_exists (laws self.now.entries) command.now }
     {
         match command {
-            Command::Enact { act } => match self.enacted(&act.work) {
-                Some(number) => Some(Rule::WorkExists(number)),
-                None => None,
-            },
+            Command::Enact { act } => self.enacted(&act.work).map(Rule::WorkExists),
             _ => None,
         }
     }
@@ -214,22 +205,17 @@ impl Register {
     fn unknown_id(&self, id: Id) -> Option<Rule>
         ensures { result ≡ verdicts.unknown_id (laws self.now.entries) id }
     {
-        match self.work_of(id) {
-            Some(_) => None,
-            None => Some(Rule::UnknownModification {
-                law: id.law,
-                item: u32::from(id.item),
-            }),
-        }
+        let Id { law, item } = id;
+        let item = u32::from(item);
+        self.work_of(id)
+            .is_none()
+            .then_some(Rule::UnknownModification { law, item })
     }
 
     fn is_of(&self, work: &WorkName, id: Id) -> bool
         ensures { result ≡ is_of work.now (facts_of id (laws self.now.entries)) }
     {
-        match self.work_of(id) {
-            Some(own) => own == work,
-            None => false,
-        }
+        self.work_of(id).is_some_and(|own| own == work)
     }
 
     fn unknown_thing(&self, work: &WorkName, thing: &Destination) -> Option<Rule>
@@ -237,14 +223,8 @@ impl Register {
     {
         match thing {
             Destination::Modification(id) => {
-                if self.is_of(work, *id) {
-                    None
-                } else {
-                    Some(Rule::UnknownModification {
-                        law: id.law,
-                        item: u32::from(id.item),
-                    })
-                }
+                let (law, item) = (id.law, u32::from(id.item));
+                (!self.is_of(work, *id)).then_some(Rule::UnknownModification { law, item })
             }
             Destination::Node(_) => None,
         }
@@ -275,30 +255,21 @@ impl Register {
     fn unknown_for(&self, id: Id, body: &Modification) -> Option<Rule>
         ensures { result ≡ verdicts.unknown_for (laws self.now.entries) (facts_of id (laws self.now.entries)) body.now }
     {
-        match self.work_of(id) {
-            Some(work) => self.unknown_destination(work, body),
-            None => None,
-        }
+        self.unknown_destination(self.work_of(id)?, body)
     }
 
     fn unknown_correction(&self, id: Id, body: &Modification) -> Option<Rule>
         ensures { result ≡ option_or (verdicts.unknown_id (laws self.now.entries) id)
             (verdicts.unknown_for (laws self.now.entries) (facts_of id (laws self.now.entries)) body.now) }
     {
-        match self.unknown_id(id) {
-            Some(rule) => Some(rule),
-            None => self.unknown_for(id, body),
-        }
+        self.unknown_id(id).or(self.unknown_for(id, body))
     }
 
     fn unknown_draft_item(&self, drafter: &Drafter, item: u32) -> Option<Rule>
         ensures { result ≡ verdicts.unknown_item item (draft_of drafter.now self.now.entries) }
     {
-        if self.has_item(drafter, item) {
-            None
-        } else {
-            Some(Rule::UnknownModification { law: 0, item })
-        }
+        let rule = Rule::UnknownModification { law: 0, item };
+        (!self.has_item(drafter, item)).then_some(rule)
     }
 
     fn unknown_modification(&self, drafter: &Drafter, command: &Command) -> Option<Rule>
@@ -343,10 +314,7 @@ impl Register {
     fn is_kind(&self, kind: Kind, id: Id) -> bool
         ensures { result ≡ verdicts.is_kind kind (facts_of id (laws self.now.entries)) }
     {
-        match self.kind_of(id) {
-            Some(own) => own == kind,
-            None => true,
-        }
+        self.kind_of(id).map_or(true, |own| own == kind)
     }
 
     fn wrong_thing(&self, thing: &Destination) -> Option<Rule>
@@ -354,11 +322,7 @@ impl Register {
     {
         match thing {
             Destination::Modification(id) => {
-                if self.is_kind(Kind::Textual, *id) {
-                    None
-                } else {
-                    Some(Rule::WrongKind(*id))
-                }
+                (!self.is_kind(Kind::Textual, *id)).then_some(Rule::WrongKind(*id))
             }
             Destination::Node(_) => None,
         }
@@ -412,11 +376,7 @@ impl Register {
         match command {
             Command::File { work, seen } => {
                 let last = self.last_on(work);
-                if *seen < last {
-                    Some(Rule::Stale(last))
-                } else {
-                    None
-                }
+                (*seen < last).then_some(Rule::Stale(last))
             }
             _ => None,
         }
@@ -443,11 +403,8 @@ impl Register {
     {
         match command {
             Command::DraftAdd { .. } => {
-                if self.draft_len(drafter) >= usize::from(MOST_DRAFT_ITEMS) {
-                    Some(Rule::DraftFull(MOST_DRAFT_ITEMS))
-                } else {
-                    None
-                }
+                let full = self.draft_len(drafter) >= usize::from(MOST_DRAFT_ITEMS);
+                full.then_some(Rule::DraftFull(MOST_DRAFT_ITEMS))
             }
             _ => None,
         }
@@ -457,11 +414,8 @@ impl Register {
         ensures { result ≡ verdicts.full_with (laws self.now.entries) work.now more }
     {
         let count = u64::from(self.id_count(work));
-        if more > usize::from(MOST_IDS) || count + more as u64 > u64::from(MOST_IDS) {
-            Some(Rule::WorkFull(MOST_IDS))
-        } else {
-            None
-        }
+        let full = more > usize::from(MOST_IDS) || count + more as u64 > u64::from(MOST_IDS);
+        full.then_some(Rule::WorkFull(MOST_IDS))
     }
 
     fn work_full(&self, drafter: &Drafter, command: &Command) -> Option<Rule>
@@ -478,21 +432,14 @@ impl Register {
     fn law_full(&self, command: &Command) -> Option<Rule>
         ensures { result ≡ verdicts.law_full self.now.entries command.now }
     {
-        if is_law(command) && self.front() >= MOST_LAWS {
-            Some(Rule::LawFull(MOST_LAWS))
-        } else {
-            None
-        }
+        (is_law(command) && self.front() >= MOST_LAWS).then_some(Rule::LawFull(MOST_LAWS))
     }
 
     fn register_full(&self, drafter: &Drafter, command: &Command) -> Option<Rule>
         ensures { result ≡ verdicts.register_full self.now.entries drafter.now command.now }
     {
         let size = size_of(drafter, command);
-        if size > MOST_ENTRY_BYTES || self.size() + size > u64::from(MOST_REGISTER_BYTES) {
-            Some(Rule::RegisterFull(MOST_REGISTER_BYTES))
-        } else {
-            None
-        }
+        let full = size > MOST_ENTRY_BYTES || self.size() + size > u64::from(MOST_REGISTER_BYTES);
+        full.then_some(Rule::RegisterFull(MOST_REGISTER_BYTES))
     }
 }

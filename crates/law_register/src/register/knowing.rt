@@ -181,11 +181,7 @@ fn enacted_within(indexes: &Indexes, work: &WorkName, viewpoint: u32) -> Option<
     ensures { result ≡ enacted_within viewpoint (enacted_in (work_mark indexes.now work.now)) }
 {
     let mark = indexes.work(work)?.enacted?;
-    if mark.number <= viewpoint {
-        Some(mark)
-    } else {
-        None
-    }
+    (mark.number <= viewpoint).then_some(mark)
 }
 
 /// What is known of a work at a viewpoint, which can be replayed. `None`: none of the law entries that the viewpoint knows enacts it.

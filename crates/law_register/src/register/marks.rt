@@ -188,10 +188,9 @@ fn correct(ids: &mut KnownIds, id: Id, at: usize)
 {
     if let Some(mark) = ids.get(&id).copied() {
         let corrected = IdMark {
-            recorded: mark.recorded,
             entry: at,
             place: 0,
-            standing: mark.standing,
+            ..mark
         };
         put_id(ids, id, corrected);
     }
@@ -203,13 +202,7 @@ fn set_standing(ids: &mut KnownIds, id: Id, standing: Standing)
         ≡ (if is_same_id id i then option_map (spec.with_standing standing) (id_in ids.old i) else id_in ids.old i) }
 {
     if let Some(mark) = ids.get(&id).copied() {
-        let changed = IdMark {
-            recorded: mark.recorded,
-            entry: mark.entry,
-            place: mark.place,
-            standing,
-        };
-        put_id(ids, id, changed);
+        put_id(ids, id, IdMark { standing, ..mark });
     }
 }
 
@@ -328,10 +321,7 @@ fn bodies_of(entries: &[Entry], at: usize, draft: &[ItemMark], command: &Command
 fn work_of_id<'a>(ids: &KnownIds, entries: &'a [Entry], id: Id) -> Option<&'a WorkName>
     ensures { option_map (λ w. w.now) result ≡ spec.work_of_mark entries.now (id_in ids.now id) }
 {
-    match ids.get(&id) {
-        Some(mark) => contents::work_at(entries, mark.recorded),
-        None => None,
-    }
+    contents::work_at(entries, ids.get(&id)?.recorded)
 }
 
 fn concerned<'a>(ids: &KnownIds, entries: &'a [Entry], command: &'a Command) -> Option<&'a WorkName>
@@ -374,10 +364,7 @@ fn note_concerned(
 pub fn last_on(works: &Works, work: &WorkName) -> u32
     ensures { result ≡ spec.last_in (work_in works.now work.now) }
 {
-    match works.get(&work_key(work)) {
-        Some(mark) => mark.last,
-        None => 0,
-    }
+    works.get(&work_key(work)).map_or(0, |mark| mark.last)
 }
 
 fn last_before(works: &Works, work: Option<&WorkName>) -> u32

@@ -180,10 +180,7 @@ impl Register {
     pub fn enacted(&self, work: &WorkName) -> Option<u32>
         ensures { result ≡ option_map (λ found. found.0) (enacted work.now (laws self.now.entries)) }
     {
-        match self.indexes.work(work)?.enacted {
-            Some(mark) => Some(mark.number),
-            None => None,
-        }
+        Some(self.indexes.work(work)?.enacted?.number)
     }
 
     /// The works that law entries enact, in the order of the bytes of their IRIs.
@@ -199,19 +196,13 @@ impl Register {
     pub(crate) fn last_on(&self, work: &WorkName) -> u32
         ensures { result ≡ verdicts.last_on work.now (laws self.now.entries) }
     {
-        match self.indexes.work(work) {
-            Some(mark) => mark.last,
-            None => 0,
-        }
+        self.indexes.work(work).map_or(0, |mark| mark.last)
     }
 
     pub(crate) fn id_count(&self, work: &WorkName) -> u32
         ensures { result ≡ length (ids_of work.now (laws self.now.entries)) }
     {
-        match self.indexes.work(work) {
-            Some(mark) => mark.ids,
-            None => 0,
-        }
+        self.indexes.work(work).map_or(0, |mark| mark.ids)
     }
 
     /// The work that an id modifies. `None`: it is not recorded.
@@ -219,10 +210,7 @@ impl Register {
         ensures { option_map (λ work. work.now) result
             ≡ option_map (λ f. f.work) (facts_of id (laws self.now.entries)) }
     {
-        match self.indexes.id(id) {
-            Some(mark) => contents::work_at(&self.entries, mark.recorded),
-            None => None,
-        }
+        contents::work_at(&self.entries, self.indexes.id(id)?.recorded)
     }
 
     /// What an id says, as it was last recorded or corrected. `None`: it is not recorded.
@@ -230,46 +218,33 @@ impl Register {
         ensures { option_map (λ body. body.now) result
             ≡ option_map (λ f. f.body) (facts_of id (laws self.now.entries)) }
     {
-        match self.indexes.id(id) {
-            Some(mark) => contents::body_at(&self.entries, mark.entry, mark.place),
-            None => None,
-        }
+        let mark = self.indexes.id(id)?;
+        contents::body_at(&self.entries, mark.entry, mark.place)
     }
 
     pub(crate) fn kind_of(&self, id: Id) -> Option<Kind>
         ensures { result ≡ option_map (λ f. kind_of f.body) (facts_of id (laws self.now.entries)) }
     {
-        match self.body_of(id) {
-            Some(body) => Some(body.kind()),
-            None => None,
-        }
+        Some(self.body_of(id)?.kind())
     }
 
     pub(crate) fn standing(&self, id: Id) -> Option<Standing>
         ensures { result ≡ option_map (λ f. f.standing) (facts_of id (laws self.now.entries)) }
     {
-        match self.indexes.id(id) {
-            Some(mark) => Some(mark.standing),
-            None => None,
-        }
+        Some(self.indexes.id(id)?.standing)
     }
 
     pub(crate) fn request(&self, drafter: &Drafter, request: u64) -> Option<&Entry>
         ensures { option_map (λ e. e.now) result
             ≡ option_map (λ found. found.0) (verdicts.request_of self.now.entries drafter.now request) }
     {
-        match self.indexes.request(drafter, request) {
-            Some(mark) => self.entries.get(mark.entry),
-            None => None,
-        }
+        let mark = self.indexes.request(drafter, request)?;
+        self.entries.get(mark.entry)
     }
 
     pub(crate) fn reply(&self, drafter: &Drafter, request: u64) -> Option<Reply>
         ensures { result ≡ option_map (λ found. found.1) (verdicts.request_of self.now.entries drafter.now request) }
     {
-        match self.indexes.request(drafter, request) {
-            Some(mark) => Some(mark.reply),
-            None => None,
-        }
+        Some(self.indexes.request(drafter, request)?.reply)
     }
 }
