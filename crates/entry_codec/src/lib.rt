@@ -1,0 +1,11 @@
+//! The bytes in which an entry is kept: one spelling for each, and for other bytes the first fault.
+#![tactic(auto)]
+
+mod fault;
+pub mod laws;
+mod reading;
+mod writing;
+
+pub use fault::{CodecFault, DecodeFail};
+pub use reading::decode;
+pub use writing::encode;
