@@ -22,14 +22,15 @@ one_less : (count i : ℕ) → i < count → count - i ≡ suc (count - (i + 1))
 one_less count i lt = omega arith
 
 pub goes_on : {V : Type 0} (read : List ℕ → Read V) (front : List V) (count i : ℕ) (bytes : List ℕ) (v : V) (after : List ℕ)
-    (total : Read (List V)) → i < count → read bytes ≡ Ok (v, after)
+    (now : List V) (total : Read (List V)) → i < count → read bytes ≡ Ok (v, after) → now ≡ front ++ v ∷ []
     → with_front front (each_read read (count - i) bytes) ≡ total
-    → with_front (front ++ v ∷ []) (each_read read (count - (i + 1)) after) ≡ total
-goes_on read front count i bytes v after total lt first so_far =
-    sym (
-      ap (λ k. with_front front (each_read read k bytes)) (one_less count i lt)
-      ∙ ap (λ r. with_front front (then_more read (count - (i + 1)) r)) first
-      ∙ regroup front v (each_read read (count - (i + 1)) after)
+    → with_front now (each_read read (count - (i + 1)) after) ≡ total
+goes_on read front count i bytes v after now total lt first longer so_far =
+    ap (λ vs. with_front vs (each_read read (count - (i + 1)) after)) longer
+    ∙ sym (
+    ap (λ k. with_front front (each_read read k bytes)) (one_less count i lt)
+    ∙ ap (λ r. with_front front (then_more read (count - (i + 1)) r)) first
+    ∙ regroup front v (each_read read (count - (i + 1)) after)
     )
     ∙ so_far
 

@@ -1,5 +1,5 @@
 -- The fields of acts and of commands.
-use Rattle.std.specs.Prelude.{ℕ, Bool, true, ◌&&◌, List, [], ◌∷◌, Option, Some, None}
+use Rattle.std.specs.Prelude.{ℕ, List, [], ◌∷◌, Option, Some, None}
 use Rattle.desk_base.specs.declared.id.Id.{Id}
 use Rattle.desk_base.specs.declared.period.Period.{Period}
 use Rattle.eid_paths.specs.declared.numbering.Numbering.{Numbering}
@@ -105,6 +105,6 @@ unfoldable pub command : Field Command
 command =
     one_of command_kind
     (
-      (1, enact) ∷ (2, recorded) ∷ (3, correct) ∷ (4, withdraw) ∷ (5, restore) ∷ (6, draft_add) ∷ (7, draft_drop)
-      ∷ (8, file) ∷ []
+    (1, enact) ∷ (2, recorded) ∷ (3, correct) ∷ (4, withdraw) ∷ (5, restore) ∷ (6, draft_add) ∷ (7, draft_drop)
+    ∷ (8, file) ∷ []
     )

@@ -1,5 +1,5 @@
 -- The fields of edits, of effects and of modifications.
-use Rattle.std.specs.Prelude.{ℕ, ◌==◌, Bool, true, List, [], ◌∷◌, Option, Some, None}
+use Rattle.std.specs.Prelude.{ℕ, List, [], ◌∷◌, Option, Some, None}
 use Rattle.desk_base.specs.declared.period.Period.{Period}
 use Rattle.act_tree.specs.Branches.{Branch}
 use Rattle.act_tree.specs.Provisions.{Own}
@@ -78,11 +78,11 @@ unfoldable pub text_pos : Field TextPos
 text_pos =
     one_of text_pos_kind
     (
-      (0, made (λ s. stands.Before s) before_parts spot)
-      ∷ (1, made (λ s. stands.After s) after_parts spot)
-      ∷ (2, made (λ _. stands.Start) start_parts nothing)
-      ∷ (3, made (λ _. stands.End) end_parts nothing)
-      ∷ []
+    (0, made (λ s. stands.Before s) before_parts spot)
+    ∷ (1, made (λ s. stands.After s) after_parts spot)
+    ∷ (2, made (λ _. stands.Start) start_parts nothing)
+    ∷ (3, made (λ _. stands.End) end_parts nothing)
+    ∷ []
     )
 
 -- where a provision is split: at an occurrence of a text, or at a child
@@ -195,8 +195,8 @@ unfoldable pub edit : Field TextualMod
 edit =
     one_of edit_kind
     (
-      (1, repeal) ∷ (2, substitute_nodes) ∷ (3, substitute_text) ∷ (4, insert_nodes) ∷ (5, insert_text)
-      ∷ (6, renumber) ∷ (7, split) ∷ (8, join) ∷ []
+    (1, repeal) ∷ (2, substitute_nodes) ∷ (3, substitute_text) ∷ (4, insert_nodes) ∷ (5, insert_text)
+    ∷ (6, renumber) ∷ (7, split) ∷ (8, join) ∷ []
     )
 
 -- an effect on force, with the day from which it is counted
@@ -235,12 +235,12 @@ unfoldable pub force_effect : Field (ℕ × ForceEffect)
 force_effect =
     one_of (λ p. force_kind p.1)
     (
-      (1, made (λ d. (d.0, force.Entry d.1)) (λ p. entry_force p.0 p.1) dates)
-      ∷ (2, made (λ d. (d.0, force.Postponed d.1)) (λ p. postponed_force p.0 p.1) dates)
-      ∷ (3, made (λ d. (d.0, force.Ended d.1)) (λ p. ended_force p.0 p.1) dates)
-      ∷ (4, made (λ d. (d.0, force.Prorogued d.1)) (λ p. prorogued_force p.0 p.1) dates)
-      ∷ (5, made (λ d. (d.0, force.ReEnacted d.1)) (λ p. re_enacted_force p.0 p.1) dates)
-      ∷ []
+    (1, made (λ d. (d.0, force.Entry d.1)) (λ p. entry_force p.0 p.1) dates)
+    ∷ (2, made (λ d. (d.0, force.Postponed d.1)) (λ p. postponed_force p.0 p.1) dates)
+    ∷ (3, made (λ d. (d.0, force.Ended d.1)) (λ p. ended_force p.0 p.1) dates)
+    ∷ (4, made (λ d. (d.0, force.Prorogued d.1)) (λ p. prorogued_force p.0 p.1) dates)
+    ∷ (5, made (λ d. (d.0, force.ReEnacted d.1)) (λ p. re_enacted_force p.0 p.1) dates)
+    ∷ []
     )
 
 -- an effect on efficacy, with the day from which it is counted; a retroactivity is counted from its date
@@ -291,14 +291,14 @@ unfoldable pub efficacy_effect : Field (ℕ × EfficacyEffect)
 efficacy_effect =
     one_of (λ p. efficacy_kind p.1)
     (
-      (1, made (λ d. (d.0, efficacy.Entry d.1)) (λ p. entry_efficacy p.0 p.1) dates)
-      ∷ (2, made (λ d. (d.0, efficacy.Ended d.1)) (λ p. ended_efficacy p.0 p.1) dates)
-      ∷ (3, made_where (λ p. is_spelled_effect p.0 p.1) (λ d. (d, efficacy.Retroactive d)) (λ p. retroactive_date p.1) one_day)
-      ∷ (4, made (λ d. (d.0, efficacy.Postponed d.1)) (λ p. postponed_efficacy p.0 p.1) dates)
-      ∷ (5, made (λ d. (d.0, efficacy.Prorogued d.1)) (λ p. prorogued_efficacy p.0 p.1) dates)
-      ∷ (6, made (λ d. (d, efficacy.Extra)) (λ p. extra_on p.0 p.1) one_day)
-      ∷ (7, made (λ d. (d.0, efficacy.Inapplied d.1)) (λ p. inapplied_days p.0 p.1) inapplied)
-      ∷ []
+    (1, made (λ d. (d.0, efficacy.Entry d.1)) (λ p. entry_efficacy p.0 p.1) dates)
+    ∷ (2, made (λ d. (d.0, efficacy.Ended d.1)) (λ p. ended_efficacy p.0 p.1) dates)
+    ∷ (3, made_where (λ p. is_spelled_effect p.0 p.1) (λ d. (d, efficacy.Retroactive d)) (λ p. retroactive_date p.1) one_day)
+    ∷ (4, made (λ d. (d.0, efficacy.Postponed d.1)) (λ p. postponed_efficacy p.0 p.1) dates)
+    ∷ (5, made (λ d. (d.0, efficacy.Prorogued d.1)) (λ p. prorogued_efficacy p.0 p.1) dates)
+    ∷ (6, made (λ d. (d, efficacy.Extra)) (λ p. extra_on p.0 p.1) one_day)
+    ∷ (7, made (λ d. (d.0, efficacy.Inapplied d.1)) (λ p. inapplied_days p.0 p.1) inapplied)
+    ∷ []
     )
 
 -- a modification

@@ -1,5 +1,5 @@
 -- The fields of the values that stand in entries.
-use Rattle.std.specs.Prelude.{ℕ, ◌==◌, ◌/◌, ◌%◌, ◌+◌, nat_le, nat_lt, Bool, true, false, ◌&&◌, ◌||◌, List, [], ◌∷◌, length, map, Option, Some, None, unwrap_or, is_ok, if◌then◌else◌}
+use Rattle.std.specs.Prelude.{ℕ, ◌==◌, ◌/◌, ◌%◌, ◌+◌, nat_le, nat_lt, Bool, ◌&&◌, ◌||◌, List, [], ◌∷◌, length, map, Option, Some, None, unwrap_or, is_ok, if◌then◌else◌}
 use Rattle.std.specs.Int.{w16, w32, w64}
 use Rattle.std.specs.Str.{is_utf8}
 use Rattle.desk_base.specs.declared.id.Id.{Id}
@@ -17,7 +17,7 @@ use Rattle.law_register.specs.declared.law.modification.Destination.{Destination
 use Rattle.law_register.specs.declared.law.modification.Destination.TheVariants as to
 use Rattle.law_register.specs.declared.law.modification.ModSource.{ModSource}
 use Rattle.textual_mods.specs.declared.edit.Spot.{Spot}
-use Rattle.entry_codec.specs.Fields.{Field, byte, number, chunk, tested, given, pair, made, made_where, one_of, counted, each}
+use Rattle.entry_codec.specs.Fields.{Field, byte, number, chunk, tested, pair, made, made_where, one_of, counted, each}
 
 -- numbers of two, four and eight bytes
 unfoldable pub number16 : Field ℕ

@@ -122,7 +122,13 @@ fn put_inserted_text(out: &mut Vec<u8>, wid: &Text, at: &TextPos, new: &Text) ->
 }
 
 // A provision in two.
-fn put_split(out: &mut Vec<u8>, wid: &Text, at: &SplitAt, num: &Num, heading: &Text) -> Result<(), Memory>
+fn put_split(
+    out: &mut Vec<u8>,
+    wid: &Text,
+    at: &SplitAt,
+    num: &Num,
+    heading: &Text,
+) -> Result<(), Memory>
     ensures { OnOk result (out.new.items
         ≡ out.old.items ++ spec.cut.spell (wid.now, (at.now, (num.now, heading.now)))) }
 {

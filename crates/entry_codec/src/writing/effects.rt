@@ -37,7 +37,11 @@ fn put_inapplied(out: &mut Vec<u8>, on: Day, days: Period) -> Result<(), Memory>
 }
 
 #[tactic(auto, unfolding(crate::specs::Modifications::force_effect))]
-pub(super) fn put_force_effect(out: &mut Vec<u8>, on: Day, effect: ForceEffect) -> Result<(), Memory>
+pub(super) fn put_force_effect(
+    out: &mut Vec<u8>,
+    on: Day,
+    effect: ForceEffect,
+) -> Result<(), Memory>
     ensures { OnOk result (out.new.items ≡ out.old.items ++ spec.force_effect.spell (on, effect)) }
 {
     match effect {
@@ -51,7 +55,11 @@ pub(super) fn put_force_effect(out: &mut Vec<u8>, on: Day, effect: ForceEffect) 
 
 // A retroactivity is counted from its date, which is not written twice.
 #[tactic(auto, unfolding(crate::specs::Modifications::efficacy_effect))]
-pub(super) fn put_efficacy_effect(out: &mut Vec<u8>, on: Day, effect: EfficacyEffect) -> Result<(), Memory>
+pub(super) fn put_efficacy_effect(
+    out: &mut Vec<u8>,
+    on: Day,
+    effect: EfficacyEffect,
+) -> Result<(), Memory>
     ensures { OnOk result (out.new.items ≡ out.old.items ++ spec.efficacy_effect.spell (on, effect)) }
 {
     match effect {
