@@ -5,7 +5,7 @@ mod Scans
 mod Crash
 mod Appending
 pub mod Lists
-mod Resting
+pub mod Resting
 mod Frames
 mod MemorySteps
 mod Painting

@@ -16,7 +16,7 @@ use Rattle.law_journal.specs.declared.step.Found.TheVariants.{Entry}
 use Rattle.law_journal.proofs.Records.{front_none}
 use Rattle.law_journal.proofs.Scans.{begins, goes_on}
 use Rattle.law_journal.proofs.Crash.{shut_list, start_rests}
-use Rattle.law_journal.proofs.Lists.{sizes_from, first_gate, last_gate, NthStep, nth_step, next_there}
+use Rattle.law_journal.proofs.Lists.{sizes_from, first_gate, last_gate, gate_within, NthStep, nth_step, next_there}
 
 not_one : (gate : ℕ) → gate ≢ 1 → (gate == 1) ≡ false
 not_one gate shut = grind (arith, nat_tests, shut)
@@ -35,13 +35,15 @@ walks o gate r =
     ∙ ap (λ t. with_front j.payloads (step_list (8 + length j.bytes) (if t then length_at (8 + length j.bytes + 1) [] else ends) (list_from zero))) (not_one r.shut r.is_shut)
     ∙ front_none j.payloads
 
-pub has_list : (o : Outlook) (gate : ℕ) → Rests o gate → HasList o gate
-has_list o gate r =
+pub has_list : (o : Outlook) (gate : ℕ) → gate + 1 < 2 ^ 63 → Rests o gate → HasList o gate
+has_list o gate bound r =
     let j = r.journal in
     record {
+      bound = bound;
       payloads = j.payloads;
       is_list = shut_list o.seen gate r.shut [] j r.is_shut;
       sizes = sizes_from (suc (length j.payloads)) 8 (drop 8 o.seen) j.payloads (walks o gate r);
+      size = omega (arith, j.at_place, j.size);
       first = first_gate 8 j.payloads;
       end = last_gate 8 j.payloads gate (omega (arith, j.at_place, j.size));
       durable = r.durable;
@@ -163,8 +165,9 @@ rests_of o gate e durable = by_listing (list_of o.seen) refl e.end
     by_listing (Err damage) is end = absurd (cc end)
 
 -- what is known of a disk whose file is at rest
-pub known : (o : Outlook) (window : Window) (gate : ℕ) → gate + 1 < 2 ^ 63 → IsWindow o window → (o.tells → Rests o gate) → IsKnown o window gate
-known o window gate bound piece rests = record {
+pub known : (o : Outlook) (window : Window) (gate : ℕ) → 8 ≤ gate → gate + 1 < 2 ^ 63 → IsWindow o window → (o.tells → Rests o gate) → IsKnown o window gate
+known o window gate first bound piece rests = record {
+  first = first;
   bound = bound;
   piece = piece;
   ends = λ t. ends_at o gate (rests t);
@@ -175,13 +178,21 @@ pub rests_known : (o : Outlook) (window : Window) (gate : ℕ) → IsKnown o win
 rests_known o window gate k t = rests_of o gate (k.ends t) (k.durable t)
 
 pub listed : (o : Outlook) (window : Window) (gate : ℕ) → IsKnown o window gate → o.tells → HasList o gate
-listed o window gate k t = has_list o gate (rests_known o window gate k t)
+listed o window gate k t = has_list o gate k.bound (rests_known o window gate k t)
 
 -- it stays known while the disk idles
 pub idle_known : (o n : Outlook) (before after : Window) (gate : ℕ) → Idles o n → IsKnown o before gate → IsWindow n after → IsKnown n after gate
 idle_known o n before after gate idle k piece = record {
+  first = k.first;
   bound = k.bound;
   piece = piece;
   ends = λ t. subst (λ (l : List ℕ). EndsAt l gate) (sym idle.seen) (k.ends (idle.tells.1 t));
   durable = λ t c left. k.durable (idle.tells.1 t) c (idle.crash c left) ∙ sym idle.seen;
 }
+
+-- the places of gates are below 2^63
+pub gate_bound : (o : Outlook) (gate : ℕ) → HasList o gate → (payloads : List (List ℕ)) (place n : ℕ) → list_of o.seen ≡ Ok payloads → gate_number 8 payloads place ≡ Some n → place < 2 ^ 63
+gate_bound o gate h payloads place n is at =
+    let both : Ok payloads ≡ Ok h.payloads = sym is ∙ h.is_list in
+    let same : payloads ≡ h.payloads = cc both in
+    omega (arith, (gate_within 8 payloads place n at).1, ap records_size same, h.size, h.bound)

@@ -1,5 +1,5 @@
 -- The state of a journal, and what its calls promise.
-use Rattle.std.specs.Prelude.{ℕ, suc, ◌≡◌, ◌≢◌, ◌⊎◌, ◌+◌, ◌<◌, ◌≤◌, Bool, true, false, not, ◌&&◌, ◌==◌, is_none, get_or, List, [], ◌∷◌, ◌++◌, length, All, slice_get, Option, Some, None, Result, Ok, Err, IsTrue, Vec}
+use Rattle.std.specs.Prelude.{ℕ, suc, ◌≡◌, ◌≢◌, ◌⊎◌, ◌+◌, ◌^◌, ◌<◌, ◌≤◌, Bool, true, false, not, ◌&&◌, ◌==◌, is_none, get_or, List, [], ◌∷◌, ◌++◌, length, All, slice_get, Option, Some, None, Result, Ok, Err, IsTrue, Vec}
 use Rattle.std.specs.declared.alloc.Global.{Global}
 use Rattle.desk_base.specs.Streams.{Rose}
 use Rattle.law_journal.specs.Disks.{Outlook, Only}
@@ -41,9 +41,11 @@ pub record Rests (o : Outlook) (gate : ℕ) : Type 0 where
 -- what holds of a journal that is ready: it has a list of payloads of 1 to 16,777,216 bytes each, which begins at the gate
 -- at place 8 and ends at this one, and a crash leaves the file as it is
 pub record HasList (o : Outlook) (gate : ℕ) : Type 0 where
+  pub bound : gate + 1 < 2 ^ 63
   pub payloads : List (List ℕ)
   pub is_list : list_of o.seen ≡ Ok payloads
   pub sizes : All (λ payload. IsTrue (is_size (length payload))) payloads
+  pub size : gate ≡ 8 + records_size payloads
   pub first : gate_number 8 payloads 8 ≡ Some 0
   pub end : gate_number 8 payloads gate ≡ Some (length payloads)
   pub durable : Only o.seen o.may_leave

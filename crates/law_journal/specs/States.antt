@@ -1,5 +1,5 @@
 -- The states of a journal.
-use Rattle.std.specs.Prelude.{ℕ, ◌≡◌, ◌+◌, ◌^◌, ◌<◌, ◌==◌, false, get_or, List, length, take, Some}
+use Rattle.std.specs.Prelude.{ℕ, ◌≡◌, ◌+◌, ◌^◌, ◌<◌, ◌≤◌, ◌==◌, false, get_or, List, length, take, Some}
 use Rattle.desk_base.specs.Streams.{Rose}
 use Rattle.law_journal.specs.Disks.{Outlook, Only}
 use Rattle.law_journal.specs.Grammar.{magic, list_of, end_of}
@@ -17,6 +17,7 @@ pub record EndsAt (file : List ℕ) (gate : ℕ) : Type 0 where
 
 -- what is known of the disk of a journal that is ready: a piece of it, and its closed gate; all of it is on the disk
 pub record IsKnown (o : Outlook) (window : Window) (gate : ℕ) : Type 0 where
+  pub first : 8 ≤ gate
   pub bound : gate + 1 < 2 ^ 63
   pub piece : IsWindow o window
   pub ends : o.tells → EndsAt o.seen gate

@@ -100,6 +100,7 @@ impl<D: Disk> Journal<D> {
         ensures same { (D.outlook self.old.disk).tells → IsSameList (D.outlook self.old.disk).seen (D.outlook self.new.disk).seen }
         ensures damaged { (D.outlook self.old.disk).tells → IfErr result (Tells (list_of (D.outlook self.old.disk).seen)) }
         ensures any_moment { (D.outlook self.old.disk).tells → LeavesOnly (IsOldOrSame (D.outlook self.old.disk)) (D.outlook self.old.disk) (D.outlook self.new.disk) }
+        ensures tells { (D.outlook self.new.disk).tells → (D.outlook self.old.disk).tells }
         ensures cause { HasLoadCause (D.faults self.old.disk) (D.faults self.new.disk) result }
     {
         self.ready = false;
@@ -162,11 +163,13 @@ impl<D: Disk> Journal<D> {
         ensures listed { IsTrue self.new.ready → (D.outlook self.new.disk).tells → HasList (D.outlook self.new.disk) self.new.gate }
         ensures refused { OnErr result (self.new.ready ≡ false) }
         ensures place { IfOk result (λ place. place ≡ self.new.gate) }
+        ensures first { IfOk result (λ place. 8 ≤ place) }
         ensures gate { OnOk result (self.new.gate ≡ self.old.gate + length framed.now) }
         ensures added { OnOk result ((D.outlook self.old.disk).tells → list_of (D.outlook self.new.disk).seen ≡ with_last (payload_of framed.now) (list_of (D.outlook self.old.disk).seen)) }
         ensures left { (D.outlook self.old.disk).tells → IsBeforeOrAfter (D.outlook self.old.disk).seen (payload_of framed.now) (D.outlook self.new.disk).seen }
         ensures gates { (D.outlook self.old.disk).tells → KeepsGates (list_of (D.outlook self.old.disk).seen) (list_of (D.outlook self.new.disk).seen) }
         ensures any_moment { (D.outlook self.old.disk).tells → LeavesOnly (IsBeforeOrAfter (D.outlook self.old.disk).seen (payload_of framed.now)) (D.outlook self.old.disk) (D.outlook self.new.disk) }
+        ensures tells { (D.outlook self.new.disk).tells → (D.outlook self.old.disk).tells }
         ensures cause { HasCause (D.faults self.old.disk) (D.faults self.new.disk) result }
     {
         self.ready = false;

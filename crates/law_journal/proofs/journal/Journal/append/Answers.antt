@@ -1,3 +1,4 @@
+use Rattle.std.proofs.Common.{arith}
 use Rattle.law_journal.specs.Grammar.{payload_of}
 use Rattle.law_journal.proofs.Lists.{kept_gates}
 use Rattle.law_journal.proofs.Resting.{known, has_list, rests_known}
@@ -14,10 +15,10 @@ returns-in_err-self-clause-gates g c t =
 pub invariant_of-self-2 : goal.invariant_of-self-2
 invariant_of-self-2 g c =
     let n = g.D.Disk.outlook c.append_at.new.disk in
-    record { known = λ ready. known n c.forget.new.self c.in_ok-self.field-0 c.in_ok-self.ensures.bound (empty_window n c.forget.new.self c.forget.ensures) c.in_ok-self.ensures.rests }
+    record { known = λ ready. known n c.forget.new.self c.in_ok-self.field-0 (omega (arith, (c.args.self.now.known c.requires.ready).first, c.in_ok-self.ensures.place)) c.in_ok-self.ensures.bound (empty_window n c.forget.new.self c.forget.ensures) c.in_ok-self.ensures.rests }
 
 pub returns-clause-listed : goal.returns-clause-listed
-returns-clause-listed g c = λ ready t. has_list (g.D.Disk.outlook c.append_at.new.disk) c.in_ok-self.field-0 (c.in_ok-self.ensures.rests t)
+returns-clause-listed g c = λ ready t. has_list (g.D.Disk.outlook c.append_at.new.disk) c.in_ok-self.field-0 c.in_ok-self.ensures.bound (c.in_ok-self.ensures.rests t)
 
 pub returns-clause-gates : goal.returns-clause-gates
 returns-clause-gates g c t =
