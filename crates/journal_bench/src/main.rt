@@ -2,9 +2,8 @@
 //! are appended. The word is their number; without it nothing is done.
 #![tactic(auto)]
 
-ghost use Rattle.std.specs.Prelude.{length, IsTrue};
+ghost use Rattle.std.specs.Prelude.{◌≡◌, true, length, IsTrue};
 ghost use Rattle.law_journal.specs.Grammar.{is_size};
-ghost use Rattle.law_journal.specs.States as state;
 
 use law_journal::{Disk, FileDisk, Journal, frame};
 use std::alloc::Global;
@@ -13,7 +12,7 @@ use std::{env, io};
 
 // Appends records, and says whether all of them were.
 fn append_all<D: Disk>(alloc: Global, journal: &mut Journal<D>, payload: &[u8], count: u32) -> bool
-    requires ready { state.IsReady D.outlook journal.old }
+    requires ready { journal.old.ready ≡ true }
     requires size { IsTrue (is_size (length payload.now)) }
 {
     for _ in 0..count {

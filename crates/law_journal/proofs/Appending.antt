@@ -6,7 +6,7 @@ use Rattle.law_journal.specs.Disks.{Outlook, IsOutlook, Only, Torn, LeavesOnly, 
 use Rattle.law_journal.specs.Grammar.{magic, number_of, four_bytes, is_size, payload_of, list_of, with_last}
 use Rattle.law_journal.specs.Journals.{IsJournal, Rests, IsFrame, IsBeforeOrAfter}
 use Rattle.law_journal.proofs.Moments.{then_runs, weaker}
-use Rattle.law_journal.proofs.Records.{record_is, one_more}
+use Rattle.law_journal.proofs.Records.{record_is, one_more, records_more}
 use Rattle.law_journal.proofs.Crash.{shut_list, same_list}
 
 pub number_back : (n : ℕ) → number_of (n / 16777216) (n / 65536 % 256) (n / 256 % 256) (n % 256) ≡ n
@@ -24,6 +24,7 @@ other_gate file c place gate next behind j is = record {
   bytes = j.bytes;
   are_records = j.are_records;
   no_more = j.no_more;
+  size = j.size;
   file_is = is ∙ ap (λ (l : List ℕ). l ++ next ∷ behind) (front_of file place gate behind j) ∙ append_assoc magic j.bytes (next ∷ behind);
   at_place = j.at_place;
 }
@@ -42,6 +43,7 @@ one_record file framed place f j =
       bytes = j.bytes ++ added;
       are_records = one_more j.payloads j.bytes payload added j.are_records is_record;
       no_more = omega (arith, j.no_more, length-append j.payloads (payload ∷ []), length-append j.bytes added);
+      size = omega (arith, j.size, records_more j.payloads payload, length-append j.bytes added, length-append (four_bytes n) payload);
       file_is = j.file_is ∙ ap (λ (l : List ℕ). magic ++ j.bytes ++ 1 ∷ l) f.is_frame ∙ ap (λ (l : List ℕ). magic ++ l) (sym (append_assoc j.bytes added (0 ∷ [])));
       at_place = omega (arith, j.at_place, size, length-append j.bytes added, length-append (four_bytes n) payload);
     }
@@ -74,6 +76,7 @@ staged o file framed gate r is =
       bytes = j.bytes;
       are_records = j.are_records;
       no_more = j.no_more;
+      size = j.size;
       file_is = is ∙ (λ i. front i ++ framed ++ back i) ∙ append-nil (o.seen ++ framed) ∙ ap (λ (l : List ℕ). l ++ framed) j.file_is
           ∙ append_assoc magic (j.bytes ++ r.shut ∷ []) framed ∙ ap (λ (l : List ℕ). magic ++ l) (append_assoc j.bytes (r.shut ∷ []) framed);
       at_place = j.at_place;

@@ -21,6 +21,7 @@ same_front file c place gate behind j same =
       bytes = j.bytes;
       are_records = j.are_records;
       no_more = j.no_more;
+      size = j.size;
       file_is = sym (take-append-drop (place + 1) c) ∙ ap (λ (l : List ℕ). l ++ rest) (same ∙ front)
           ∙ append_assoc magic (j.bytes ++ gate ∷ []) rest ∙ ap (λ (l : List ℕ). magic ++ l) (append_assoc j.bytes (gate ∷ []) rest);
       at_place = j.at_place;
@@ -86,7 +87,7 @@ pub start_rests : (n : Outlook) (gate : ℕ) → gate ≢ 1 → n.seen ≡ magic
 start_rests n gate shut is durable = record {
   shut = gate;
   is_shut = shut;
-  journal = record { payloads = []; bytes = []; are_records = no_records; no_more = omega arith; file_is = is; at_place = refl };
+  journal = record { payloads = []; bytes = []; are_records = no_records; no_more = omega arith; size = refl; file_is = is; at_place = refl };
   durable = durable;
 }
 

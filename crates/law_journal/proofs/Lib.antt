@@ -1,9 +1,11 @@
 mod Windows
-mod Moments
+pub mod Moments
 mod Records
 mod Scans
 mod Crash
 mod Appending
+pub mod Lists
+pub mod Resting
 mod Frames
 mod MemorySteps
 mod Painting

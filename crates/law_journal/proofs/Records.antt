@@ -2,7 +2,7 @@
 use Rattle.std.proofs.Common.{◌≡◌, ℕ, suc, ◌+◌, ◌-◌, ◌<◌, ◌≤◌, Bool, true, false, ◌==◌, nat_lt, nat_le, List, [], ◌∷◌, ◌++◌, length, take, drop, Some, None, Ok, Err, if◌then◌else◌, refl, sym, ◌∙◌, ap, arith, append_assoc, length-append, length-take, take-append-drop}
 use Rattle.std.proofs.lemmas.List.{take_at, drop_at}
 use Rattle.std.proofs.lemmas.Bool.Decides.{nat_tests}
-use Rattle.law_journal.specs.Grammar.{Damage, Step, ends, holds, breaks, Listing, magic, number_of, is_size, payload_at, length_at, step_at, step_list, list_from, with_first, magic_fault, list_behind, list_of}
+use Rattle.law_journal.specs.Grammar.{Damage, Step, ends, holds, breaks, Listing, magic, number_of, is_size, records_size, payload_at, length_at, step_at, step_list, list_from, with_first, magic_fault, list_behind, list_of}
 use Rattle.law_journal.specs.Journals.{with_front, AreRecords, IsJournal}
 
 -- one record: whatever gate and bytes stand behind these bytes, they hold the payload
@@ -25,6 +25,11 @@ front_none (p ∷ payloads) = ap (λ (l : Listing). with_first p l) (front_none 
 pub front_damage : (payloads : List (List ℕ)) (damage : Damage) → with_front payloads (Err damage) ≡ Err damage
 front_damage [] damage = refl
 front_damage (p ∷ payloads) damage = ap (λ (l : Listing). with_first p l) (front_damage payloads damage)
+
+-- the bytes of one record more
+pub records_more : (payloads : List (List ℕ)) (payload : List ℕ) → records_size (payloads ++ payload ∷ []) ≡ records_size payloads + (5 + length payload)
+records_more [] payload = omega arith
+records_more (p ∷ payloads) payload = omega (arith, records_more payloads payload)
 
 -- no records
 pub no_records : AreRecords [] []
@@ -114,6 +119,7 @@ pub record Holding (rest payload next : List ℕ) : Type 0 where
   pub added : List ℕ
   pub split : rest ≡ added ++ next
   pub body : drop 5 added ≡ payload
+  pub in_range : is_size (length payload) ≡ true
   pub is_record : IsRecord payload added
 
 -- a step that finds a payload finds a record
@@ -143,6 +149,7 @@ held place (gate ∷ rest) payload next is = by_gate (gate == 1) refl
               added = gate ∷ a ∷ b ∷ c ∷ d ∷ payload;
               split = ap (λ (l : List ℕ). gate ∷ a ∷ b ∷ c ∷ d ∷ l) (sym (take-append-drop n more) ∙ (λ i. front i ++ back i));
               body = refl;
+              in_range = ap is_size long ∙ in_range;
               is_record = record_is gate a b c d payload is_open in_range long;
             }
         by_fit false short in_range held_is = absurd (cc (short, held_is))

@@ -6,7 +6,7 @@ use Rattle.law_journal.specs.Grammar.{Step, ends, holds, breaks, magic, number_o
 use Rattle.law_journal.specs.Journals.{with_front, IsJournal, HasEnd, found_of}
 use Rattle.law_journal.specs.declared.step.Found.{Found}
 use Rattle.law_journal.specs.declared.step.Found.TheVariants.{End, Entry, Broken}
-use Rattle.law_journal.proofs.Records.{no_records, one_more, held, list_at, front_damage}
+use Rattle.law_journal.proofs.Records.{no_records, one_more, records_more, held, list_at, front_damage}
 
 -- behind the magic stand no records yet
 pub begins : (file : List ℕ) → take 8 file ≡ magic → IsJournal file 8 (drop 8 file)
@@ -15,6 +15,7 @@ begins file is = record {
   bytes = [];
   are_records = no_records;
   no_more = omega arith;
+  size = refl;
   file_is = sym (take-append-drop 8 file) ∙ ap (λ (l : List ℕ). l ++ drop 8 file) is;
   at_place = refl;
 }
@@ -56,6 +57,7 @@ goes_on file place size j is =
       bytes = bytes;
       are_records = one_more j.payloads j.bytes payload h.added j.are_records h.is_record;
       no_more = omega (arith, j.no_more, length-append j.payloads (payload ∷ []), length-append j.bytes h.added, h.is_record.long);
+      size = omega (arith, j.size, records_more j.payloads payload, length-append j.bytes h.added, h.is_record.long);
       file_is = split ∙ append_assoc magic bytes next ∙ ap (λ (l : List ℕ). magic ++ bytes ++ l) (sym rest);
       at_place = there;
     }

@@ -1,5 +1,6 @@
 -- The journal's file: the magic, records behind open gates, and a closed gate.
 use Rattle.std.specs.Prelude.{ℕ, zero, suc, ◌+◌, ◌-◌, ◌*◌, ◌/◌, ◌%◌, Bool, ◌&&◌, ◌==◌, nat_lt, nat_le, List, [], ◌∷◌, ◌++◌, length, take, drop, Option, Some, None, Result, Ok, Err, codes, if◌then◌else◌}
+use Rattle.std.specs.Option.{option_map}
 
 -- where a file is damaged: the first place that shows it, and the byte there, if there is one
 pub record Damage : Type 0 where
@@ -92,3 +93,24 @@ list_behind None listing = listing
 abbrev pub list_of : List ℕ → Listing
 list_of file = if nat_le (length file) 9 then Ok []
     else list_behind (magic_fault 0 magic file) (list_from (length file) 8 (drop 8 file))
+
+-- the bytes of the records of payloads
+abbrev pub records_size : List (List ℕ) → ℕ
+records_size [] = 0
+records_size (payload ∷ payloads) = 5 + length payload + records_size payloads
+
+-- the place of the gate that ends a list
+abbrev pub end_of : Listing → Option ℕ
+end_of (Ok payloads) = Some (8 + records_size payloads)
+end_of (Err damage) = None
+
+-- the number of the gate at a place, which is how many of the payloads stand before it, where the first gate is at `from`
+abbrev pub gate_number : ℕ → List (List ℕ) → ℕ → Option ℕ
+gate_number from [] place = if place == from then Some 0 else None
+gate_number from (payload ∷ payloads) place = if place == from then Some 0
+    else option_map (λ n. n + 1) (gate_number (from + 5 + length payload) payloads place)
+
+-- the number of the gate at a place of a file with this list
+abbrev pub gate_in : Listing → ℕ → Option ℕ
+gate_in (Ok payloads) place = gate_number 8 payloads place
+gate_in (Err damage) place = None

@@ -1,9 +1,9 @@
 -- The state of a journal, and what its calls promise.
-use Rattle.std.specs.Prelude.{ℕ, suc, ◌≡◌, ◌≢◌, ◌⊎◌, ◌+◌, ◌<◌, ◌≤◌, Bool, true, false, not, ◌&&◌, ◌==◌, is_none, get_or, List, [], ◌∷◌, ◌++◌, length, Option, Some, None, Result, Ok, Err, IsTrue, Vec}
+use Rattle.std.specs.Prelude.{ℕ, suc, ◌≡◌, ◌≢◌, ◌⊎◌, ◌+◌, ◌^◌, ◌<◌, ◌≤◌, Bool, true, false, not, ◌&&◌, ◌==◌, is_none, get_or, List, [], ◌∷◌, ◌++◌, length, All, slice_get, Option, Some, None, Result, Ok, Err, IsTrue, Vec}
 use Rattle.std.specs.declared.alloc.Global.{Global}
 use Rattle.desk_base.specs.Streams.{Rose}
 use Rattle.law_journal.specs.Disks.{Outlook, Only}
-use Rattle.law_journal.specs.Grammar.{Step, ends, holds, breaks, Listing, magic, is_size, step_at, step_list, list_from, with_first, with_last, magic_fault, list_of, frame_of, payload_of}
+use Rattle.law_journal.specs.Grammar.{Step, ends, holds, breaks, Listing, magic, is_size, records_size, gate_number, gate_in, step_at, step_list, list_from, with_first, with_last, magic_fault, list_of, frame_of, payload_of}
 use Rattle.desk_base.specs.declared.load_fault.LoadFault.{LoadFault}
 use Rattle.desk_base.specs.declared.load_fault.LoadFault.TheVariants.{Failed, Damaged, Memory}
 use Rattle.law_journal.specs.declared.step.Found.{Found}
@@ -27,6 +27,7 @@ pub record IsJournal (file : List ℕ) (place : ℕ) (behind : List ℕ) : Type 
   pub bytes : List ℕ
   pub are_records : AreRecords payloads bytes
   pub no_more : length payloads ≤ length bytes
+  pub size : length bytes ≡ records_size payloads
   pub file_is : file ≡ magic ++ bytes ++ behind
   pub at_place : place ≡ 8 + length bytes
 
@@ -36,6 +37,22 @@ pub record Rests (o : Outlook) (gate : ℕ) : Type 0 where
   pub is_shut : shut ≢ 1
   pub journal : IsJournal o.seen gate (shut ∷ [])
   pub durable : Only o.seen o.may_leave
+
+-- what holds of a journal that is ready: it has a list of payloads of 1 to 16,777,216 bytes each, which begins at the gate
+-- at place 8 and ends at this one, and a crash leaves the file as it is
+pub record HasList (o : Outlook) (gate : ℕ) : Type 0 where
+  pub bound : gate + 1 < 2 ^ 63
+  pub payloads : List (List ℕ)
+  pub is_list : list_of o.seen ≡ Ok payloads
+  pub sizes : All (λ payload. IsTrue (is_size (length payload))) payloads
+  pub size : gate ≡ 8 + records_size payloads
+  pub first : gate_number 8 payloads 8 ≡ Some 0
+  pub end : gate_number 8 payloads gate ≡ Some (length payloads)
+  pub durable : Only o.seen o.may_leave
+
+-- gates keep their places and their numbers
+abbrev pub KeepsGates : Listing → Listing → Type 0
+KeepsGates old new = (place n : ℕ) → gate_in old place ≡ Some n → gate_in new place ≡ Some n
 
 -- bytes are the frame of a payload of 1 to 16,777,216 bytes
 pub record IsFrame (framed : List ℕ) : Type 0 where
@@ -101,6 +118,24 @@ GivesEntry place step (Ok (Some entry)) = ((rest : List ℕ) × (step ≡ holds 
 GivesEntry place step (Err Failed) = Unit {0}
 GivesEntry place step (Err (Damaged at byte)) = step ≡ breaks (record { place = at; byte = byte })
 GivesEntry place step (Err Memory) = Unit {0}
+
+-- what is read at the gate behind so many payloads: the next payload and the gate behind it, or the end of the list
+abbrev pub GivesNth : List (List ℕ) → ℕ → Result (Option (Vec ℕ Global × ℕ)) LoadFault → Type 0
+GivesNth payloads n (Ok None) = n ≡ length payloads
+GivesNth payloads n (Ok (Some entry)) = (slice_get payloads n ≡ Some entry.0.items) × (gate_number 8 payloads entry.1 ≡ Some (n + 1))
+GivesNth payloads n (Err Failed) = Unit {0}
+GivesNth payloads n (Err (Damaged place byte)) = ⊥
+GivesNth payloads n (Err Memory) = Unit {0}
+
+-- what is read at a gate of a file's list
+abbrev pub GivesListed : List ℕ → ℕ → Result (Option (Vec ℕ Global × ℕ)) LoadFault → Type 0
+GivesListed file place result = (payloads : List (List ℕ)) (n : ℕ) → list_of file ≡ Ok payloads
+    → gate_number 8 payloads place ≡ Some n → GivesNth payloads n result
+
+-- the next gate is behind the one at which a payload is read
+abbrev pub IsLater : ℕ → Option (Vec ℕ Global × ℕ) → Type 0
+IsLater place None = Unit {0}
+IsLater place (Some entry) = place < entry.1
 
 -- a refusal that is no damage
 abbrev pub IsNoDamage : LoadFault → Type 0

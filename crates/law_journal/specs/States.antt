@@ -1,19 +1,27 @@
 -- The states of a journal.
-use Rattle.std.specs.Prelude.{ℕ, ◌≡◌, ◌+◌, ◌^◌, ◌<◌, true}
+use Rattle.std.specs.Prelude.{ℕ, ◌≡◌, ◌+◌, ◌^◌, ◌<◌, ◌≤◌, ◌==◌, false, get_or, List, length, take, Some}
 use Rattle.desk_base.specs.Streams.{Rose}
-use Rattle.law_journal.specs.Disks.{Outlook}
-use Rattle.law_journal.specs.Journals.{Rests}
+use Rattle.law_journal.specs.Disks.{Outlook, Only}
+use Rattle.law_journal.specs.Grammar.{magic, list_of, end_of}
 use Rattle.law_journal.specs.Windows.{IsWindow}
-use Rattle.law_journal.specs.declared.journal.Journal.{Journal}
+use Rattle.law_journal.specs.declared.window.Window.{Window}
 use Rattle.desk_base.specs.declared.load_fault.LoadFault.{LoadFault}
 use Rattle.desk_base.specs.declared.load_fault.LoadFault.TheVariants.{Failed, Damaged, Memory}
 
--- a journal that is ready: its file is at rest, and its closed gate is known
-pub record IsReady {D : Type 0} (outlook : D → Outlook) (journal : Journal D) : Type 0 where
-  pub ready : journal.ready ≡ true
-  pub bound : journal.gate + 1 < 2 ^ 63
-  pub window : IsWindow (outlook journal.disk) journal.window
-  pub rests : (outlook journal.disk).tells → Rests (outlook journal.disk) journal.gate
+-- a file whose list ends at this gate, which is closed and its last byte
+pub record EndsAt (file : List ℕ) (gate : ℕ) : Type 0 where
+  pub begins : take 8 file ≡ magic
+  pub end : end_of (list_of file) ≡ Some gate
+  pub last : length file ≡ gate + 1
+  pub is_shut : (get_or file gate 0 == 1) ≡ false
+
+-- what is known of the disk of a journal that is ready: a piece of it, and its closed gate; all of it is on the disk
+pub record IsKnown (o : Outlook) (window : Window) (gate : ℕ) : Type 0 where
+  pub first : 8 ≤ gate
+  pub bound : gate + 1 < 2 ^ 63
+  pub piece : IsWindow o window
+  pub ends : o.tells → EndsAt o.seen gate
+  pub durable : o.tells → Only o.seen o.may_leave
 
 -- a fault of the disk is told only where the count of faults rose; else the count is as it was
 abbrev pub HasFault : ℕ → ℕ → LoadFault → Type 0

@@ -1,18 +1,19 @@
 //! Journal: payloads in a file on a disk. A clause sees the disk's outlook, the place of the closed gate, and whether
 //! the journal is ready.
 
-ghost use Rattle.std.specs.Prelude.{◌≡◌, ◌≤◌, ◌∷◌, true, false, IsTrue, length, drop, IfOk, IfErr, OnOk, OnErr};
+ghost use Rattle.std.specs.Prelude.{◌≡◌, ◌+◌, ◌≤◌, ◌∷◌, true, false, IsTrue, length, drop, IfOk, IfErr, OnOk, OnErr};
 ghost use Rattle.desk_base.specs.Streams.{HasCause};
 ghost use Rattle.law_journal.specs.Disks.{Idles, LeavesOnly};
 ghost use Rattle.law_journal.specs.Grammar.{is_size, frame_of, payload_of, step_at, list_of, with_last};
-ghost use Rattle.law_journal.specs.Journals.{GivesEntry, HasLoadCause, stays_ready, IsBeforeOrAfter, IsFrame, IsOldOrSame, IsSameList, Tells};
+ghost use Rattle.law_journal.specs.Journals.{GivesEntry, GivesListed, HasList, HasLoadCause, IsBeforeOrAfter, IsFrame, IsLater, IsOldOrSame, IsSameList, KeepsGates, Tells, stays_ready};
 ghost use Rattle.law_journal.specs.States as state;
+ghost use Rattle.law_journal.specs.States.{IsKnown};
 
 use crate::Disk;
 use crate::reading::entry_at;
 use crate::recovering::recover;
 use crate::window::Window;
-use crate::writing::write_synced;
+use crate::writing::append_at;
 use desk_base::{Failed, LoadFault, Memory};
 use std::alloc::Global;
 
@@ -24,6 +25,7 @@ pub struct Journal<D: Disk> {
     /// The place of the closed gate that ends the list.
     gate: u64,
     ready: bool,
+    ghost known: { ready ≡ true → IsKnown (D.outlook disk) window gate },
 }
 
 /// A disk whose file is no journal that could be opened, and why.
@@ -54,10 +56,24 @@ pub fn frame(alloc: Global, payload: &[u8]) -> Result<Vec<u8>, Memory>
 }
 
 impl<D: Disk> Journal<D> {
+    /// A journal that is not opened yet. Nothing is asked of the disk, and no memory is taken.
+    pub fn new(alloc: Global, disk: D) -> Journal<D>
+        ensures disk { result.disk ≡ disk }
+        ensures unready { result.ready ≡ false }
+    {
+        Journal {
+            disk,
+            window: Window::new(alloc),
+            gate: 0,
+            ready: false,
+        }
+    }
+
     /// Opens the journal on a disk: syncs, reads, cuts off what a crash left behind the closed gate. A file of at
     /// most nine bytes becomes a journal with no payload.
     pub fn open(alloc: Global, disk: D) -> Result<Journal<D>, JournalRefused<D>>
-        ensures opened { IfOk result (state.IsReady D.outlook) }
+        ensures opened { IfOk result (λ journal. journal.ready ≡ true) }
+        ensures listed { IfOk result (λ journal. (D.outlook journal.disk).tells → HasList (D.outlook journal.disk) journal.gate) }
         ensures same { (D.outlook disk).tells → IfOk result (λ journal. IsSameList (D.outlook disk).seen (D.outlook journal.disk).seen) }
         ensures kept { (D.outlook disk).tells → IfErr result (λ refused. IsSameList (D.outlook disk).seen (D.outlook refused.disk).seen) }
         ensures damaged { (D.outlook disk).tells → IfErr result (λ refused. Tells (list_of (D.outlook disk).seen) refused.fault) }
@@ -66,19 +82,7 @@ impl<D: Disk> Journal<D> {
         ensures cause { IfOk result (λ journal. D.faults journal.disk ≡ D.faults disk) }
         ensures cause_refused { IfErr result (λ refused. state.HasFault (D.faults disk) (D.faults refused.disk) refused.fault) }
     {
-        let window = match Window::new(alloc) {
-            Ok(window) => window,
-            Err(_) => return Err(JournalRefused {
-                disk,
-                fault: LoadFault::Memory,
-            }),
-        };
-        let mut journal = Journal {
-            disk,
-            window,
-            gate: 0,
-            ready: false,
-        };
+        let mut journal = Journal::new(alloc, disk);
         match journal.reopen() {
             Ok(()) => Ok(journal),
             Err(fault) => Err(JournalRefused {
@@ -90,15 +94,18 @@ impl<D: Disk> Journal<D> {
 
     /// Opens the journal again on the same disk.
     pub fn reopen(&mut self) -> Result<(), LoadFault>
-        ensures opened { OnOk result (state.IsReady D.outlook self.new) }
+        ensures opened { OnOk result (self.new.ready ≡ true) }
+        ensures listed { IsTrue self.new.ready → (D.outlook self.new.disk).tells → HasList (D.outlook self.new.disk) self.new.gate }
         ensures refused { OnErr result (self.new.ready ≡ false) }
         ensures same { (D.outlook self.old.disk).tells → IsSameList (D.outlook self.old.disk).seen (D.outlook self.new.disk).seen }
         ensures damaged { (D.outlook self.old.disk).tells → IfErr result (Tells (list_of (D.outlook self.old.disk).seen)) }
         ensures any_moment { (D.outlook self.old.disk).tells → LeavesOnly (IsOldOrSame (D.outlook self.old.disk)) (D.outlook self.old.disk) (D.outlook self.new.disk) }
+        ensures tells { (D.outlook self.new.disk).tells → (D.outlook self.old.disk).tells }
         ensures cause { HasLoadCause (D.faults self.old.disk) (D.faults self.new.disk) result }
     {
         self.ready = false;
         self.window.forget();
+        self.window.make_room()?;
         self.gate = recover(&mut self.disk, &mut self.window)?;
         self.ready = true;
         Ok(())
@@ -106,7 +113,8 @@ impl<D: Disk> Journal<D> {
 
     /// Whether records can be read and appended. Where they cannot, open the journal again.
     pub fn ready(&self) -> bool
-        ensures { result ≡ self.now.ready }
+        ensures value { result ≡ self.now.ready }
+        ensures listed { IsTrue result → (D.outlook self.now.disk).tells → HasList (D.outlook self.now.disk) self.now.gate }
     {
         self.ready
     }
@@ -125,10 +133,12 @@ impl<D: Disk> Journal<D> {
         alloc: Global,
         place: u64,
     ) -> Result<Option<(Vec<u8>, u64)>, LoadFault>
-        requires { state.IsReady D.outlook self.old }
+        requires { self.old.ready ≡ true }
         ensures read { (D.outlook self.old.disk).tells → GivesEntry place (step_at place (drop place (D.outlook self.old.disk).seen)) result }
-        ensures still { IsTrue (stays_ready result) → state.IsReady D.outlook self.new }
+        ensures given { (D.outlook self.old.disk).tells → GivesListed (D.outlook self.old.disk).seen place result }
+        ensures later { IfOk result (IsLater place) }
         ensures ready { self.new.ready ≡ stays_ready result }
+        ensures listed { IsTrue self.new.ready → (D.outlook self.new.disk).tells → HasList (D.outlook self.new.disk) self.new.gate }
         ensures idle { Idles (D.outlook self.old.disk) (D.outlook self.new.disk) }
         ensures cause { HasLoadCause (D.faults self.old.disk) (D.faults self.new.disk) result }
     {
@@ -147,22 +157,24 @@ impl<D: Disk> Journal<D> {
     /// that of the closed gate behind it. After a failure the journal has to be opened again, and has the payload or
     /// has not.
     pub fn append(&mut self, framed: &[u8]) -> Result<u64, Failed>
-        requires ready { state.IsReady D.outlook self.old }
+        requires ready { self.old.ready ≡ true }
         requires frame { IsFrame framed.now }
-        ensures ready { OnOk result (state.IsReady D.outlook self.new) }
+        ensures ready { OnOk result (self.new.ready ≡ true) }
+        ensures listed { IsTrue self.new.ready → (D.outlook self.new.disk).tells → HasList (D.outlook self.new.disk) self.new.gate }
         ensures refused { OnErr result (self.new.ready ≡ false) }
         ensures place { IfOk result (λ place. place ≡ self.new.gate) }
+        ensures first { IfOk result (λ place. 8 ≤ place) }
+        ensures gate { OnOk result (self.new.gate ≡ self.old.gate + length framed.now) }
         ensures added { OnOk result ((D.outlook self.old.disk).tells → list_of (D.outlook self.new.disk).seen ≡ with_last (payload_of framed.now) (list_of (D.outlook self.old.disk).seen)) }
         ensures left { (D.outlook self.old.disk).tells → IsBeforeOrAfter (D.outlook self.old.disk).seen (payload_of framed.now) (D.outlook self.new.disk).seen }
+        ensures gates { (D.outlook self.old.disk).tells → KeepsGates (list_of (D.outlook self.old.disk).seen) (list_of (D.outlook self.new.disk).seen) }
         ensures any_moment { (D.outlook self.old.disk).tells → LeavesOnly (IsBeforeOrAfter (D.outlook self.old.disk).seen (payload_of framed.now)) (D.outlook self.old.disk) (D.outlook self.new.disk) }
+        ensures tells { (D.outlook self.new.disk).tells → (D.outlook self.old.disk).tells }
         ensures cause { HasCause (D.faults self.old.disk) (D.faults self.new.disk) result }
     {
         self.ready = false;
         self.window.forget();
-        // The record has to be on the disk, behind its closed gate, before the gate is opened.
-        write_synced(&mut self.disk, self.gate + 1, framed)?;
-        write_synced(&mut self.disk, self.gate, &[1])?;
-        self.gate += framed.len() as u64;
+        self.gate = append_at(&mut self.disk, self.gate, framed)?;
         self.ready = true;
         Ok(self.gate)
     }

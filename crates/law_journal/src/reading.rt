@@ -3,7 +3,7 @@
 ghost use Rattle.std.specs.Prelude.{◌≡◌, ◌+◌, ◌^◌, ◌<◌, ◌≤◌, take, drop, length, IfOk, IfErr};
 ghost use Rattle.law_journal.specs.Disks.{Idles};
 ghost use Rattle.law_journal.specs.Grammar.{step_at};
-ghost use Rattle.law_journal.specs.Journals.{GivesEntry, HasLoadCause, IsNoDamage};
+ghost use Rattle.law_journal.specs.Journals.{GivesEntry, HasLoadCause, IsLater, IsNoDamage};
 ghost use Rattle.law_journal.specs.Windows.{IsWindow};
 
 use crate::Disk;
@@ -55,6 +55,7 @@ pub fn entry_at<D: Disk>(
     requires len { len < 2 ^ 63 }
     requires told { (D.outlook disk.old).tells → len ≡ length (D.outlook disk.old).seen }
     ensures read { (D.outlook disk.old).tells → GivesEntry place (step_at place (drop place (D.outlook disk.old).seen)) result }
+    ensures later { IfOk result (IsLater place) }
     ensures window { IsWindow (D.outlook disk.new) window.new }
     ensures idle { Idles (D.outlook disk.old) (D.outlook disk.new) }
     ensures cause { HasLoadCause (D.faults disk.old) (D.faults disk.new) result }

@@ -68,6 +68,7 @@ fn settle_long<D: Disk>(disk: &mut D, window: &mut Window, len: u64) -> Result<u
     requires durable { (D.outlook disk.old).tells → Only (D.outlook disk.old).seen (D.outlook disk.old).may_leave }
     ensures rests { (D.outlook disk.old).tells → IfOk result (Rests (D.outlook disk.new)) }
     ensures damaged { (D.outlook disk.old).tells → IfErr result (Tells (list_of (D.outlook disk.old).seen)) }
+    ensures first { IfOk result (λ gate. 8 ≤ gate) }
     ensures bound { IfOk result (λ gate. gate + 1 < 2 ^ 63) }
     ensures any_moment { (D.outlook disk.old).tells → LeavesOnly (IsSameList (D.outlook disk.old).seen) (D.outlook disk.old) (D.outlook disk.new) }
     ensures window { OnOk result (IsWindow (D.outlook disk.new) window.new) }
@@ -86,6 +87,7 @@ fn settle<D: Disk>(disk: &mut D, window: &mut Window) -> Result<u64, LoadFault>
     requires durable { (D.outlook disk.old).tells → Only (D.outlook disk.old).seen (D.outlook disk.old).may_leave }
     ensures rests { (D.outlook disk.old).tells → IfOk result (Rests (D.outlook disk.new)) }
     ensures damaged { (D.outlook disk.old).tells → IfErr result (Tells (list_of (D.outlook disk.old).seen)) }
+    ensures first { IfOk result (λ gate. 8 ≤ gate) }
     ensures bound { IfOk result (λ gate. gate + 1 < 2 ^ 63) }
     ensures any_moment { (D.outlook disk.old).tells → LeavesOnly (IsSameList (D.outlook disk.old).seen) (D.outlook disk.old) (D.outlook disk.new) }
     ensures window { OnOk result (IsWindow (D.outlook disk.new) window.new) }
@@ -106,6 +108,7 @@ pub fn recover<D: Disk>(disk: &mut D, window: &mut Window) -> Result<u64, LoadFa
     ensures rests { (D.outlook disk.old).tells → IfOk result (Rests (D.outlook disk.new)) }
     ensures same { (D.outlook disk.old).tells → IsSameList (D.outlook disk.old).seen (D.outlook disk.new).seen }
     ensures damaged { (D.outlook disk.old).tells → IfErr result (Tells (list_of (D.outlook disk.old).seen)) }
+    ensures first { IfOk result (λ gate. 8 ≤ gate) }
     ensures bound { IfOk result (λ gate. gate + 1 < 2 ^ 63) }
     ensures any_moment { (D.outlook disk.old).tells → LeavesOnly (IsOldOrSame (D.outlook disk.old)) (D.outlook disk.old) (D.outlook disk.new) }
     ensures window { OnOk result (IsWindow (D.outlook disk.new) window.new) }

@@ -83,6 +83,7 @@ pub fn end_of_list<D: Disk>(disk: &mut D, window: &mut Window, len: u64) -> Resu
     requires magic { (D.outlook disk.old).tells → take 8 (D.outlook disk.old).seen ≡ magic }
     ensures end { (D.outlook disk.old).tells → IfOk result (HasEnd (D.outlook disk.old).seen) }
     ensures damaged { (D.outlook disk.old).tells → IfErr result (Tells (list_of (D.outlook disk.old).seen)) }
+    ensures first { IfOk result (λ gate. 8 ≤ gate) }
     ensures within { IfOk result (λ gate. gate < len) }
     ensures window { IsWindow (D.outlook disk.new) window.new }
     ensures idle { Idles (D.outlook disk.old) (D.outlook disk.new) }

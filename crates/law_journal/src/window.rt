@@ -42,15 +42,25 @@ fn copy_front(bytes: &[u8], into: &mut [u8]) -> usize
 }
 
 impl Window {
-    /// A window that holds nothing yet.
-    pub fn new(alloc: Global) -> Result<Window, AllocError>
-        ensures { IfOk result (λ w. w.held ≡ 0) }
+    /// A window that holds nothing yet, and has no memory.
+    pub fn new(alloc: Global) -> Window
+        ensures { result.held ≡ 0 }
     {
-        Ok(Window {
+        Window {
             start: 0,
             held: 0,
-            bytes: vec![in alloc; 0u8; PIECE]?,
-        })
+            bytes: Vec::new(alloc),
+        }
+    }
+
+    /// Takes the memory of a piece, unless it has it.
+    pub fn make_room(&mut self) -> Result<(), AllocError>
+        ensures { self.new.held ≡ self.old.held }
+    {
+        if self.bytes.len() < PIECE {
+            self.bytes.resize(PIECE, 0)?;
+        }
+        Ok(())
     }
 
     /// Lets go of what it holds, since the disk is about to change.

@@ -1,10 +1,10 @@
 //! Changes of a file that wait until they are on the disk.
 
-ghost use Rattle.std.specs.Prelude.{◌≡◌, ◌+◌, ◌^◌, ◌<◌, ◌≤◌, [], ◌∷◌, ◌++◌, Some, take, length, OnOk};
+ghost use Rattle.std.specs.Prelude.{◌≡◌, ◌+◌, ◌^◌, ◌<◌, ◌≤◌, [], ◌∷◌, ◌++◌, Some, take, length, IfOk, OnOk};
 ghost use Rattle.desk_base.specs.Streams.{HasCause};
 ghost use Rattle.law_journal.specs.Disks.{LeavesOnly, Only, Torn, Cut, overwritten};
-ghost use Rattle.law_journal.specs.Grammar.{magic};
-ghost use Rattle.law_journal.specs.Journals.{IsShort};
+ghost use Rattle.law_journal.specs.Grammar.{magic, payload_of, list_of, with_last};
+ghost use Rattle.law_journal.specs.Journals.{IsBeforeOrAfter, IsFrame, IsShort, Rests};
 
 use crate::Disk;
 use desk_base::Failed;
@@ -54,4 +54,24 @@ pub fn start_synced<D: Disk>(disk: &mut D) -> Result<(), Failed>
     disk.write_at(0, b"AKNLAW01\0")?;
     disk.sync()?;
     Ok(())
+}
+
+/// Adds the payload of a frame behind the closed gate at a place, and gives the place of the closed gate behind it.
+pub fn append_at<D: Disk>(disk: &mut D, gate: u64, framed: &[u8]) -> Result<u64, Failed>
+    requires bound { gate + 1 < 2 ^ 63 }
+    requires rests { (D.outlook disk.old).tells → Rests (D.outlook disk.old) gate }
+    requires frame { IsFrame framed.now }
+    ensures place { IfOk result (λ place. place ≡ gate + length framed.now) }
+    ensures bound { IfOk result (λ place. place + 1 < 2 ^ 63) }
+    ensures rests { (D.outlook disk.new).tells → IfOk result (Rests (D.outlook disk.new)) }
+    ensures added { OnOk result ((D.outlook disk.old).tells → list_of (D.outlook disk.new).seen ≡ with_last (payload_of framed.now) (list_of (D.outlook disk.old).seen)) }
+    ensures left { (D.outlook disk.old).tells → IsBeforeOrAfter (D.outlook disk.old).seen (payload_of framed.now) (D.outlook disk.new).seen }
+    ensures any_moment { (D.outlook disk.old).tells → LeavesOnly (IsBeforeOrAfter (D.outlook disk.old).seen (payload_of framed.now)) (D.outlook disk.old) (D.outlook disk.new) }
+    ensures tells { (D.outlook disk.new).tells → (D.outlook disk.old).tells }
+    ensures cause { HasCause (D.faults disk.old) (D.faults disk.new) result }
+{
+    // The record has to be on the disk, behind its closed gate, before the gate is opened.
+    write_synced(disk, gate + 1, framed)?;
+    write_synced(disk, gate, &[1])?;
+    Ok(gate + framed.len() as u64)
 }

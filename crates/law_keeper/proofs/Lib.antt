@@ -1,3 +1,4 @@
 pub mod Moments
 pub mod Walks
 pub mod Found
+pub mod OverJournals

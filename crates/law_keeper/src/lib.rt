@@ -1,6 +1,7 @@
 //! Keepers: lists of payloads to which one is added at a time, and what is left of them after a failure or a crash.
 #![tactic(auto)]
 
+mod journal_keeper;
 mod keep_fault;
 mod keeper;
 pub mod laws;
@@ -10,6 +11,7 @@ mod readiness;
 mod tests;
 mod walking;
 
+pub use journal_keeper::JournalKeeper;
 pub use keep_fault::KeepFault;
 pub use keeper::Keeper;
 pub use map_keeper::MapKeeper;

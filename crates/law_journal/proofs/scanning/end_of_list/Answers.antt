@@ -6,6 +6,7 @@ use Rattle.law_journal.proofs.scanning.end_of_list.Goals as goal
 
 pub loop-place-init : goal.loop-place-init
 loop-place-init g c = record {
+  first = omega arith;
   within = omega (arith, c.requires.long);
   window = c.requires.window;
   idle = idle_none (g.D.Disk.outlook c.args.disk.now);
@@ -31,6 +32,7 @@ loop-place-preserved g c =
     let l = c.loop-place.invariant in
     let fits : c.loop-place.place + 5 + c.in-Entry.size < c.args.len = subst (FitsIn c.loop-place.place c.args.len) c.in-Entry.is c.in_ok-step.ensures.fits in
     record {
+      first = omega (arith, l.first);
       within = omega (arith, fits);
       window = c.step.ensures.window;
       idle = idle_both _ _ _ (g.met.D.Disk.is_outlook c.args.disk.now) l.idle c.step.ensures.idle;

@@ -1,61 +1,25 @@
-use Rattle.std.proofs.Common.{refl, arith}
-use Rattle.law_journal.proofs.Appending.{first_write, second_write, added, rests_again, seen_too}
+use Rattle.std.proofs.Common.{arith}
+use Rattle.law_journal.specs.Grammar.{payload_of}
+use Rattle.law_journal.proofs.Lists.{kept_gates}
+use Rattle.law_journal.proofs.Resting.{known, has_list, rests_known}
 use Rattle.law_journal.proofs.Windows.{empty_window}
 use Rattle.law_journal.proofs.journal.Journal.append.Goals as goal
 
-pub returns-in_err-write_synced-clause-any_moment : goal.returns-in_err-write_synced-clause-any_moment
-returns-in_err-write_synced-clause-any_moment g c t =
-    let o = g.D.Disk.outlook c.args.self.now.disk in
-    let m = g.D.Disk.outlook c.write_synced.new.disk in
-    first_write o m m c.args.self.now.gate c.args.framed.now c.requires.frame (c.requires.ready.rests t) _ (c.write_synced.ensures.any_moment t)
+pub append_at-requires-clause-rests : goal.append_at-requires-clause-rests
+append_at-requires-clause-rests g c = rests_known (g.D.Disk.outlook c.args.self.now.disk) c.args.self.now.window c.args.self.now.gate (c.args.self.now.known c.requires.ready)
 
-pub returns-in_err-write_synced-clause-left : goal.returns-in_err-write_synced-clause-left
-returns-in_err-write_synced-clause-left g c t =
-    seen_too _ _ _ (g.met.D.Disk.is_outlook c.write_synced.new.disk) (returns-in_err-write_synced-clause-any_moment g c t)
+pub returns-in_err-self-clause-gates : goal.returns-in_err-self-clause-gates
+returns-in_err-self-clause-gates g c t =
+    kept_gates (g.D.Disk.outlook c.args.self.now.disk).seen (payload_of c.args.framed.now) (g.D.Disk.outlook c.append_at.new.disk).seen (c.append_at.ensures.left t)
 
-pub returns-in_err-write_synced-2-clause-any_moment : goal.returns-in_err-write_synced-2-clause-any_moment
-returns-in_err-write_synced-2-clause-any_moment g c t =
-    let o = g.D.Disk.outlook c.args.self.now.disk in
-    let m = g.D.Disk.outlook c.write_synced.new.disk in
-    let n = g.D.Disk.outlook c.write_synced-2.new.disk in
-    let run = c.write_synced.ensures.any_moment t in
-    second_write o m n c.args.self.now.gate c.args.framed.now c.requires.frame (c.requires.ready.rests t) (c.in_ok-write_synced.ensures.written t) _ run (c.write_synced-2.ensures.any_moment run.tells)
+pub invariant_of-self-2 : goal.invariant_of-self-2
+invariant_of-self-2 g c =
+    let n = g.D.Disk.outlook c.append_at.new.disk in
+    record { known = λ ready. known n c.forget.new.self c.in_ok-self.field-0 (omega (arith, (c.args.self.now.known c.requires.ready).first, c.in_ok-self.ensures.place)) c.in_ok-self.ensures.bound (empty_window n c.forget.new.self c.forget.ensures) c.in_ok-self.ensures.rests }
 
-pub returns-in_err-write_synced-2-clause-left : goal.returns-in_err-write_synced-2-clause-left
-returns-in_err-write_synced-2-clause-left g c t =
-    seen_too _ _ _ (g.met.D.Disk.is_outlook c.write_synced-2.new.disk) (returns-in_err-write_synced-2-clause-any_moment g c t)
+pub returns-clause-listed : goal.returns-clause-listed
+returns-clause-listed g c = λ ready t. has_list (g.D.Disk.outlook c.append_at.new.disk) c.in_ok-self.field-0 c.in_ok-self.ensures.bound (c.in_ok-self.ensures.rests t)
 
-pub returns-clause-any_moment : goal.returns-clause-any_moment
-returns-clause-any_moment g c t =
-    let o = g.D.Disk.outlook c.args.self.now.disk in
-    let m = g.D.Disk.outlook c.write_synced.new.disk in
-    let n = g.D.Disk.outlook c.write_synced-2.new.disk in
-    let run = c.write_synced.ensures.any_moment t in
-    second_write o m n c.args.self.now.gate c.args.framed.now c.requires.frame (c.requires.ready.rests t) (c.in_ok-write_synced.ensures.written t) _ run (c.write_synced-2.ensures.any_moment run.tells)
-
-pub returns-clause-left : goal.returns-clause-left
-returns-clause-left g c t = seen_too _ _ _ (g.met.D.Disk.is_outlook c.write_synced-2.new.disk) (returns-clause-any_moment g c t)
-
-pub returns-clause-added : goal.returns-clause-added
-returns-clause-added g c t =
-    let o = g.D.Disk.outlook c.args.self.now.disk in
-    let m = g.D.Disk.outlook c.write_synced.new.disk in
-    let n = g.D.Disk.outlook c.write_synced-2.new.disk in
-    let run = c.write_synced.ensures.any_moment t in
-    added o m n c.args.self.now.gate c.args.framed.now c.requires.frame (c.requires.ready.rests t) (c.in_ok-write_synced.ensures.written t) (c.in_ok-write_synced-2.ensures.written run.tells)
-
-pub returns-clause-ready : goal.returns-clause-ready
-returns-clause-ready g c =
-    let o = g.D.Disk.outlook c.args.self.now.disk in
-    let m = g.D.Disk.outlook c.write_synced.new.disk in
-    let n = g.D.Disk.outlook c.write_synced-2.new.disk in
-    record {
-      ready = refl;
-      bound = omega (arith, c.in_ok-write_synced.ensures.bound);
-      window = empty_window n c.forget.new.self c.forget.ensures;
-      rests = λ told.
-          let mid = c.write_synced-2.ensures.tells told in
-          let t = c.write_synced.ensures.tells mid in
-          rests_again o m n c.args.self.now.gate c.args.framed.now c.requires.frame (c.requires.ready.rests t) (c.in_ok-write_synced.ensures.written t)
-          (c.in_ok-write_synced-2.ensures.written mid) (c.in_ok-write_synced-2.ensures.durable mid);
-    }
+pub returns-clause-gates : goal.returns-clause-gates
+returns-clause-gates g c t =
+    kept_gates (g.D.Disk.outlook c.args.self.now.disk).seen (payload_of c.args.framed.now) (g.D.Disk.outlook c.append_at.new.disk).seen (c.append_at.ensures.left t)
