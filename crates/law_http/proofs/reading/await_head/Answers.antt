@@ -1,0 +1,62 @@
+use Rattle.std.proofs.Common.{rules, List, ℕ, subst, sym, ap, ◌∙◌, arith, length}
+use Rattle.std.specs.Io.KnownBytes.{prepend_known}
+use Rattle.law_http.specs.Cutting.{after_empty_lines, head_length}
+use Rattle.law_http.specs.Streams.{KeepsRequest}
+use Rattle.law_http.proofs.EmptyLines.{after_after, after_short}
+use Rattle.law_http.proofs.Kept.{keeps_skipped, request_then, ready_found, ready_full, ready_ended, found_where}
+use Rattle.law_http.proofs.reading.await_head.Goals as goal
+
+pub loop-bytes-init : goal.loop-bytes-init
+loop-bytes-init g c =
+    let left = g.L.Link.left c.args.link.now in
+    let old = c.args.bytes.now.items in
+    let skipped = c.skip_empty_lines.ensures in
+    record {
+      stream = subst (λ (l : List ℕ). KeepsRequest (prepend_known old left) (prepend_known l left)) (sym skipped) (keeps_skipped old left);
+      begins = ap after_empty_lines skipped ∙ after_after old ∙ sym skipped;
+      room = omega (arith, ap length skipped, after_short old);
+      held = omega (arith, ap length skipped, after_short old);
+      counted = search rules;
+      written = search rules;
+      write_faults = search rules;
+      origin = search rules;
+    }
+
+pub loop-bytes-preserved : goal.loop-bytes-preserved
+loop-bytes-preserved g c = record {
+  stream = request_then _ _ _ c.loop-bytes.invariant.stream c.in_ok-count.ensures.stream;
+  begins = c.in_ok-count.ensures.begins;
+  room = omega (arith, c.loop-bytes.invariant.room, c.in_ok-count.ensures.taken);
+  held = omega (arith, c.in_ok-count.ensures.held);
+  counted = search rules;
+  written = search rules;
+  write_faults = search rules;
+  origin = search rules;
+}
+
+pub returns-in_err-count-clause-stream : goal.returns-in_err-count-clause-stream
+returns-in_err-count-clause-stream g c = request_then _ _ _ c.loop-bytes.invariant.stream c.in_err-count.ensures.stream
+
+pub returns-else-is_err-clause-stream : goal.returns-else-is_err-clause-stream
+returns-else-is_err-clause-stream g c = c.loop-bytes.invariant.stream
+
+pub returns-else-is_err-clause-ready : goal.returns-else-is_err-clause-ready
+returns-else-is_err-clause-ready g c =
+    let (n, found) = found_where c.head_length.result (sym c.is_err.ensures.value ∙ c.if-is_err.false) in
+    ready_found c.loop-bytes.bytes.items (g.L.Link.left c.loop-bytes.link) n c.loop-bytes.invariant.begins
+    (ap head_length (sym c.deref.ensures.value) ∙ sym c.head_length.ensures.value ∙ found)
+
+pub returns-after-loop-bytes-clause-stream : goal.returns-after-loop-bytes-clause-stream
+returns-after-loop-bytes-clause-stream g c = c.loop-bytes.invariant.stream
+
+pub returns-after-loop-bytes-clause-ready : goal.returns-after-loop-bytes-clause-ready
+returns-after-loop-bytes-clause-ready g c =
+    ready_full c.loop-bytes.bytes.items (g.L.Link.left c.loop-bytes.link) c.loop-bytes.invariant.begins (search rules)
+
+pub returns-then-count-eq0-clause-stream : goal.returns-then-count-eq0-clause-stream
+returns-then-count-eq0-clause-stream g c = request_then _ _ _ c.loop-bytes.invariant.stream c.in_ok-count.ensures.stream
+
+pub returns-then-count-eq0-clause-ready : goal.returns-then-count-eq0-clause-ready
+returns-then-count-eq0-clause-ready g c =
+    ready_ended c.read_on.new.bytes.items (g.L.Link.left c.read_on.new.link) c.in_ok-count.ensures.begins
+    (c.in_ok-count.ensures.end c.if-count-eq0.true)

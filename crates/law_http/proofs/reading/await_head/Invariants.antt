@@ -1,0 +1,22 @@
+-- Nothing of the stream is lost but empty lines, and no read has failed.
+use Rattle.std.proofs.Common.{◌≡◌, ◌≤◌, ◌+◌, max, length}
+use Rattle.law_http.specs.declared.cutting.TheConstants.{MAX_HEAD}
+use Rattle.std.specs.Io.KnownBytes.{prepend_known}
+use Rattle.law_http.specs.Cutting.{after_empty_lines}
+use Rattle.law_http.specs.Streams.{KeepsRequest}
+use Rattle.law_http.proofs.reading.await_head.Given as goal
+
+abbrev pub invariant-loop-bytes : goal.invariant-loop-bytes
+invariant-loop-bytes g l = record {
+  stream : KeepsRequest (prepend_known l.fn.bytes.items (g.L.Link.left l.fn.link)) (prepend_known l.bytes.items (g.L.Link.left l.link));
+  begins : after_empty_lines l.bytes.items ≡ l.bytes.items;
+  room : length l.bytes.items + g.L.Link.room l.link ≤ length l.fn.bytes.items + g.L.Link.room l.fn.link;
+  held : length l.bytes.items ≤ max (length l.fn.bytes.items) MAX_HEAD;
+  counted : g.L.Link.read_faults l.link ≡ g.L.Link.read_faults l.fn.link;
+  written : g.L.Link.written l.link ≡ g.L.Link.written l.fn.link;
+  write_faults : g.L.Link.write_faults l.link ≡ g.L.Link.write_faults l.fn.link;
+  origin : g.L.Link.origin l.link ≡ g.L.Link.origin l.fn.link;
+}
+
+abbrev pub decreases-loop-bytes : goal.decreases-loop-bytes
+decreases-loop-bytes g l = g.L.Link.room l.link

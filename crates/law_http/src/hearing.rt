@@ -1,0 +1,136 @@
+//! Hearing the next request of a stream.
+
+ghost use Rattle.std.specs.Prelude.{◌≡◌, ◌≤◌, ◌<◌, ◌+◌, ◌^◌, max, length, drop, IfOk, OnErr};
+ghost use Rattle.law_http.specs.Hearing as spec;
+ghost use Rattle.law_http.specs.Streams.{HasHearCause, KeepsBytes, KeepsStream};
+
+use crate::cutting::{MAX_HEAD, head_length};
+use crate::framing::MAX_BODY;
+use crate::head::{Framing, read_head};
+use crate::reading::{await_bytes, await_head};
+use crate::{Bytes, HearFault, Heard, MessageRefusal, Request, Rest};
+use desk_base::{Link, Memory};
+use std::alloc::Global;
+
+fn take_off(bytes: &mut Vec<u8>, count: usize)
+    requires { count ≤ length bytes.old.items }
+    ensures { bytes.new.items ≡ drop count bytes.old.items }
+{
+    if count == bytes.len() {
+        bytes.clear();
+    } else {
+        drop(bytes.drain(..count));
+    }
+}
+
+// Takes a request off the front of the bytes, if they hold it whole.
+fn take_request(
+    alloc: Global,
+    bytes: &mut Vec<u8>,
+    head: usize,
+    framing: Framing,
+) -> Result<Heard, Memory>
+    requires some { 0 < head }
+    requires fits { head + framing.length < 2 ^ 64 }
+    ensures heard { IfOk result
+        (λ heard. spec.Makes (spec.with_body head framing bytes.old.items) heard bytes.new.items) }
+    ensures spent { IfOk result (spec.Spends (length bytes.old.items) (length bytes.new.items)) }
+    ensures kept { OnErr result (bytes.new.items ≡ bytes.old.items) }
+    ensures held { length bytes.new.items ≤ length bytes.old.items }
+{
+    let end = head + framing.length as usize;
+    if bytes.len() < end {
+        return Ok(Heard::Refused(MessageRefusal::Truncated));
+    }
+    let body = Vec::from_slice(alloc, &bytes[head..end])?;
+    take_off(bytes, end);
+    Ok(Heard::Request(Request {
+        method: framing.method,
+        target: framing.target,
+        body: Bytes::from_vec(body),
+        last: framing.last,
+    }))
+}
+
+// What is heard where a head of so many bytes stands in front.
+fn hear_body<L: Link>(
+    alloc: Global,
+    link: &mut L,
+    bytes: &mut Vec<u8>,
+    head: usize,
+) -> Result<Heard, HearFault>
+    requires some { 0 < head }
+    requires within { head ≤ length bytes.old.items }
+    requires limit { head ≤ MAX_HEAD }
+    ensures heard { IfOk result
+        (spec.HearsBody head bytes.old.items (L.left link.old) bytes.new.items (L.left link.new)) }
+    ensures kept { OnErr result (KeepsBytes bytes.old.items (L.left link.old) bytes.new.items (L.left link.new)) }
+    ensures spent { IfOk result
+        (spec.Spends (length bytes.old.items + L.room link.old) (length bytes.new.items + L.room link.new)) }
+    ensures taken { length bytes.new.items + L.room link.new ≤ length bytes.old.items + L.room link.old }
+    ensures held { length bytes.new.items ≤ max (length bytes.old.items) (MAX_HEAD + MAX_BODY) }
+    ensures cause { HasHearCause (L.read_faults link.old) (L.read_faults link.new) result }
+    ensures written { L.written link.new ≡ L.written link.old }
+    ensures write_faults { L.write_faults link.new ≡ L.write_faults link.old }
+    ensures origin { L.origin link.new ≡ L.origin link.old }
+{
+    let framing = match read_head(alloc, &bytes[..head])? {
+        Ok(framing) => framing,
+        Err(refusal) => return Ok(Heard::Refused(refusal)),
+    };
+    await_bytes(link, bytes, head + framing.length as usize)?;
+    Ok(take_request(alloc, bytes, head, framing)?)
+}
+
+// What is heard of bytes that were read, and of those that a link has left.
+fn hear<L: Link>(alloc: Global, link: &mut L, bytes: &mut Vec<u8>) -> Result<Heard, HearFault>
+    ensures heard { IfOk result (spec.Hears bytes.old.items (L.left link.old) bytes.new.items (L.left link.new)) }
+    ensures kept { OnErr result (KeepsStream bytes.old.items (L.left link.old) bytes.new.items (L.left link.new)) }
+    ensures spent { IfOk result
+        (spec.Spends (length bytes.old.items + L.room link.old) (length bytes.new.items + L.room link.new)) }
+    ensures taken { length bytes.new.items + L.room link.new ≤ length bytes.old.items + L.room link.old }
+    ensures held { length bytes.new.items ≤ max (length bytes.old.items) (MAX_HEAD + MAX_BODY) }
+    ensures cause { HasHearCause (L.read_faults link.old) (L.read_faults link.new) result }
+    ensures written { L.written link.new ≡ L.written link.old }
+    ensures write_faults { L.write_faults link.new ≡ L.write_faults link.old }
+    ensures origin { L.origin link.new ≡ L.origin link.old }
+{
+    await_head(link, bytes)?;
+    if bytes.is_empty() {
+        return Ok(Heard::End);
+    }
+    match head_length(bytes) {
+        Ok(head) => hear_body(alloc, link, bytes, head),
+        Err(refusal) => Ok(Heard::Refused(refusal)),
+    }
+}
+
+/// Hears what comes next in a stream: a request (RFC 9112, section 3), the end of the stream, or why no request can be
+/// read there. The stream is what `rest` holds and then what the link gives, in whatever pieces it gives it; what was
+/// read behind a request stays in `rest`.
+///
+/// After a refusal the stream is as it was but for empty lines. So it is after an error: `ReadFault` where a read
+/// failed, and `Memory`.
+pub fn read_request<L: Link>(
+    alloc: Global,
+    link: &mut L,
+    rest: &mut Rest,
+) -> Result<Heard, HearFault>
+    ensures heard { IfOk result (spec.Hears rest.old (L.left link.old) rest.new (L.left link.new)) }
+    ensures kept { OnErr result (KeepsStream rest.old (L.left link.old) rest.new (L.left link.new)) }
+
+    // A request takes a byte at least, so a loop over requests ends.
+    ensures spent { IfOk result (spec.Spends (length rest.old + L.room link.old) (length rest.new + L.room link.new)) }
+    ensures taken { length rest.new + L.room link.new ≤ length rest.old + L.room link.old }
+    ensures held { length rest.new ≤ max (length rest.old) (MAX_HEAD + MAX_BODY) }
+
+    ensures cause { HasHearCause (L.read_faults link.old) (L.read_faults link.new) result }
+    ensures written { L.written link.new ≡ L.written link.old }
+    ensures write_faults { L.write_faults link.new ≡ L.write_faults link.old }
+    ensures origin { L.origin link.new ≡ L.origin link.old }
+{
+    let mut bytes = rest.take(alloc);
+    let heard = hear(alloc, link, &mut bytes);
+    rest.put(bytes);
+    heard
+}
