@@ -10,5 +10,7 @@ mod reading;
 pub use asked::Asked;
 pub use dossier::Dossier;
 pub use fault::{FormFault, FormRule, ReadFail};
-pub use printing::{answer_value, put_answer, put_form_fault, put_query_rule, put_rule};
+pub use printing::{
+    answer_value, put_answer, put_damage, put_form_fault, put_query_rule, put_rule,
+};
 pub use reading::{MAX_DOSSIER_BYTES, read_command, read_dossier};
