@@ -1,5 +1,5 @@
 -- Levels that are sought among nodes.
-use Rattle.std.proofs.Common.{◌≡◌, ◌∙◌, sym, ap, refl, ℕ, ◌+◌, ◌<◌, ◌==◌, Bool, true, false, ◌&&◌, ◌||◌, cond, List, [], ◌∷◌, ◌++◌, length, map, drop, get_or, inl, inr, Ok, Err}
+use Rattle.std.proofs.Common.{◌≡◌, ◌∙◌, sym, ap, refl, ℕ, ◌+◌, ◌<◌, ◌==◌, Bool, true, false, ◌&&◌, ◌||◌, List, [], ◌∷◌, ◌++◌, length, drop, get_or, inl, inr, Ok, Err}
 use Rattle.std.specs.Str.{bytes_eq}
 use Rattle.std.proofs.lemmas.Bool.{cases_Bool, and_parts, eqb-true, eq-eqb}
 use Rattle.std.proofs.lemmas.List.Folds.{list_any-append}
@@ -7,18 +7,16 @@ use Rattle.std.specs.Prelude.{Result}
 use Rattle.eid_paths.specs.declared.element.Element.{Element}
 use Rattle.eid_paths.specs.declared.eid_fault.EidRule.{EidRule}
 use Rattle.eid_paths.specs.declared.level.Level.{Level}
-use Rattle.eid_paths.specs.declared.numbering.Numbering.{Numbering}
-use Rattle.eid_paths.specs.Elements.{element_place, is_throughout}
+use Rattle.eid_paths.specs.Elements.{element_place}
 use Rattle.eid_paths.specs.ElementCode.{element_at, element_at-element_place}
 use Rattle.eid_paths.specs.Levels.{level_text, level_of}
 use Rattle.eid_paths.specs.Nums.{is_num}
 use Rattle.eid_paths.proofs.SpellingLaws.{level_is_read}
 use Rattle.act_tree.specs.declared.tree.Tree.{Tree}
-use Rattle.act_tree.specs.Branches.{Branches, branches_of}
-use Rattle.act_tree.specs.EidLevels.{all_beginning, own_level}
+use Rattle.act_tree.specs.EidLevels.{all_beginning}
 use Rattle.act_tree.specs.Faults.{all_owns}
 use Rattle.act_tree.specs.LevelsOfNodes.{begun_at, levels_at, own_begun}
-use Rattle.act_tree.specs.Seen.{tree_view, branch_at, provision_at, below_at}
+use Rattle.act_tree.specs.Seen.{tree_view, below_at}
 use Rattle.act_tree.specs.Wids.{is_among}
 use Rattle.act_tree.proofs.LevelsNoted.{levels_from}
 use Rattle.act_tree.proofs.Texts.{same_text, equal_text, other_text}

@@ -1,5 +1,5 @@
 -- The first fault of a tree with provisions that are brought among the children of a node is told before.
-use Rattle.std.proofs.Common.{◌≡◌, ◌∙◌, sym, ap, refl, ℕ, ◌+◌, ◌≤◌, ◌<◌, ◌==◌, Bool, true, false, not, cond, ◌&&◌, ◌||◌, max, min, List, [], ◌∷◌, ◌++◌, nat_lt, Some, None, inl, inr, arith}
+use Rattle.std.proofs.Common.{◌≡◌, ◌∙◌, sym, ap, refl, ℕ, ◌+◌, ◌≤◌, ◌==◌, Bool, true, false, not, cond, ◌&&◌, ◌||◌, max, min, List, [], ◌∷◌, ◌++◌, nat_lt, Some, None, inl, inr, arith}
 use Rattle.std.specs.Prelude.{Ok, Err, option_map, is_some, unwrap_or, slice_get}
 use Rattle.std.specs.List.{list_any}
 use Rattle.std.specs.Str.{bytes_eq}
@@ -14,13 +14,13 @@ use Rattle.eid_paths.specs.Nums.{is_num}
 use Rattle.act_tree.specs.declared.build_fault.BuildFault.{BuildFault}
 use Rattle.act_tree.specs.declared.surveying.TheConstants.{NONE_THROUGHOUT}
 use Rattle.act_tree.specs.declared.tree.Tree.{Tree}
-use Rattle.act_tree.specs.Branches.{Branch, Branches, branch, no_branches, more_branches, heights, counts}
+use Rattle.act_tree.specs.Branches.{Branches, branch, no_branches, more_branches, heights, counts}
 use Rattle.act_tree.specs.Brought.{bringer, brought}
-use Rattle.act_tree.specs.Changes.{any_holds, changed, put_in, among_children, grafted, found, root_wid}
-use Rattle.act_tree.specs.EidLevels.{begins, own_level, beginning, all_beginning, going_on, all_going_on, alike_inside, alike_beneath, levels_begun}
-use Rattle.act_tree.specs.Eids.{eid_below, enacted, all_enacted}
-use Rattle.act_tree.specs.Faults.{owns, all_owns, all_eids, have_long, first_fault, first_cause, fault_cause}
-use Rattle.act_tree.specs.Numbered.{is_numbered, are_numbered}
+use Rattle.act_tree.specs.Changes.{any_holds, changed, put_in, among_children, found, root_wid}
+use Rattle.act_tree.specs.EidLevels.{begins, own_level, all_beginning, all_going_on, alike_beneath, levels_begun}
+use Rattle.act_tree.specs.Eids.{eid_below, all_enacted}
+use Rattle.act_tree.specs.Faults.{all_owns, all_eids, have_long, first_fault, first_cause, fault_cause}
+use Rattle.act_tree.specs.Numbered.{are_numbered}
 use Rattle.act_tree.specs.Provisions.{Own, Provision}
 use Rattle.act_tree.specs.Seen.{tree_view, has_node, provision_at, below_at, with_body, grafted_at}
 use Rattle.act_tree.specs.Wids.{is_among, one_twice}
@@ -34,7 +34,7 @@ use Rattle.act_tree.proofs.ReplacedNodes.{not_root}
 use Rattle.act_tree.proofs.Texts.{equal_text}
 use Rattle.act_tree.proofs.Walking.{branch_is}
 use Rattle.textual_mods.specs.Edits.{unless_for, within_limits}
-use Rattle.textual_mods.specs.Insertions.{one_among, begins_again, begun_among, all_begun_among, goes_on_again, on_among, heights_over, height_with, is_root, number_taken, insertion_fault, have_nums}
+use Rattle.textual_mods.specs.Insertions.{one_among, begins_again, all_begun_among, goes_on_again, on_among, heights_over, height_with, is_root, number_taken, insertion_fault, have_nums}
 use Rattle.textual_mods.proofs.InsertionLimits.{after, clashes, twice_or, for_one, begun_put, counts_put, heights_put, unlike_put, short_put, begun_after, counts_after, heights_after, short_after, alike_after, of_one}
 use Rattle.textual_mods.proofs.JoinLimits.{times, times-append, few_once, once_few, one_if, or_none}
 use Rattle.textual_mods.proofs.Limits.{IsPlaced, is_placed, is_short, fault_by, faultless}

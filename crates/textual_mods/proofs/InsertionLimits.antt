@@ -1,17 +1,17 @@
 -- Of a text that keeps the limits only what an insertion brings can be held against it.
-use Rattle.std.proofs.Common.{◌≡◌, ◌∙◌, sym, ap, refl, ℕ, zero, suc, ◌+◌, ◌≤◌, Bool, true, false, cond, ◌||◌, max, List, [], ◌∷◌, ◌++◌, Some, None, inl, inr, arith}
+use Rattle.std.proofs.Common.{◌≡◌, ◌∙◌, sym, ap, refl, ℕ, zero, suc, ◌+◌, ◌≤◌, Bool, true, false, cond, ◌||◌, max, List, [], ◌∷◌, ◌++◌, Some, inl, inr, arith}
 use Rattle.std.specs.Str.{bytes_eq}
 use Rattle.std.proofs.lemmas.Bool.{cases_Bool, cond_both, or_cases}
 use Rattle.eid_paths.specs.declared.numbering.Numbering.{Numbering}
-use Rattle.act_tree.specs.Branches.{Branch, Branches, branch, no_branches, more_branches, height, heights, count, counts}
-use Rattle.act_tree.specs.Changes.{has_wid, any_holds, inside_changed, changed, joined, first, behind, put_in, among_children, found}
-use Rattle.act_tree.specs.EidLevels.{begins, own_level, beginning, all_beginning, going_on, all_going_on, alike_inside, alike_beneath}
+use Rattle.act_tree.specs.Branches.{Branches, branch, no_branches, more_branches, heights, counts}
+use Rattle.act_tree.specs.Changes.{any_holds, changed, joined, first, behind, put_in, among_children, found}
+use Rattle.act_tree.specs.EidLevels.{begins, own_level, all_beginning, going_on, all_going_on, alike_inside, alike_beneath}
 use Rattle.act_tree.specs.Faults.{owns, all_owns, is_long, has_long, have_long}
 use Rattle.act_tree.specs.Provisions.{Provision}
 use Rattle.act_tree.specs.Wids.{all_wids, is_among, one_twice}
-use Rattle.act_tree.proofs.Frames.{or_left, none_left, none_right, neither}
+use Rattle.act_tree.proofs.Frames.{none_left, none_right, neither}
 use Rattle.act_tree.proofs.Texts.{same_text, equal_text}
-use Rattle.textual_mods.specs.Insertions.{one_among, height_over, heights_over}
+use Rattle.textual_mods.specs.Insertions.{one_among, heights_over}
 use Rattle.textual_mods.proofs.JoinLimits.{times, times-append, none_times, some_times, few_once, once_few, one_if, begun_joined, heights_joined, counts_joined, or_none, long_joined}
 use Rattle.textual_mods.proofs.OnePlace.{AreDistinct, are_distinct, first_found, found_past, first_of, beneath_it, behind_it}
 

@@ -1,9 +1,8 @@
-use Rattle.std.proofs.Common.{rules, ◌≡◌, ◌∙◌, sym, ap, Bool, true, false, ℕ, ◌<◌, List, length, map}
+use Rattle.std.proofs.Common.{rules, ◌≡◌, ◌∙◌, sym, ap, false, ℕ, ◌<◌, List, length}
 use Rattle.eid_paths.specs.Levels.{level_text}
-use Rattle.act_tree.specs.Branches.{branches_of}
 use Rattle.act_tree.specs.EidLevels.{all_beginning}
 use Rattle.act_tree.specs.Faults.{all_owns}
-use Rattle.act_tree.specs.Seen.{tree_view, branch_at}
+use Rattle.act_tree.specs.Seen.{tree_view}
 use Rattle.act_tree.specs.Wids.{is_among}
 use Rattle.act_tree.proofs.LevelsFound.{beneath_begun, begun_here, begun_beneath, begun_later}
 use Rattle.act_tree.proofs.Walking.{children_lower}

@@ -1,4 +1,4 @@
-use Rattle.std.proofs.Common.{◌≡◌, ◌∙◌, sym, ap, Bool, true, false, List, ℕ}
+use Rattle.std.proofs.Common.{◌≡◌, ◌∙◌, sym, ap, Bool, true, false}
 use Rattle.act_tree.specs.Branches.{branches_of}
 use Rattle.act_tree.specs.EidLevels.{all_going_on}
 use Rattle.act_tree.specs.Faults.{all_owns}

@@ -1,9 +1,8 @@
 -- An insertion is held back by what is told before, or made.
-use Rattle.std.proofs.Common.{◌≡◌, ◌∙◌, sym, ap, None, Some}
+use Rattle.std.proofs.Common.{◌∙◌, sym, ap}
 use Rattle.act_tree.specs.Branches.{branches_of}
 use Rattle.act_tree.specs.Seen.{tree_view}
 use Rattle.textual_mods.specs.Edits.{tree_after, outcome_of}
-use Rattle.textual_mods.specs.Insertions.{insertion_fault}
 use Rattle.textual_mods.specs.declared.outcome.Outcome.TheVariants.{Unapplied}
 use Rattle.textual_mods.proofs.InsertedTrees.{held_by, done_by}
 use Rattle.textual_mods.proofs.inserting.insert_at.Goals as goal

@@ -1,4 +1,3 @@
-use Rattle.std.proofs.Common.{◌≡◌, true}
 use Rattle.act_tree.specs.Branches.{branches_of}
 use Rattle.textual_mods.proofs.InsertedTrees.{root_told, taken_begun, taken_on, taken_twice}
 use Rattle.textual_mods.proofs.inserting.is_number_taken.Goals as goal
