@@ -58,7 +58,8 @@ pub fn force_goes_on(_base: Period, _first: &[CountedForce], _later: &[CountedFo
 
 /// What more is counted behind a list changes the period of efficacy that the list made.
 pub fn efficacy_goes_on(_force: Period, _first: &[CountedEfficacy], _later: &[CountedEfficacy])
-    ensures { efficacy_period _force (_first.now ++ _later.now) ≡ efficacy_period (efficacy_period _force _first.now) _later.now }
+    ensures { efficacy_period _force (_first.now ++ _later.now)
+        ≡ efficacy_period (efficacy_period _force _first.now) _later.now }
 {}
 
 /// `==` holds of effects exactly where they are equal.

@@ -21,7 +21,8 @@ in_front (Ok level) (Ok levels) = Ok (level ∷ levels)
 -- the levels of parts that stand side by side with `__` between them, the first of which begins at the place
 abbrev pub levels_from : ℕ → List (List ℕ) → Result (List Level) EidFault
 levels_from place [] = Ok []
-levels_from place (part ∷ parts) = in_front (placed place (level_of part)) (levels_from (place + (length part + 2)) parts)
+levels_from place (part ∷ parts) =
+    in_front (placed place (level_of part)) (levels_from (place + (length part + 2)) parts)
 
 -- the levels that a text spells, or its first fault
 abbrev pub eid_of : List ℕ → Result (List Level) EidFault

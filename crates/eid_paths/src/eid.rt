@@ -24,7 +24,8 @@ impl<'a> Model for Eid<'a> {
 
     ghost view = { λ e. levels_in e.text.now };
 
-    ghost invariant = { λ e. (eid_of e.text.now ≡ Ok (levels_in e.text.now)) × (e.len ≡ length (levels_in e.text.now)) };
+    ghost invariant = { λ e. (eid_of e.text.now ≡ Ok (levels_in e.text.now))
+        × (e.len ≡ length (levels_in e.text.now)) };
 }
 
 impl Eid<'_> {

@@ -11,7 +11,8 @@ use std::alloc::Global;
 
 // Adds a level: the word of its element, `_` and its num.
 fn push_level(eid: &mut String, level: &Level) -> Result<(), Memory>
-    ensures text { OnOk result (string_bytes eid.new ≡ string_bytes eid.old ++ level_text level.now.element level.now.num) }
+    ensures text { OnOk result
+        (string_bytes eid.new ≡ string_bytes eid.old ++ level_text level.now.element level.now.num) }
     ensures num { IsTrue (is_num level.now.num) }
 {
     let num = level.num.spelled();

@@ -33,7 +33,8 @@ IsDate (Full day) = IsDay day
 
 -- how a date is spelled: the four digits of the year, or the day
 unfoldable pub spelled_date : IriDate → List ℕ
-spelled_date (Year year) = last_digit (year / 1000) ∷ last_digit (year / 100) ∷ last_digit (year / 10) ∷ last_digit year ∷ []
+spelled_date (Year year) =
+    last_digit (year / 1000) ∷ last_digit (year / 100) ∷ last_digit (year / 10) ∷ last_digit year ∷ []
 spelled_date (Full day) = day_text day
 
 -- the day that stands for a date: 1 January of a year

@@ -16,7 +16,8 @@ behind_part left = after_first is_slash left
 
 -- what stands behind the next `/`, if one comes
 unfoldable pub behind_slash : List ℕ → Option (List ℕ)
-behind_slash left = if nat_lt (position_or_len is_slash left) (length left) then Some (after_first is_slash left) else None
+behind_slash left =
+    if nat_lt (position_or_len is_slash left) (length left) then Some (after_first is_slash left) else None
 
 -- what stands behind some bytes, where the text begins with them
 unfoldable pub after_front : List ℕ → List ℕ → Option (List ℕ)

@@ -18,7 +18,8 @@ is_portion_byte byte = is_ascii_alphanumeric byte || byte == 45 || byte == 95
 -- a subdivision of a country: nothing, or `-` and 1 to 8 lower-case letters or digits
 unfoldable pub is_subdivision : List ℕ → Bool
 is_subdivision [] = true
-is_subdivision (dash ∷ rest) = dash == 45 && nat_le 1 (length rest) && nat_le (length rest) 8 && list_all is_lowercase_or_digit rest
+is_subdivision (dash ∷ rest) =
+    dash == 45 && nat_le 1 (length rest) && nat_le (length rest) 8 && list_all is_lowercase_or_digit rest
 
 -- a jurisdiction: two lower-case letters, and perhaps a subdivision
 unfoldable pub is_jurisdiction : List ℕ → Bool

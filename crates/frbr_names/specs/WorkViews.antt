@@ -5,7 +5,8 @@ use Rattle.frbr_names.specs.declared.work_reading.Front.{Front as ReadFront}
 
 -- the IRI of a work as what it says
 abbrev pub work_view : WorkIri → Work
-work_view iri = record { text = iri.text.now; jurisdiction = iri.jurisdiction.now; date = iri.date; number = iri.number.now }
+work_view iri =
+    record { text = iri.text.now; jurisdiction = iri.jurisdiction.now; date = iri.date; number = iri.number.now }
 
 -- the front of a name as what it says
 abbrev pub front_view : ReadFront → Front

@@ -85,7 +85,8 @@ work_text parts = front_text parts.jurisdiction parts.words parts.date ++ parts.
 
 -- what the IRI of a work says that is spelled of these parts
 abbrev pub work_from : WorkParts → Work
-work_from parts = record { text = work_text parts; jurisdiction = parts.jurisdiction; date = parts.date; number = parts.number }
+work_from parts =
+    record { text = work_text parts; jurisdiction = parts.jurisdiction; date = parts.date; number = parts.number }
 
 -- a text spells the IRI of a work that says this, in parts that keep their rules
 pub record SpellsWork (text : List ℕ) (work : Work) : Type 0 where

@@ -36,7 +36,8 @@ fn push_version(text: &mut String, alloc: Global, version: Option<Day>) -> Resul
 }
 
 fn push_portion(text: &mut String, portion: Option<&str>) -> Result<(), Memory>
-    ensures { OnOk result (string_bytes text.new ≡ string_bytes text.old ++ spec.portion_text (option_copied portion.entry)) }
+    ensures { OnOk result
+        (string_bytes text.new ≡ string_bytes text.old ++ spec.portion_text (option_copied portion.entry)) }
 {
     if let Some(portion) = portion {
         text.push_str("/~")?;

@@ -16,5 +16,6 @@ pub struct WorkIri<'a> {
     pub date: IriDate,
     /// The number.
     pub number: &'a str,
-    pub ghost is_read: { work_of text.now ≡ Ok (record { text = text.now; jurisdiction = jurisdiction.now; date = date; number = number.now }) },
+    pub ghost is_read: { work_of text.now
+        ≡ Ok (record { text = text.now; jurisdiction = jurisdiction.now; date = date; number = number.now }) },
 }

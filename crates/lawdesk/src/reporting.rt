@@ -32,7 +32,8 @@ fn line(mut bytes: Vec<u8>) -> Result<Vec<u8>, Memory>
 
 // The report of an answer, or of the rule that a question breaks.
 fn report_answer(alloc: Global, told: Result<Answer, AskFault>) -> Result<Report, Memory>
-    ensures { (answer : Result Answer QueryRule) → Answers told answer → IfOk result (λ report. report_view report ≡ told_answer answer) }
+    ensures { (answer : Result Answer QueryRule) → Answers told answer
+        → IfOk result (λ report. report_view report ≡ told_answer answer) }
 {
     match told {
         Ok(answer) => Ok(Report {

@@ -24,10 +24,12 @@ fn perform<S: Source, W: Sink, L: Ledger>(
     sink: &mut W,
     steps: &mut Steps<L>,
 ) -> Result<u8, Stop>
-    ensures told { IfOk result (IsTold job (S.left source.old) (S.left source.new) (W.written sink.old) (W.written sink.new)) }
+    ensures told { IfOk result
+        (IsTold job (S.left source.old) (S.left source.new) (W.written sink.old) (W.written sink.new)) }
     ensures source { result ≡ Err Stop.Source → Rose (S.faults source.old) (S.faults source.new) }
     ensures sink { result ≡ Err Stop.Sink → Rose (W.faults sink.old) (W.faults sink.new) }
-    ensures cut { result ≡ Err Stop.Sink → IsCut job (S.left source.old) (S.left source.new) (W.written sink.old) (W.written sink.new) }
+    ensures cut { result ≡ Err Stop.Sink
+        → IsCut job (S.left source.old) (S.left source.new) (W.written sink.old) (W.written sink.new) }
     ensures unwritten { IfErr result (λ stop. stop ≢ Stop.Sink → sink.new ≡ sink.old) }
     ensures source_stays { result ≢ Err Stop.Source → S.faults source.new ≡ S.faults source.old }
     ensures sink_stays { result ≢ Err Stop.Sink → W.faults sink.new ≡ W.faults sink.old }

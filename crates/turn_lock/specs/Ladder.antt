@@ -75,7 +75,8 @@ module _ {T I : Type 0} where
 
 module _ {T I : Type 0} (history : T → List I) (origin : T → List ℕ) where
   -- the value is at home, with the history and the origin that it has to have, and out with no pass
-  pub record IsAtHome (first : T) (past : List I) (homes : List (maybe.Option (Option T))) (views : List (View I)) : Type 0 where
+  pub record IsAtHome (first : T) (past : List I) (homes : List (maybe.Option (Option T)))
+      (views : List (View I)) : Type 0 where
     pub value : T
     pub home : homes ≡ some (Some value) ∷ []
     pub has_history : history value ≡ past
@@ -92,8 +93,10 @@ module _ {T I : Type 0} (history : T → List I) (origin : T → List ℕ) where
     pub few : opening.callers ≤ MOST_CALLERS
     pub shares : sum_by (λ v. v.share) s.views ≡ opening.callers
     pub grown : length (history opening.value.value) + sum_by (λ v. v.made) s.views ≡ length past
-    pub known : (seat : ℕ) (v : View I) → get_elem? s.views seat ≡ some v → Knows past served next (origin opening.value.value) (length (history opening.value.value)) v
-    pub apart : (one other ticket : ℕ) (v w : View I) → get_elem? s.views one ≡ some v → get_elem? s.views other ≡ some w → HasTicket ticket v.stage → HasTicket ticket w.stage → one ≡ other
+    pub known : (seat : ℕ) (v : View I) → get_elem? s.views seat ≡ some v
+        → Knows past served next (origin opening.value.value) (length (history opening.value.value)) v
+    pub apart : (one other ticket : ℕ) (v w : View I) → get_elem? s.views one ≡ some v
+        → get_elem? s.views other ≡ some w → HasTicket ticket v.stage → HasTicket ticket w.stage → one ≡ other
     pub place : IsAtHome opening.value.value past s.homes s.views ⊎ IsAway s.homes s.views
 
   -- the first pass stands for all callers, and has seen all entries of the value
@@ -122,7 +125,8 @@ module _ {I : Type 0} where
 
   -- and the new one has seen the same, and has made nothing
   abbrev pub given : ℕ → View I → View I
-  given portion v = record { stage = Between; seen = v.seen; share = portion; made = 0; origin = v.origin; start = v.start }
+  given portion v =
+      record { stage = Between; seen = v.seen; share = portion; made = 0; origin = v.origin; start = v.start }
 
   -- 2 join: shares and what was made add up, and the other view is spent
   abbrev pub merged : View I → View I → View I
@@ -134,7 +138,8 @@ module _ {I : Type 0} where
 
   -- the view in which the history is another, and has grown
   abbrev pub extended : View I → ℕ → List I → List I → View I
-  extended v ticket before after = record v { stage = Holding ticket after; made = v.made + (length after - length before) }
+  extended v ticket before after =
+      record v { stage = Holding ticket after; made = v.made + (length after - length before) }
 
   -- the view that has seen this history
   abbrev pub shown : View I → List I → View I
@@ -150,32 +155,38 @@ At T = Step (Option T)
 module _ {T I : Type 0} where
   -- its end: the longer of both lists stays, and begins with the other. No share passes the most callers
   abbrev pub compares : At T → Sat T I → ℕ → Sat T I → Type 0
-  compares st m found m' = (told : List I) → m.0.stage ≡ Joined told → (m' ≡ (compared m.0 told, m.1)) × (m.0.share ≤ MOST_CALLERS)
+  compares st m found m' = (told : List I) → m.0.stage ≡ Joined told
+      → (m' ≡ (compared m.0 told, m.1)) × (m.0.share ≤ MOST_CALLERS)
       × IsPrefix m.0.seen (longer m.0.seen told) × IsPrefix told (longer m.0.seen told)
 
   -- 3 draw: the number found is the ticket
   abbrev pub draws : At T → Sat T I → ℕ → Sat T I → Type 0
-  draws st m found m' = m.0.stage ≡ Between → (ticket : ℕ) × (found ≡ ticket % 2 ^ 64) × (m' ≡ (staged m.0 (Waiting ticket), m.1))
+  draws st m found m' = m.0.stage ≡ Between
+      → (ticket : ℕ) × (found ≡ ticket % 2 ^ 64) × (m' ≡ (staged m.0 (Waiting ticket), m.1))
 
   -- 4 read: where the number found is the ticket, the pass has the turn, and knows the history, which begins with all that it has seen
   abbrev pub reads : At T → Sat T I → ℕ → Sat T I → Type 0
   reads st m found m' = (ticket : ℕ) → m.0.stage ≡ Waiting ticket
-      → (found ≡ ticket % 2 ^ 64 → (past : List I) × IsPrefix m.0.seen past × (m' ≡ (staged m.0 (Serving ticket past), m.1)))
+      → (found ≡ ticket % 2 ^ 64
+      → (past : List I) × IsPrefix m.0.seen past × (m' ≡ (staged m.0 (Serving ticket past), m.1)))
       × (found ≢ ticket % 2 ^ 64 → m' ≡ m)
 
   -- 5 take out: the value is the pass's, with that history and the origin
   abbrev pub takes_out : (T → List I) → (T → List ℕ) → At T → Sat T I → ℕ → Sat T I → Type 0
   takes_out history origin st m found m' = (ticket : ℕ) (past : List I) → m.0.stage ≡ Serving ticket past
-      → (value : T) × (history value ≡ past) × (origin value ≡ m.0.origin) × (m' ≡ (staged m.0 (Holding ticket past), (0, Some value) ∷ m.1))
+      → (value : T) × (history value ≡ past) × (origin value ≡ m.0.origin)
+      × (m' ≡ (staged m.0 (Holding ticket past), (0, Some value) ∷ m.1))
 
   -- 6 length: the history is that of the value to be left, and what it grew by was made
   abbrev pub notes_length : (T → List I) → At T → Sat T I → ℕ → Sat T I → Type 0
-  notes_length history st m found m' = (ticket : ℕ) (past : List I) (value : T) → m.0.stage ≡ Holding ticket past → m.1 ≡ (0, Some value) ∷ []
+  notes_length history st m found m' = (ticket : ℕ) (past : List I) (value : T) → m.0.stage ≡ Holding ticket past
+      → m.1 ≡ (0, Some value) ∷ []
       → m' ≡ (extended m.0 ticket past (history value), m.1)
 
   -- 7 put home: the value is at home
   abbrev pub puts_home : At T → Sat T I → ℕ → Sat T I → Type 0
-  puts_home st m found m' = (ticket : ℕ) (past : List I) → m.0.stage ≡ Holding ticket past → m' ≡ (staged m.0 (Serving ticket past), rest m.1)
+  puts_home st m found m' = (ticket : ℕ) (past : List I) → m.0.stage ≡ Holding ticket past
+      → m' ≡ (staged m.0 (Serving ticket past), rest m.1)
 
   -- 8 pass on: the history has been seen, and the ticket is given up
   abbrev pub passes_on : At T → Sat T I → ℕ → Sat T I → Type 0

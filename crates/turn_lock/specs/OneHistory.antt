@@ -11,7 +11,8 @@ use Rattle.turn_lock.specs.Ladder.{HasTurn, IsKept}
 module _ {T I : Type 0} (history : T → List I) (origin : T → List ℕ) where
   -- where the rule holds, these are the views of two seats
   abbrev pub OfTwo : (ℕ → ℕ → View I → View I → Type 0) → Type 0
-  OfTwo holds = (opening : Opening T) (s : State (Option T) (View I)) (one other : ℕ) (v w : View I) → IsKept history origin opening s
+  OfTwo holds = (opening : Opening T) (s : State (Option T) (View I)) (one other : ℕ) (v w : View I)
+      → IsKept history origin opening s
       → get_elem? s.views one ≡ some v → get_elem? s.views other ≡ some w → holds one other v w
 
   -- of two passes that have the turn one is the other

@@ -53,7 +53,8 @@ module _ {T I : Type 0} (history : T → List I) (origin : T → List ℕ) where
     -- a closure may be called at whatever is found in a turn, and only appends
     abbrev pub MayAct : Pass T I → Type 0
     MayAct pass = (found : T) → Finds pass found
-        → FnOnceTakesAtMut calls act found × ((r : R) (left : T) → FnOnceReturnsAtMut calls act found r left → OnlyAppends found left)
+        → FnOnceTakesAtMut calls act found
+        × ((r : R) (left : T) → FnOnceReturnsAtMut calls act found r left → OnlyAppends found left)
 
     -- a turn was taken: the closure was called at what was found, and what it left has been seen
     pub record TookTurn (before : Pass T I) (result : R) (after : Pass T I) : Type 0 where
