@@ -78,3 +78,23 @@ pub record LeavesOnly (P : List ℕ → Type 0) (old new : Outlook) : Type 0 whe
   pub since : (c : List ℕ) → new.left_since old.moment c → P c
   -- for a run that began earlier
   pub before : (t : ℕ) (c : List ℕ) → t ≤ old.moment → new.left_since t c → old.left_since t c ⊎ P c
+
+-- what the calls of a disk that tells come to: its length, a write, a cut, and a sync
+abbrev pub IsLengthOf : Outlook → ℕ → Type 0
+IsLengthOf o n = o.tells → n ≡ length o.seen
+
+abbrev pub Writes : ℕ → List ℕ → Outlook → Outlook → Type 0
+Writes place bytes old new = old.tells → new.seen ≡ overwritten place bytes old.seen
+
+abbrev pub CutsTo : ℕ → Outlook → Outlook → Type 0
+CutsTo len old new = old.tells → new.seen ≡ take len old.seen
+
+abbrev pub IsSynced : Outlook → Outlook → Type 0
+IsSynced old new = old.tells → Only new.seen new.may_leave
+
+-- a crash at any moment of a write, or of a cut, leaves the file torn, or cut in part
+abbrev pub LeavesTorn : ℕ → ℕ → Outlook → Outlook → Type 0
+LeavesTorn place n old new = old.tells → LeavesOnly (Torn place n old.seen) old new
+
+abbrev pub LeavesCut : ℕ → Outlook → Outlook → Type 0
+LeavesCut len old new = old.tells → LeavesOnly (Cut len old.seen) old new

@@ -44,7 +44,8 @@ payload_at place n rest = if nat_lt n (length rest) then holds (take n rest) (dr
 
 -- a length that begins at a place has to be there whole and be in range
 abbrev pub length_at : ℕ → List ℕ → Step
-length_at place (a ∷ b ∷ c ∷ d ∷ rest) = if is_size (number_of a b c d) then payload_at (place + 4) (number_of a b c d) rest
+length_at place (a ∷ b ∷ c ∷ d ∷ rest) = if is_size (number_of a b c d)
+    then payload_at (place + 4) (number_of a b c d) rest
     else breaks (record { place = place; byte = Some a })
 length_at place rest = breaks (record { place = place + length rest; byte = None })
 
@@ -104,7 +105,7 @@ abbrev pub end_of : Listing → Option ℕ
 end_of (Ok payloads) = Some (8 + records_size payloads)
 end_of (Err damage) = None
 
--- the number of the gate at a place, which is how many of the payloads stand before it, where the first gate is at `from`
+-- the number of the gate at a place, which is how many of the payloads stand before it; the first gate is at `from`
 abbrev pub gate_number : ℕ → List (List ℕ) → ℕ → Option ℕ
 gate_number from [] place = if place == from then Some 0 else None
 gate_number from (payload ∷ payloads) place = if place == from then Some 0

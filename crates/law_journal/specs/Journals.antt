@@ -1,8 +1,8 @@
 -- The state of a journal, and what its calls promise.
-use Rattle.std.specs.Prelude.{ℕ, suc, ◌≡◌, ◌≢◌, ◌⊎◌, ◌+◌, ◌^◌, ◌<◌, ◌≤◌, Bool, true, false, not, ◌&&◌, ◌==◌, is_none, get_or, List, [], ◌∷◌, ◌++◌, length, All, slice_get, Option, Some, None, Result, Ok, Err, IsTrue, Vec}
+use Rattle.std.specs.Prelude.{ℕ, suc, ◌≡◌, ◌≢◌, ◌⊎◌, ◌+◌, ◌^◌, ◌<◌, ◌≤◌, Bool, true, false, not, ◌&&◌, ◌==◌, is_none, get_or, List, [], ◌∷◌, ◌++◌, length, take, drop, All, slice_get, Option, Some, None, Result, Ok, Err, IsTrue, Vec}
 use Rattle.std.specs.declared.alloc.Global.{Global}
 use Rattle.desk_base.specs.Streams.{Rose}
-use Rattle.law_journal.specs.Disks.{Outlook, Only}
+use Rattle.law_journal.specs.Disks.{Outlook, Only, LeavesOnly}
 use Rattle.law_journal.specs.Grammar.{Step, ends, holds, breaks, Listing, magic, is_size, records_size, gate_number, gate_in, step_at, step_list, list_from, with_first, with_last, magic_fault, list_of, frame_of, payload_of}
 use Rattle.desk_base.specs.declared.load_fault.LoadFault.{LoadFault}
 use Rattle.desk_base.specs.declared.load_fault.LoadFault.TheVariants.{Failed, Damaged, Memory}
@@ -38,8 +38,8 @@ pub record Rests (o : Outlook) (gate : ℕ) : Type 0 where
   pub journal : IsJournal o.seen gate (shut ∷ [])
   pub durable : Only o.seen o.may_leave
 
--- what holds of a journal that is ready: it has a list of payloads of 1 to 16,777,216 bytes each, which begins at the gate
--- at place 8 and ends at this one, and a crash leaves the file as it is
+-- what holds of a journal that is ready: it has a list of payloads of 1 to 16,777,216 bytes each, which begins at the
+-- gate at place 8 and ends at this one, and a crash leaves the file as it is
 pub record HasList (o : Outlook) (gate : ℕ) : Type 0 where
   pub bound : gate + 1 < 2 ^ 63
   pub payloads : List (List ℕ)
@@ -114,7 +114,8 @@ is_started bytes = (length bytes == 9) && (is_none (magic_fault 0 magic bytes) &
 -- what is read at a gate is what stands there
 abbrev pub GivesEntry : ℕ → Step → Result (Option (Vec ℕ Global × ℕ)) LoadFault → Type 0
 GivesEntry place step (Ok None) = step ≡ ends
-GivesEntry place step (Ok (Some entry)) = ((rest : List ℕ) × (step ≡ holds entry.0.items rest)) × (entry.1 ≡ place + 5 + length entry.0.items)
+GivesEntry place step (Ok (Some entry)) = ((rest : List ℕ) × (step ≡ holds entry.0.items rest))
+    × (entry.1 ≡ place + 5 + length entry.0.items)
 GivesEntry place step (Err Failed) = Unit {0}
 GivesEntry place step (Err (Damaged at byte)) = step ≡ breaks (record { place = at; byte = byte })
 GivesEntry place step (Err Memory) = Unit {0}
@@ -122,7 +123,8 @@ GivesEntry place step (Err Memory) = Unit {0}
 -- what is read at the gate behind so many payloads: the next payload and the gate behind it, or the end of the list
 abbrev pub GivesNth : List (List ℕ) → ℕ → Result (Option (Vec ℕ Global × ℕ)) LoadFault → Type 0
 GivesNth payloads n (Ok None) = n ≡ length payloads
-GivesNth payloads n (Ok (Some entry)) = (slice_get payloads n ≡ Some entry.0.items) × (gate_number 8 payloads entry.1 ≡ Some (n + 1))
+GivesNth payloads n (Ok (Some entry)) = (slice_get payloads n ≡ Some entry.0.items)
+    × (gate_number 8 payloads entry.1 ≡ Some (n + 1))
 GivesNth payloads n (Err Failed) = Unit {0}
 GivesNth payloads n (Err (Damaged place byte)) = ⊥
 GivesNth payloads n (Err Memory) = Unit {0}
@@ -149,3 +151,44 @@ stays_ready (Ok value) = true
 stays_ready (Err Failed) = false
 stays_ready (Err (Damaged place byte)) = false
 stays_ready (Err Memory) = true
+
+-- what a disk that tells shows of a journal: the list up to its closed gate, and its damage
+abbrev pub IsListed : Outlook → ℕ → Type 0
+IsListed o gate = o.tells → HasList o gate
+
+abbrev pub TellsDamage : Outlook → LoadFault → Type 0
+TellsDamage o fault = o.tells → Tells (list_of o.seen) fault
+
+-- what is found at a place, read as an entry, and read as its payload
+abbrev pub FindsAt : Outlook → ℕ → Found → Type 0
+FindsAt o place found = o.tells → found ≡ found_of (step_at place (drop place o.seen))
+
+abbrev pub ReadsEntry : Outlook → ℕ → Result (Option (Vec ℕ Global × ℕ)) LoadFault → Type 0
+ReadsEntry o place result = o.tells → GivesEntry place (step_at place (drop place o.seen)) result
+
+abbrev pub ReadsBytes : Outlook → ℕ → ℕ → Vec ℕ Global → Type 0
+ReadsBytes o place size payload = o.tells → payload.items ≡ take size (drop place o.seen)
+
+-- the list stays, has one payload more, or either; its gates stay
+abbrev pub ListStays : Outlook → Outlook → Type 0
+ListStays old new = old.tells → IsSameList old.seen new.seen
+
+abbrev pub AddsPayload : List ℕ → Outlook → Outlook → Type 0
+AddsPayload payload old new = old.tells → list_of new.seen ≡ with_last payload (list_of old.seen)
+
+abbrev pub MayAddPayload : List ℕ → Outlook → Outlook → Type 0
+MayAddPayload payload old new = old.tells → IsBeforeOrAfter old.seen payload new.seen
+
+abbrev pub GatesStay : Outlook → Outlook → Type 0
+GatesStay old new = old.tells → KeepsGates (list_of old.seen) (list_of new.seen)
+
+-- a crash at any moment leaves the list; a file that could be left before, or the list; the list without a payload, or
+-- with it
+abbrev pub LeavesSame : Outlook → Outlook → Type 0
+LeavesSame old new = old.tells → LeavesOnly (IsSameList old.seen) old new
+
+abbrev pub LeavesOldOrSame : Outlook → Outlook → Type 0
+LeavesOldOrSame old new = old.tells → LeavesOnly (IsOldOrSame old) old new
+
+abbrev pub LeavesOneOfTwo : List ℕ → Outlook → Outlook → Type 0
+LeavesOneOfTwo payload old new = old.tells → LeavesOnly (IsBeforeOrAfter old.seen payload) old new

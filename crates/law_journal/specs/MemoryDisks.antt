@@ -9,7 +9,8 @@ pub record Past : Type 0 where
   pub change : Change
   pub before : List ℕ
 
--- bytes with their changes: those as last synced, the changes since then, and how many bytes and changes there is room for
+-- bytes with their changes: those as last synced, the changes since then, and for how many bytes and changes there is
+-- room
 pub record HeldBytes : Type 0 where
   pub bytes : List ℕ
   pub pasts : List Past
@@ -44,14 +45,29 @@ after_change (change.Cut n) new h = record {
   room = h.room;
   left = h.left;
 }
-after_change change.Sync new h = record { bytes = h.bytes; pasts = with_past change.Sync h; synced = h.bytes; waiting = []; room = h.room; left = h.left }
+after_change change.Sync new h = record {
+  bytes = h.bytes;
+  pasts = with_past change.Sync h;
+  synced = h.bytes;
+  waiting = [];
+  room = h.room;
+  left = h.left;
+}
 
 -- with this room
 abbrev pub with_room : ℕ → ℕ → HeldBytes → HeldBytes
-with_room room left h = record { bytes = h.bytes; pasts = h.pasts; synced = h.synced; waiting = h.waiting; room = room; left = left }
+with_room room left h = record {
+  bytes = h.bytes;
+  pasts = h.pasts;
+  synced = h.synced;
+  waiting = h.waiting;
+  room = room;
+  left = left;
+}
 
 abbrev pub after_write : ℕ → List ℕ → HeldBytes → HeldBytes
-after_write place new h = with_room (h.room - length new) (h.left - 1) (after_change (change.Write place (length new)) new h)
+after_write place new h =
+    with_room (h.room - length new) (h.left - 1) (after_change (change.Write place (length new)) new h)
 
 abbrev pub after_cut : ℕ → HeldBytes → HeldBytes
 after_cut len h = with_room h.room (h.left - 1) (after_change (change.Cut len) [] h)
@@ -72,7 +88,12 @@ total (done ∷ later) = count_of done + total later
 -- after changes, of which each takes what it wrote from the front of these bytes
 abbrev pub after_changes : HeldBytes → List ℕ → List Change → HeldBytes
 after_changes h written [] = h
-after_changes h written (done ∷ later) = after_changes (after_change done (take (count_of done) written) h) (drop (count_of done) written) later
+after_changes h written (done ∷ later) =
+    after_changes (after_change done (take (count_of done) written) h) (drop (count_of done) written) later
+
+-- what is held after changes of synced bytes, with no room
+abbrev pub held : List ℕ → List ℕ → List Change → HeldBytes
+held first written changes = after_changes (begun first 0 0) written changes
 
 -- whether a write began within the bytes
 abbrev pub begins_within : Change → List ℕ → Bool
@@ -83,7 +104,8 @@ begins_within change.Sync bytes = true
 -- whether each of the changes did
 abbrev pub all_within : HeldBytes → List ℕ → List Change → Bool
 all_within h written [] = true
-all_within h written (done ∷ later) = begins_within done h.bytes && all_within (after_change done (take (count_of done) written) h) (drop (count_of done) written) later
+all_within h written (done ∷ later) = begins_within done h.bytes
+    && all_within (after_change done (take (count_of done) written) h) (drop (count_of done) written) later
 
 -- so many bytes from a place on, as many as there are, turned into one
 abbrev pub painted : ℕ → ℕ → ℕ → List ℕ → List ℕ
@@ -105,7 +127,9 @@ painted_all pick (done ∷ later) bytes = painted_all pick later (painted_by pic
 -- for 0 the bytes as last synced, for 1 the bytes as a read gives them, for any other value these with each byte that
 -- waits for a sync turned into it
 abbrev pub picked : ℕ → List ℕ → List ℕ → List Change → List ℕ
-picked pick synced bytes waiting = if pick == 0 then synced else if pick == 1 then bytes else painted_all pick waiting bytes
+picked pick synced bytes waiting = if pick == 0 then synced
+    else if pick == 1 then bytes
+    else painted_all pick waiting bytes
 
 -- an image to be looked at
 abbrev pub image_of : ℕ → HeldBytes → List ℕ

@@ -1,8 +1,9 @@
 //! Disk: where the journal's file is. A clause sees what is known of it, its outlook, and a count of faults.
 
-ghost use Rattle.std.specs.Prelude.{◌≡◌, ℕ, ◌+◌, ◌^◌, ◌<◌, ◌≤◌, List, length, take, IfOk, OnOk};
+ghost use Rattle.std.specs.Prelude.{ℕ, ◌+◌, ◌^◌, ◌<◌, ◌≤◌, length, IfOk, OnOk};
 ghost use Rattle.desk_base.specs.Streams.{HasCause};
-ghost use Rattle.law_journal.specs.Disks.{Outlook, IsOutlook, Idles, Changes, Torn, Cut, Only, Reads, overwritten};
+ghost use Rattle.law_journal.specs.Disks.{Outlook, IsOutlook, Idles, Changes, Torn, Cut, Reads};
+ghost use Rattle.law_journal.specs.Disks.{IsLengthOf, Writes, CutsTo, IsSynced};
 
 use desk_base::Failed;
 
@@ -17,7 +18,7 @@ pub trait Disk {
 
     /// The length, at most 2^63 - 1.
     fn len(&mut self) -> Result<u64, Failed>
-        ensures length { OnOk result ((outlook self.old).tells → IfOk result (λ n. n ≡ length (outlook self.old).seen)) }
+        ensures length { IfOk result (IsLengthOf (outlook self.old)) }
         ensures bound { IfOk result (λ n. n < 2 ^ 63) }
         ensures idle { Idles (outlook self.old) (outlook self.new) }
         ensures cause { HasCause (faults self.old) (faults self.new) result };
@@ -32,7 +33,7 @@ pub trait Disk {
     /// Writes bytes over what is there, and past the end. A failed call may have done any part of it.
     fn write_at(&mut self, place: u64, bytes: &[u8]) -> Result<(), Failed>
         requires { (outlook self.old).tells → place ≤ length (outlook self.old).seen }
-        ensures written { OnOk result ((outlook self.old).tells → (outlook self.new).seen ≡ overwritten place bytes.now (outlook self.old).seen) }
+        ensures written { OnOk result (Writes place bytes.now (outlook self.old) (outlook self.new)) }
         ensures bound { OnOk result (place + length bytes.now < 2 ^ 63) }
         ensures change { Changes (Torn place (length bytes.now)) (outlook self.old) (outlook self.new) }
         ensures cause { HasCause (faults self.old) (faults self.new) result };
@@ -40,13 +41,13 @@ pub trait Disk {
     /// Cuts the file to a length. A failed call may have done any part of it.
     fn cut(&mut self, len: u64) -> Result<(), Failed>
         requires { (outlook self.old).tells → len ≤ length (outlook self.old).seen }
-        ensures cut { OnOk result ((outlook self.old).tells → (outlook self.new).seen ≡ take len (outlook self.old).seen) }
+        ensures cut { OnOk result (CutsTo len (outlook self.old) (outlook self.new)) }
         ensures change { Changes (Cut len) (outlook self.old) (outlook self.new) }
         ensures cause { HasCause (faults self.old) (faults self.new) result };
 
     /// Once it has succeeded, a crash leaves what a read gives.
     fn sync(&mut self) -> Result<(), Failed>
-        ensures durable { OnOk result ((outlook self.old).tells → Only (outlook self.new).seen (outlook self.new).may_leave) }
+        ensures durable { OnOk result (IsSynced (outlook self.old) (outlook self.new)) }
         ensures idle { Idles (outlook self.old) (outlook self.new) }
         ensures cause { HasCause (faults self.old) (faults self.new) result };
 

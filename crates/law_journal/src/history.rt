@@ -40,13 +40,23 @@ pub struct History {
 
 impl Model for History {
     ghost use Rattle.std.specs.Prelude.{◌≡◌, ◌≤◌, ◌+◌, length, drop, true, vec_capacity};
-    ghost use Rattle.law_journal.specs.MemoryDisks.{HeldBytes, begun, after_changes, all_within, total, with_room};
+    ghost use Rattle.law_journal.specs.MemoryDisks.{HeldBytes, all_within, begun, held, total, with_room};
 
     ghost Value = { HeldBytes };
 
-    ghost view = { λ h. with_room h.room h.left (after_changes (begun h.first.items 0 0) h.written.items h.changes.items) };
+    ghost view = { λ h. with_room h.room h.left (held h.first.items h.written.items h.changes.items) };
 
-    ghost invariant = { λ h. ((after_changes (begun h.first.items 0 0) h.written.items h.changes.items).bytes ≡ h.bytes.items) × ((after_changes (begun h.first.items 0 0) h.written.items h.changes.items).synced ≡ h.synced.items) × ((after_changes (begun h.first.items 0 0) h.written.items h.changes.items).waiting ≡ drop h.settled h.changes.items) × (all_within (begun h.first.items 0 0) h.written.items h.changes.items ≡ true) × (total h.changes.items ≡ length h.written.items) × (h.settled ≤ length h.changes.items) × (length h.bytes.items + h.room ≤ vec_capacity h.bytes) × (length h.bytes.items + h.room ≤ vec_capacity h.synced) × (length h.written.items + h.room ≤ vec_capacity h.written) × (length h.changes.items + h.left ≤ vec_capacity h.changes) };
+    ghost invariant = { λ h.
+        ((held h.first.items h.written.items h.changes.items).bytes ≡ h.bytes.items)
+        × ((held h.first.items h.written.items h.changes.items).synced ≡ h.synced.items)
+        × ((held h.first.items h.written.items h.changes.items).waiting ≡ drop h.settled h.changes.items)
+        × (all_within (begun h.first.items 0 0) h.written.items h.changes.items ≡ true)
+        × (total h.changes.items ≡ length h.written.items)
+        × (h.settled ≤ length h.changes.items)
+        × (length h.bytes.items + h.room ≤ vec_capacity h.bytes)
+        × (length h.bytes.items + h.room ≤ vec_capacity h.synced)
+        × (length h.written.items + h.room ≤ vec_capacity h.written)
+        × (length h.changes.items + h.left ≤ vec_capacity h.changes) };
 }
 
 // Puts bytes behind those that are there, for which there is room.

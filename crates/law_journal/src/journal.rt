@@ -1,13 +1,14 @@
 //! Journal: payloads in a file on a disk. A clause sees the disk's outlook, the place of the closed gate, and whether
 //! the journal is ready.
 
-ghost use Rattle.std.specs.Prelude.{◌≡◌, ◌+◌, ◌≤◌, ◌∷◌, true, false, IsTrue, length, drop, IfOk, IfErr, OnOk, OnErr};
+ghost use Rattle.std.specs.Prelude.{◌≡◌, ◌+◌, ◌≤◌, true, false, IsTrue, length, IfOk, IfErr, OnOk, OnErr};
 ghost use Rattle.desk_base.specs.Streams.{HasCause};
-ghost use Rattle.law_journal.specs.Disks.{Idles, LeavesOnly};
-ghost use Rattle.law_journal.specs.Grammar.{is_size, frame_of, payload_of, step_at, list_of, with_last};
-ghost use Rattle.law_journal.specs.Journals.{GivesEntry, GivesListed, HasList, HasLoadCause, IsBeforeOrAfter, IsFrame, IsLater, IsOldOrSame, IsSameList, KeepsGates, Tells, stays_ready};
-ghost use Rattle.law_journal.specs.States as state;
-ghost use Rattle.law_journal.specs.States.{IsKnown};
+ghost use Rattle.law_journal.specs.Disks.{Idles};
+ghost use Rattle.law_journal.specs.Grammar.{is_size, frame_of, payload_of};
+ghost use Rattle.law_journal.specs.Journals.{AddsPayload, GatesStay, HasLoadCause, IsFrame, IsLater, IsListed, ListStays};
+ghost use Rattle.law_journal.specs.Journals.{GivesListed, LeavesOldOrSame, LeavesOneOfTwo, MayAddPayload, ReadsEntry};
+ghost use Rattle.law_journal.specs.Journals.{TellsDamage, stays_ready};
+ghost use Rattle.law_journal.specs.States.{HasFault, IsKnown};
 
 use crate::Disk;
 use crate::reading::entry_at;
@@ -73,14 +74,14 @@ impl<D: Disk> Journal<D> {
     /// most nine bytes becomes a journal with no payload.
     pub fn open(alloc: Global, disk: D) -> Result<Journal<D>, JournalRefused<D>>
         ensures opened { IfOk result (λ journal. journal.ready ≡ true) }
-        ensures listed { IfOk result (λ journal. (D.outlook journal.disk).tells → HasList (D.outlook journal.disk) journal.gate) }
-        ensures same { (D.outlook disk).tells → IfOk result (λ journal. IsSameList (D.outlook disk).seen (D.outlook journal.disk).seen) }
-        ensures kept { (D.outlook disk).tells → IfErr result (λ refused. IsSameList (D.outlook disk).seen (D.outlook refused.disk).seen) }
-        ensures damaged { (D.outlook disk).tells → IfErr result (λ refused. Tells (list_of (D.outlook disk).seen) refused.fault) }
-        ensures any_moment { (D.outlook disk).tells → IfOk result (λ journal. LeavesOnly (IsOldOrSame (D.outlook disk)) (D.outlook disk) (D.outlook journal.disk)) }
-        ensures any_moment_refused { (D.outlook disk).tells → IfErr result (λ refused. LeavesOnly (IsOldOrSame (D.outlook disk)) (D.outlook disk) (D.outlook refused.disk)) }
+        ensures listed { IfOk result (λ journal. IsListed (D.outlook journal.disk) journal.gate) }
+        ensures same { IfOk result (λ journal. ListStays (D.outlook disk) (D.outlook journal.disk)) }
+        ensures kept { IfErr result (λ refused. ListStays (D.outlook disk) (D.outlook refused.disk)) }
+        ensures damaged { IfErr result (λ refused. TellsDamage (D.outlook disk) refused.fault) }
+        ensures any_moment { IfOk result (λ journal. LeavesOldOrSame (D.outlook disk) (D.outlook journal.disk)) }
+        ensures any_moment_refused { IfErr result (λ refused. LeavesOldOrSame (D.outlook disk) (D.outlook refused.disk)) }
         ensures cause { IfOk result (λ journal. D.faults journal.disk ≡ D.faults disk) }
-        ensures cause_refused { IfErr result (λ refused. state.HasFault (D.faults disk) (D.faults refused.disk) refused.fault) }
+        ensures cause_refused { IfErr result (λ refused. HasFault (D.faults disk) (D.faults refused.disk) refused.fault) }
     {
         let mut journal = Journal::new(alloc, disk);
         match journal.reopen() {
@@ -95,11 +96,11 @@ impl<D: Disk> Journal<D> {
     /// Opens the journal again on the same disk.
     pub fn reopen(&mut self) -> Result<(), LoadFault>
         ensures opened { OnOk result (self.new.ready ≡ true) }
-        ensures listed { IsTrue self.new.ready → (D.outlook self.new.disk).tells → HasList (D.outlook self.new.disk) self.new.gate }
+        ensures listed { IsTrue self.new.ready → IsListed (D.outlook self.new.disk) self.new.gate }
         ensures refused { OnErr result (self.new.ready ≡ false) }
-        ensures same { (D.outlook self.old.disk).tells → IsSameList (D.outlook self.old.disk).seen (D.outlook self.new.disk).seen }
-        ensures damaged { (D.outlook self.old.disk).tells → IfErr result (Tells (list_of (D.outlook self.old.disk).seen)) }
-        ensures any_moment { (D.outlook self.old.disk).tells → LeavesOnly (IsOldOrSame (D.outlook self.old.disk)) (D.outlook self.old.disk) (D.outlook self.new.disk) }
+        ensures same { ListStays (D.outlook self.old.disk) (D.outlook self.new.disk) }
+        ensures damaged { IfErr result (TellsDamage (D.outlook self.old.disk)) }
+        ensures any_moment { LeavesOldOrSame (D.outlook self.old.disk) (D.outlook self.new.disk) }
         ensures tells { (D.outlook self.new.disk).tells → (D.outlook self.old.disk).tells }
         ensures cause { HasLoadCause (D.faults self.old.disk) (D.faults self.new.disk) result }
     {
@@ -114,7 +115,7 @@ impl<D: Disk> Journal<D> {
     /// Whether records can be read and appended. Where they cannot, open the journal again.
     pub fn ready(&self) -> bool
         ensures value { result ≡ self.now.ready }
-        ensures listed { IsTrue result → (D.outlook self.now.disk).tells → HasList (D.outlook self.now.disk) self.now.gate }
+        ensures listed { IsTrue result → IsListed (D.outlook self.now.disk) self.now.gate }
     {
         self.ready
     }
@@ -134,11 +135,11 @@ impl<D: Disk> Journal<D> {
         place: u64,
     ) -> Result<Option<(Vec<u8>, u64)>, LoadFault>
         requires { self.old.ready ≡ true }
-        ensures read { (D.outlook self.old.disk).tells → GivesEntry place (step_at place (drop place (D.outlook self.old.disk).seen)) result }
+        ensures read { ReadsEntry (D.outlook self.old.disk) place result }
         ensures given { (D.outlook self.old.disk).tells → GivesListed (D.outlook self.old.disk).seen place result }
         ensures later { IfOk result (IsLater place) }
         ensures ready { self.new.ready ≡ stays_ready result }
-        ensures listed { IsTrue self.new.ready → (D.outlook self.new.disk).tells → HasList (D.outlook self.new.disk) self.new.gate }
+        ensures listed { IsTrue self.new.ready → IsListed (D.outlook self.new.disk) self.new.gate }
         ensures idle { Idles (D.outlook self.old.disk) (D.outlook self.new.disk) }
         ensures cause { HasLoadCause (D.faults self.old.disk) (D.faults self.new.disk) result }
     {
@@ -160,15 +161,15 @@ impl<D: Disk> Journal<D> {
         requires ready { self.old.ready ≡ true }
         requires frame { IsFrame framed.now }
         ensures ready { OnOk result (self.new.ready ≡ true) }
-        ensures listed { IsTrue self.new.ready → (D.outlook self.new.disk).tells → HasList (D.outlook self.new.disk) self.new.gate }
+        ensures listed { IsTrue self.new.ready → IsListed (D.outlook self.new.disk) self.new.gate }
         ensures refused { OnErr result (self.new.ready ≡ false) }
         ensures place { IfOk result (λ place. place ≡ self.new.gate) }
         ensures first { IfOk result (λ place. 8 ≤ place) }
         ensures gate { OnOk result (self.new.gate ≡ self.old.gate + length framed.now) }
-        ensures added { OnOk result ((D.outlook self.old.disk).tells → list_of (D.outlook self.new.disk).seen ≡ with_last (payload_of framed.now) (list_of (D.outlook self.old.disk).seen)) }
-        ensures left { (D.outlook self.old.disk).tells → IsBeforeOrAfter (D.outlook self.old.disk).seen (payload_of framed.now) (D.outlook self.new.disk).seen }
-        ensures gates { (D.outlook self.old.disk).tells → KeepsGates (list_of (D.outlook self.old.disk).seen) (list_of (D.outlook self.new.disk).seen) }
-        ensures any_moment { (D.outlook self.old.disk).tells → LeavesOnly (IsBeforeOrAfter (D.outlook self.old.disk).seen (payload_of framed.now)) (D.outlook self.old.disk) (D.outlook self.new.disk) }
+        ensures added { OnOk result (AddsPayload (payload_of framed.now) (D.outlook self.old.disk) (D.outlook self.new.disk)) }
+        ensures left { MayAddPayload (payload_of framed.now) (D.outlook self.old.disk) (D.outlook self.new.disk) }
+        ensures gates { GatesStay (D.outlook self.old.disk) (D.outlook self.new.disk) }
+        ensures any_moment { LeavesOneOfTwo (payload_of framed.now) (D.outlook self.old.disk) (D.outlook self.new.disk) }
         ensures tells { (D.outlook self.new.disk).tells → (D.outlook self.old.disk).tells }
         ensures cause { HasCause (D.faults self.old.disk) (D.faults self.new.disk) result }
     {

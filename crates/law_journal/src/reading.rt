@@ -2,8 +2,7 @@
 
 ghost use Rattle.std.specs.Prelude.{◌≡◌, ◌+◌, ◌^◌, ◌<◌, ◌≤◌, take, drop, length, IfOk, IfErr};
 ghost use Rattle.law_journal.specs.Disks.{Idles};
-ghost use Rattle.law_journal.specs.Grammar.{step_at};
-ghost use Rattle.law_journal.specs.Journals.{GivesEntry, HasLoadCause, IsLater, IsNoDamage};
+ghost use Rattle.law_journal.specs.Journals.{HasLoadCause, IsLater, IsNoDamage, ReadsBytes, ReadsEntry};
 ghost use Rattle.law_journal.specs.Windows.{IsWindow};
 
 use crate::Disk;
@@ -24,7 +23,7 @@ fn payload_at<D: Disk>(
     requires window { IsWindow (D.outlook disk.old) window.old }
     requires bound { place + size < 2 ^ 63 }
     requires told { (D.outlook disk.old).tells → place + size < length (D.outlook disk.old).seen }
-    ensures payload { (D.outlook disk.old).tells → IfOk result (λ payload. payload.items ≡ take size (drop place (D.outlook disk.old).seen)) }
+    ensures payload { IfOk result (ReadsBytes (D.outlook disk.old) place size) }
     ensures size { IfOk result (λ payload. length payload.items ≡ size) }
     ensures no_damage { (D.outlook disk.old).tells → IfErr result IsNoDamage }
     ensures window { IsWindow (D.outlook disk.new) window.new }
@@ -54,7 +53,7 @@ pub fn entry_at<D: Disk>(
     requires window { IsWindow (D.outlook disk.old) window.old }
     requires len { len < 2 ^ 63 }
     requires told { (D.outlook disk.old).tells → len ≡ length (D.outlook disk.old).seen }
-    ensures read { (D.outlook disk.old).tells → GivesEntry place (step_at place (drop place (D.outlook disk.old).seen)) result }
+    ensures read { ReadsEntry (D.outlook disk.old) place result }
     ensures later { IfOk result (IsLater place) }
     ensures window { IsWindow (D.outlook disk.new) window.new }
     ensures idle { Idles (D.outlook disk.old) (D.outlook disk.new) }

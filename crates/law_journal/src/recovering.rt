@@ -4,7 +4,8 @@ ghost use Rattle.std.specs.Prelude.{◌≡◌, ◌+◌, ◌^◌, ◌<◌, ◌≤
 ghost use Rattle.desk_base.specs.Streams.{HasCause};
 ghost use Rattle.law_journal.specs.Disks.{LeavesOnly, Only};
 ghost use Rattle.law_journal.specs.Grammar.{list_of};
-ghost use Rattle.law_journal.specs.Journals.{HasLoadCause, HasEnd, IsOldOrSame, IsSameList, IsShort, Rests, Tells, is_started as started};
+ghost use Rattle.law_journal.specs.Journals.{HasEnd, HasLoadCause, IsSameList, IsShort, LeavesOldOrSame, LeavesSame};
+ghost use Rattle.law_journal.specs.Journals.{Rests, Tells, is_started as started};
 ghost use Rattle.law_journal.specs.Windows.{IsWindow};
 
 use crate::Disk;
@@ -47,7 +48,7 @@ fn cut_behind<D: Disk>(disk: &mut D, window: &mut Window, gate: u64, len: u64) -
     requires end { (D.outlook disk.old).tells → HasEnd (D.outlook disk.old).seen gate }
     requires durable { (D.outlook disk.old).tells → Only (D.outlook disk.old).seen (D.outlook disk.old).may_leave }
     ensures rests { OnOk result ((D.outlook disk.old).tells → Rests (D.outlook disk.new) gate) }
-    ensures any_moment { (D.outlook disk.old).tells → LeavesOnly (IsSameList (D.outlook disk.old).seen) (D.outlook disk.old) (D.outlook disk.new) }
+    ensures any_moment { LeavesSame (D.outlook disk.old) (D.outlook disk.new) }
     ensures window { OnOk result (IsWindow (D.outlook disk.new) window.new) }
     ensures tells { (D.outlook disk.new).tells → (D.outlook disk.old).tells }
     ensures cause { HasCause (D.faults disk.old) (D.faults disk.new) result }
@@ -70,7 +71,7 @@ fn settle_long<D: Disk>(disk: &mut D, window: &mut Window, len: u64) -> Result<u
     ensures damaged { (D.outlook disk.old).tells → IfErr result (Tells (list_of (D.outlook disk.old).seen)) }
     ensures first { IfOk result (λ gate. 8 ≤ gate) }
     ensures bound { IfOk result (λ gate. gate + 1 < 2 ^ 63) }
-    ensures any_moment { (D.outlook disk.old).tells → LeavesOnly (IsSameList (D.outlook disk.old).seen) (D.outlook disk.old) (D.outlook disk.new) }
+    ensures any_moment { LeavesSame (D.outlook disk.old) (D.outlook disk.new) }
     ensures window { OnOk result (IsWindow (D.outlook disk.new) window.new) }
     ensures tells { (D.outlook disk.new).tells → (D.outlook disk.old).tells }
     ensures cause { HasLoadCause (D.faults disk.old) (D.faults disk.new) result }
@@ -89,7 +90,7 @@ fn settle<D: Disk>(disk: &mut D, window: &mut Window) -> Result<u64, LoadFault>
     ensures damaged { (D.outlook disk.old).tells → IfErr result (Tells (list_of (D.outlook disk.old).seen)) }
     ensures first { IfOk result (λ gate. 8 ≤ gate) }
     ensures bound { IfOk result (λ gate. gate + 1 < 2 ^ 63) }
-    ensures any_moment { (D.outlook disk.old).tells → LeavesOnly (IsSameList (D.outlook disk.old).seen) (D.outlook disk.old) (D.outlook disk.new) }
+    ensures any_moment { LeavesSame (D.outlook disk.old) (D.outlook disk.new) }
     ensures window { OnOk result (IsWindow (D.outlook disk.new) window.new) }
     ensures tells { (D.outlook disk.new).tells → (D.outlook disk.old).tells }
     ensures cause { HasLoadCause (D.faults disk.old) (D.faults disk.new) result }
@@ -110,7 +111,7 @@ pub fn recover<D: Disk>(disk: &mut D, window: &mut Window) -> Result<u64, LoadFa
     ensures damaged { (D.outlook disk.old).tells → IfErr result (Tells (list_of (D.outlook disk.old).seen)) }
     ensures first { IfOk result (λ gate. 8 ≤ gate) }
     ensures bound { IfOk result (λ gate. gate + 1 < 2 ^ 63) }
-    ensures any_moment { (D.outlook disk.old).tells → LeavesOnly (IsOldOrSame (D.outlook disk.old)) (D.outlook disk.old) (D.outlook disk.new) }
+    ensures any_moment { LeavesOldOrSame (D.outlook disk.old) (D.outlook disk.new) }
     ensures window { OnOk result (IsWindow (D.outlook disk.new) window.new) }
     ensures tells { (D.outlook disk.new).tells → (D.outlook disk.old).tells }
     ensures cause { HasLoadCause (D.faults disk.old) (D.faults disk.new) result }

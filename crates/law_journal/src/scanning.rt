@@ -3,8 +3,8 @@
 ghost use Rattle.std.specs.Prelude.{◌≡◌, ◌+◌, ◌^◌, ◌<◌, ◌≤◌, Some, [], take, drop, length, IfOk, OnOk, IfErr};
 ghost use Rattle.desk_base.specs.Streams.{HasCause};
 ghost use Rattle.law_journal.specs.Disks.{Idles};
-ghost use Rattle.law_journal.specs.Grammar.{magic, magic_fault, step_at, list_of};
-ghost use Rattle.law_journal.specs.Journals.{HasLoadCause, HasEnd, Tells, FitsIn, found_of};
+ghost use Rattle.law_journal.specs.Grammar.{magic, magic_fault, list_of};
+ghost use Rattle.law_journal.specs.Journals.{FindsAt, FitsIn, HasEnd, HasLoadCause, Tells};
 ghost use Rattle.law_journal.specs.Windows.{IsWindow};
 
 use crate::Disk;
@@ -63,7 +63,7 @@ pub fn step<D: Disk>(
     requires place { place < len }
     requires len { len < 2 ^ 63 }
     requires told { (D.outlook disk.old).tells → len ≡ length (D.outlook disk.old).seen }
-    ensures found { (D.outlook disk.old).tells → IfOk result (λ found. found ≡ found_of (step_at place (drop place (D.outlook disk.old).seen))) }
+    ensures found { IfOk result (FindsAt (D.outlook disk.old) place) }
     ensures fits { IfOk result (FitsIn place len) }
     ensures window { IsWindow (D.outlook disk.new) window.new }
     ensures idle { Idles (D.outlook disk.old) (D.outlook disk.new) }

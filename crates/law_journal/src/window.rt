@@ -91,7 +91,7 @@ impl Window {
         ensures window { IsWindow (D.outlook disk.new) self.new }
         ensures start { OnOk result (self.new.start ≡ place) }
         ensures size { length self.new.bytes.items ≡ length self.old.bytes.items }
-        ensures held { OnOk result ((D.outlook disk.old).tells → self.new.held ≡ min (length self.old.bytes.items) (length (D.outlook disk.old).seen - place)) }
+        ensures held { OnOk result (spec.IsFilled (D.outlook disk.old) place (length self.old.bytes.items) self.new.held) }
         ensures idle { Idles (D.outlook disk.old) (D.outlook disk.new) }
         ensures cause { HasCause (D.faults disk.old) (D.faults disk.new) result }
     {

@@ -2,9 +2,9 @@
 
 ghost use Rattle.std.specs.Prelude.{◌≡◌, ◌+◌, ◌^◌, ◌<◌, ◌≤◌, [], ◌∷◌, ◌++◌, Some, take, length, IfOk, OnOk};
 ghost use Rattle.desk_base.specs.Streams.{HasCause};
-ghost use Rattle.law_journal.specs.Disks.{LeavesOnly, Only, Torn, Cut, overwritten};
-ghost use Rattle.law_journal.specs.Grammar.{magic, payload_of, list_of, with_last};
-ghost use Rattle.law_journal.specs.Journals.{IsBeforeOrAfter, IsFrame, IsShort, Rests};
+ghost use Rattle.law_journal.specs.Disks.{CutsTo, IsSynced, LeavesCut, LeavesOnly, LeavesTorn, Only, Writes};
+ghost use Rattle.law_journal.specs.Grammar.{magic, payload_of};
+ghost use Rattle.law_journal.specs.Journals.{AddsPayload, IsFrame, IsShort, LeavesOneOfTwo, MayAddPayload, Rests};
 
 use crate::Disk;
 use desk_base::Failed;
@@ -13,9 +13,9 @@ use desk_base::Failed;
 pub fn write_synced<D: Disk>(disk: &mut D, place: u64, bytes: &[u8]) -> Result<(), Failed>
     requires place { (D.outlook disk.old).tells → place ≤ length (D.outlook disk.old).seen }
     requires durable { (D.outlook disk.old).tells → Only (D.outlook disk.old).seen (D.outlook disk.old).may_leave }
-    ensures written { OnOk result ((D.outlook disk.old).tells → (D.outlook disk.new).seen ≡ overwritten place bytes.now (D.outlook disk.old).seen) }
-    ensures durable { OnOk result ((D.outlook disk.old).tells → Only (D.outlook disk.new).seen (D.outlook disk.new).may_leave) }
-    ensures any_moment { (D.outlook disk.old).tells → LeavesOnly (Torn place (length bytes.now) (D.outlook disk.old).seen) (D.outlook disk.old) (D.outlook disk.new) }
+    ensures written { OnOk result (Writes place bytes.now (D.outlook disk.old) (D.outlook disk.new)) }
+    ensures durable { OnOk result (IsSynced (D.outlook disk.old) (D.outlook disk.new)) }
+    ensures any_moment { LeavesTorn place (length bytes.now) (D.outlook disk.old) (D.outlook disk.new) }
     ensures tells { (D.outlook disk.new).tells → (D.outlook disk.old).tells }
     ensures bound { OnOk result (place + length bytes.now < 2 ^ 63) }
     ensures cause { HasCause (D.faults disk.old) (D.faults disk.new) result }
@@ -29,9 +29,9 @@ pub fn write_synced<D: Disk>(disk: &mut D, place: u64, bytes: &[u8]) -> Result<(
 pub fn cut_synced<D: Disk>(disk: &mut D, len: u64) -> Result<(), Failed>
     requires len { (D.outlook disk.old).tells → len ≤ length (D.outlook disk.old).seen }
     requires durable { (D.outlook disk.old).tells → Only (D.outlook disk.old).seen (D.outlook disk.old).may_leave }
-    ensures cut { OnOk result ((D.outlook disk.old).tells → (D.outlook disk.new).seen ≡ take len (D.outlook disk.old).seen) }
-    ensures durable { OnOk result ((D.outlook disk.old).tells → Only (D.outlook disk.new).seen (D.outlook disk.new).may_leave) }
-    ensures any_moment { (D.outlook disk.old).tells → LeavesOnly (Cut len (D.outlook disk.old).seen) (D.outlook disk.old) (D.outlook disk.new) }
+    ensures cut { OnOk result (CutsTo len (D.outlook disk.old) (D.outlook disk.new)) }
+    ensures durable { OnOk result (IsSynced (D.outlook disk.old) (D.outlook disk.new)) }
+    ensures any_moment { LeavesCut len (D.outlook disk.old) (D.outlook disk.new) }
     ensures tells { (D.outlook disk.new).tells → (D.outlook disk.old).tells }
     ensures cause { HasCause (D.faults disk.old) (D.faults disk.new) result }
 {
@@ -45,7 +45,7 @@ pub fn start_synced<D: Disk>(disk: &mut D) -> Result<(), Failed>
     requires short { (D.outlook disk.old).tells → length (D.outlook disk.old).seen ≤ 9 }
     requires durable { (D.outlook disk.old).tells → Only (D.outlook disk.old).seen (D.outlook disk.old).may_leave }
     ensures started { OnOk result ((D.outlook disk.old).tells → (D.outlook disk.new).seen ≡ magic ++ 0 ∷ []) }
-    ensures durable { OnOk result ((D.outlook disk.old).tells → Only (D.outlook disk.new).seen (D.outlook disk.new).may_leave) }
+    ensures durable { OnOk result (IsSynced (D.outlook disk.old) (D.outlook disk.new)) }
     ensures any_moment { (D.outlook disk.old).tells → LeavesOnly IsShort (D.outlook disk.old) (D.outlook disk.new) }
     ensures tells { (D.outlook disk.new).tells → (D.outlook disk.old).tells }
     ensures cause { HasCause (D.faults disk.old) (D.faults disk.new) result }
@@ -64,9 +64,9 @@ pub fn append_at<D: Disk>(disk: &mut D, gate: u64, framed: &[u8]) -> Result<u64,
     ensures place { IfOk result (λ place. place ≡ gate + length framed.now) }
     ensures bound { IfOk result (λ place. place + 1 < 2 ^ 63) }
     ensures rests { (D.outlook disk.new).tells → IfOk result (Rests (D.outlook disk.new)) }
-    ensures added { OnOk result ((D.outlook disk.old).tells → list_of (D.outlook disk.new).seen ≡ with_last (payload_of framed.now) (list_of (D.outlook disk.old).seen)) }
-    ensures left { (D.outlook disk.old).tells → IsBeforeOrAfter (D.outlook disk.old).seen (payload_of framed.now) (D.outlook disk.new).seen }
-    ensures any_moment { (D.outlook disk.old).tells → LeavesOnly (IsBeforeOrAfter (D.outlook disk.old).seen (payload_of framed.now)) (D.outlook disk.old) (D.outlook disk.new) }
+    ensures added { OnOk result (AddsPayload (payload_of framed.now) (D.outlook disk.old) (D.outlook disk.new)) }
+    ensures left { MayAddPayload (payload_of framed.now) (D.outlook disk.old) (D.outlook disk.new) }
+    ensures any_moment { LeavesOneOfTwo (payload_of framed.now) (D.outlook disk.old) (D.outlook disk.new) }
     ensures tells { (D.outlook disk.new).tells → (D.outlook disk.old).tells }
     ensures cause { HasCause (D.faults disk.old) (D.faults disk.new) result }
 {

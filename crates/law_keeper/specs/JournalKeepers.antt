@@ -1,11 +1,13 @@
 -- Keepers over a journal.
-use Rattle.std.specs.Prelude.{ℕ, ◌≡◌, ◌+◌, Bool, true, false, List, Result, Ok, Err, refl}
+use Rattle.std.specs.Prelude.{ℕ, ◌≡◌, ◌+◌, Bool, true, false, List, Option, Result, Ok, Err, Vec, refl}
+use Rattle.std.specs.declared.alloc.Global.{Global}
 use Rattle.desk_base.specs.Streams.{Rose}
 use Rattle.desk_base.specs.declared.load_fault.LoadFault.{LoadFault}
 use Rattle.desk_base.specs.declared.load_fault.LoadFault.TheVariants.{Failed, Damaged, Memory}
 use Rattle.law_journal.specs.Disks.{Outlook, IsOutlook}
 use Rattle.law_journal.specs.Grammar.{Listing, gate_in, list_of}
-use Rattle.law_keeper.specs.Keepers.{Holding, IsHolding}
+use Rattle.law_keeper.specs.Keepers.{Holding, IsHolding, Gives, Appends, LeavesOneOfTwo}
+use Rattle.law_keeper.specs.declared.keep_fault.KeepFault.{KeepFault}
 use Rattle.law_keeper.specs.declared.readiness.Readiness.{Readiness}
 use Rattle.law_keeper.specs.declared.readiness.Readiness.TheVariants.{Unopened, Ready, Stopped}
 
@@ -13,8 +15,8 @@ use Rattle.law_keeper.specs.declared.readiness.Readiness.TheVariants.{Unopened, 
 abbrev pub StandsFor : (List ℕ → Type 0) → Listing → Type 0
 StandsFor files list = (file : List ℕ) × files file × (list_of file ≡ list)
 
--- what is known of a keeper, of its journal's disk: its list is that of the file, its cursors are the places of the gates
--- less 8, and a crash leaves the lists of the files that the disk may leave
+-- what is known of a keeper, of its journal's disk: its list is that of the file, its cursors are the places of the
+-- gates less 8, and a crash leaves the lists of the files that the disk may leave
 abbrev pub holding_of : Outlook → Holding
 holding_of o = record {
   tells = o.tells;
@@ -33,6 +35,16 @@ holding_is o is = record {
   counts_now = λ told t list le left. (left.0, is.counts_now t left.0 le left.1, left.2);
   only_now = λ told list left. (left.0, is.only_now left.0 left.1, left.2);
 }
+
+-- what is loaded, what an append makes of the list, and what a crash leaves of one, by the disk before and after
+abbrev pub Loads : Outlook → ℕ → Outlook → Result (Option (Vec ℕ Global × ℕ)) LoadFault → Type 0
+Loads old cursor new result = Gives (holding_of old) cursor (holding_of new) result
+
+abbrev pub Adds : List ℕ → Outlook → Outlook → Result ℕ KeepFault → Type 0
+Adds payload old new result = Appends payload (holding_of old) (holding_of new) result
+
+abbrev pub LeavesEither : List ℕ → Outlook → Outlook → Type 0
+LeavesEither payload old new = LeavesOneOfTwo payload (holding_of old) (holding_of new)
 
 -- a keeper that was opened is ready while its journal is
 abbrev pub readiness_of : Bool → Bool → Readiness

@@ -84,7 +84,8 @@ pub record Appends (payload : List ℕ) (old new : Holding) (result : Result ℕ
 -- what is loaded at place n of a list: the payload there and a cursor of the next place, or the end of the list
 abbrev pub GivesAt : List (List ℕ) → ℕ → (ℕ → Option ℕ) → Result (Option (Vec ℕ Global × ℕ)) LoadFault → Type 0
 GivesAt payloads n place_of (Ok None) = n ≡ length payloads
-GivesAt payloads n place_of (Ok (Some entry)) = (slice_get payloads n ≡ Some entry.0.items) × (place_of entry.1 ≡ Some (n + 1))
+GivesAt payloads n place_of (Ok (Some entry)) = (slice_get payloads n ≡ Some entry.0.items)
+    × (place_of entry.1 ≡ Some (n + 1))
 GivesAt payloads n place_of (Err fault.Failed) = Unit {0}
 GivesAt payloads n place_of (Err (fault.Damaged place byte)) = ⊥
 GivesAt payloads n place_of (Err fault.Memory) = Unit {0}
@@ -101,7 +102,8 @@ bytes_of payloads = map (λ payload. payload.items) payloads
 -- where a payload may stand behind the list or not, it is found exactly where it does, with a cursor of the new end
 abbrev pub IsFoundIn : List (List ℕ) → List ℕ → Holding → Option ℕ → Type 0
 IsFoundIn payloads payload h None = h.list ≡ Ok payloads
-IsFoundIn payloads payload h (Some next) = (h.list ≡ Ok (payloads ++ payload ∷ [])) × (h.place_of next ≡ Some (length payloads + 1))
+IsFoundIn payloads payload h (Some next) = (h.list ≡ Ok (payloads ++ payload ∷ []))
+    × (h.place_of next ≡ Some (length payloads + 1))
 
 abbrev pub IsFound : Holding → ℕ → List ℕ → Holding → Option ℕ → Type 0
 IsFound old end payload new found = old.tells → (payloads : List (List ℕ)) → old.place_of end ≡ Some (length payloads)
@@ -136,7 +138,8 @@ after_opening readiness (Err refusal) = after_refusal readiness
 
 -- an opening tells damage exactly as the list has it, and none of a keeper that was opened before
 abbrev pub Finds : Readiness → Holding → Result Unit LoadFault → Type 0
-Finds readiness old result = old.tells → IfErr result (λ refusal. Tells old.list refusal × (readiness ≢ Unopened → IsNoDamage refusal))
+Finds readiness old result = old.tells
+    → IfErr result (λ refusal. Tells old.list refusal × (readiness ≢ Unopened → IsNoDamage refusal))
 
 -- damage that an opening finds before any has succeeded is no fault; later damage is one that was counted
 abbrev pub HasDamageCause : Readiness → ℕ → ℕ → Type 0

@@ -15,7 +15,12 @@ pub record HeldKeeper : Type 0 where
 
 -- one with no payload, before the first call
 abbrev pub new_keeper : List ℕ → HeldKeeper
-new_keeper failing = record { payloads = []; readiness = Unopened; plan = record { failing = failing; made = 0 }; faults = 0 }
+new_keeper failing = record {
+  payloads = [];
+  readiness = Unopened;
+  plan = record { failing = failing; made = 0 };
+  faults = 0;
+}
 
 -- what is known of it: its cursors are the places of its list, and of a crash it tells nothing
 abbrev pub holding_of : List (List ℕ) → Holding

@@ -5,9 +5,8 @@ ghost use Rattle.std.specs.Prelude.{◌≡◌, true, false, IsOk, IsTrue, IfOk, 
 ghost use Rattle.desk_base.specs.Streams.{HasCause};
 ghost use Rattle.law_journal.specs.Disks.{Idles};
 ghost use Rattle.law_journal.specs.Grammar.{is_size, list_of};
-ghost use Rattle.law_journal.specs.Journals.{HasList, HasLoadCause, stays_ready};
+ghost use Rattle.law_journal.specs.Journals.{HasLoadCause, IsListed, stays_ready};
 ghost use Rattle.law_keeper.specs.JournalKeepers as over;
-ghost use Rattle.law_keeper.specs.JournalKeepers.{holding_of};
 ghost use Rattle.law_keeper.specs.Keepers as spec;
 
 use crate::{KeepFault, Keeper};
@@ -34,10 +33,10 @@ fn load_at<D: Disk>(
     cursor: u64,
 ) -> Result<Option<(Vec<u8>, u64)>, LoadFault>
     requires { journal.old.ready ≡ true }
-    ensures given { spec.Gives (holding_of (D.outlook journal.old.disk)) cursor (holding_of (D.outlook journal.new.disk)) result }
+    ensures given { over.Loads (D.outlook journal.old.disk) cursor (D.outlook journal.new.disk) result }
     ensures later { IfOk result (spec.MovesOn cursor) }
     ensures ready { journal.new.ready ≡ stays_ready result }
-    ensures listed { IsTrue journal.new.ready → (D.outlook journal.new.disk).tells → HasList (D.outlook journal.new.disk) journal.new.gate }
+    ensures listed { IsTrue journal.new.ready → IsListed (D.outlook journal.new.disk) journal.new.gate }
     ensures idle { Idles (D.outlook journal.old.disk) (D.outlook journal.new.disk) }
     ensures cause { HasLoadCause (D.faults journal.old.disk) (D.faults journal.new.disk) result }
 {
@@ -55,10 +54,10 @@ fn append_to<D: Disk>(
 ) -> Result<u64, KeepFault>
     requires ready { journal.old.ready ≡ true }
     requires size { IsTrue (is_size (length payload.now)) }
-    ensures appended { spec.Appends payload.now (holding_of (D.outlook journal.old.disk)) (holding_of (D.outlook journal.new.disk)) result }
-    ensures crash { spec.LeavesOneOfTwo payload.now (holding_of (D.outlook journal.old.disk)) (holding_of (D.outlook journal.new.disk)) }
+    ensures appended { over.Adds payload.now (D.outlook journal.old.disk) (D.outlook journal.new.disk) result }
+    ensures crash { over.LeavesEither payload.now (D.outlook journal.old.disk) (D.outlook journal.new.disk) }
     ensures ready { over.readiness_of true journal.new.ready ≡ spec.after_append result }
-    ensures listed { IsTrue journal.new.ready → (D.outlook journal.new.disk).tells → HasList (D.outlook journal.new.disk) journal.new.gate }
+    ensures listed { IsTrue journal.new.ready → IsListed (D.outlook journal.new.disk) journal.new.gate }
     ensures cause { spec.HasAppendCause (D.faults journal.old.disk) (D.faults journal.new.disk) result }
 {
     let framed = frame(alloc, payload)?;

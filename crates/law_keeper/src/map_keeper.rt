@@ -33,7 +33,12 @@ impl Model for MapKeeper {
 
     ghost Value = { HeldKeeper };
 
-    ghost view = { λ k. record { payloads = bytes_of k.payloads.items; readiness = k.readiness; plan = k.plan; faults = k.faults } };
+    ghost view = { λ k. record {
+      payloads = bytes_of k.payloads.items;
+      readiness = k.readiness;
+      plan = k.plan;
+      faults = k.faults;
+    } };
 
     ghost invariant = { λ k. HaveSizes (bytes_of k.payloads.items) };
 }
