@@ -5,4 +5,5 @@ pub mod Hearing
 pub mod Refusals
 pub mod Responses
 pub mod Rests
+pub mod Routes
 pub mod Streams

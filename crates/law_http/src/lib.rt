@@ -12,6 +12,7 @@ mod reading;
 mod refusal;
 mod response;
 mod rest;
+mod route;
 mod status;
 #[cfg(test)]
 mod tests;
@@ -22,4 +23,5 @@ pub use hearing::read_request;
 pub use refusal::{MessageRefusal, RequestRefusal};
 pub use response::{Response, put_response, refused_message, refused_request};
 pub use rest::Rest;
+pub use route::Route;
 pub use status::{Allow, Status};
