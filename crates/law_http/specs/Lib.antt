@@ -2,5 +2,8 @@ pub mod Cutting
 pub mod Framing
 pub mod Heads
 pub mod Hearing
+pub mod Refusals
+pub mod Responses
 pub mod Rests
+pub mod Routes
 pub mod Streams

@@ -1,8 +1,11 @@
-//! Requests over a link in memory, whole and in pieces.
+//! Requests and responses over a link in memory.
 
 ghost use Rattle.std.specs.Prelude.{◌≤◌};
 
-use crate::{HearFault, Heard, MessageRefusal, Rest, read_request};
+use crate::{
+    HearFault, Heard, MessageRefusal, Response, Rest, Status, put_response, read_request,
+    refused_message,
+};
 use desk_base::MemoryLink;
 use std::test::Fail;
 
@@ -13,7 +16,6 @@ const CUT: &[u8] = b"POST /a HTTP/1.1\r\nHost: a\r\nContent-Length: 3\r\n\r\n{}"
 const TWO: &[u8] =
     b"\r\nPOST /a HTTP/1.1\r\nHost: a\r\ncontent-length: 2\r\nConnection: x , CLOSE\r\n\r\n{}GET";
 
-// What is heard first of bytes that come in pieces of that size.
 fn first<R: AllocGlobal>(rt: &R, bytes: &[u8], piece: usize) -> Result<Heard, Fail>
     requires { 1 ≤ piece }
 {
@@ -23,6 +25,24 @@ fn first<R: AllocGlobal>(rt: &R, bytes: &[u8], piece: usize) -> Result<Heard, Fa
         Ok(heard) => Ok(heard),
         Err(_) => Err(Fail::from("not heard")),
     }
+}
+
+const FRONT_ANSWER: &[u8] =
+    b"HTTP/1.1 200 OK\r\nContent-Length: 11\r\nContent-Type: application/json\r\n\r\n{\"front\":0}";
+
+const CUT_ANSWER: &[u8] = b"HTTP/1.1 400 Bad Request\r\nConnection: close\r\n\
+    Content-Length: 29\r\nContent-Type: application/json\r\n\r\n{\"http\":9,\"name\":\"Truncated\"}";
+
+#[test]
+fn responses_are_put(rt: HostRuntime) -> Result<(), Fail> {
+    let front = Response::of(rt.alloc(), Status::Ok, None, false, b"{\"front\":0}");
+    let cut = refused_message(rt.alloc(), MessageRefusal::Truncated);
+    for (response, bytes) in [(front, FRONT_ANSWER), (cut, CUT_ANSWER)] {
+        let mut link = MemoryLink::new(rt.alloc(), b"", 1, 1_000, &[], &[])?;
+        assert_eq!(rt; put_response(&mut link, &response), Ok(()));
+        assert_eq!(rt; link.written(), bytes);
+    }
+    Ok(())
 }
 
 #[test]

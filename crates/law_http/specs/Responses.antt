@@ -1,0 +1,83 @@
+-- What a response says, and its bytes (RFC 9112, sections 2 to 6).
+use Rattle.std.specs.Prelude.{◌≡◌, ℕ, ◌⊎◌, Bool, true, false, List, [], ◌++◌, length, codes, Option, None, Some}
+use Rattle.std.specs.Fmt.{decimal}
+use Rattle.law_http.specs.declared.status.Status.{Status}
+use Rattle.law_http.specs.declared.status.Status.TheVariants as status
+use Rattle.law_http.specs.declared.status.Allow.{Allow}
+use Rattle.law_http.specs.declared.status.Allow.TheVariants.{Get, Post}
+use Rattle.law_http.specs.declared.response.Response.{Response}
+use Rattle.law_http.specs.declared.response.Response.TheVariants.{Made, MemoryFault, KeeperFault}
+
+-- the number and the phrase
+abbrev pub status_text : Status → List ℕ
+status_text status.Ok = codes "200 OK"
+status_text status.Created = codes "201 Created"
+status_text status.BadRequest = codes "400 Bad Request"
+status_text status.NotFound = codes "404 Not Found"
+status_text status.MethodNotAllowed = codes "405 Method Not Allowed"
+status_text status.Conflict = codes "409 Conflict"
+status_text status.LengthRequired = codes "411 Length Required"
+status_text status.ContentTooLarge = codes "413 Content Too Large"
+status_text status.FieldsTooLarge = codes "431 Request Header Fields Too Large"
+status_text status.InternalServerError = codes "500 Internal Server Error"
+status_text status.NotImplemented = codes "501 Not Implemented"
+status_text status.ServiceUnavailable = codes "503 Service Unavailable"
+
+-- the field that says which method a path has
+abbrev pub allow_field : Option Allow → List ℕ
+allow_field None = []
+allow_field (Some Get) = codes "Allow: GET\r\n"
+allow_field (Some Post) = codes "Allow: POST\r\n"
+
+-- the field that says that the stream is closed after the response
+abbrev pub close_field : Bool → List ℕ
+close_field true = codes "Connection: close\r\n"
+close_field false = []
+
+-- what a response says: its status, the method that the path has where the request had another, whether the stream is
+-- closed after it, and its body, which is JSON
+pub record Reply : Type 0 where
+  pub status : Status
+  pub allow : Option Allow
+  pub last : Bool
+  pub body : List ℕ
+
+abbrev pub reply : Status → Option Allow → Bool → List ℕ → Reply
+reply status allow last body = record { status = status; allow = allow; last = last; body = body }
+
+-- the lines of a head that depend on more than the body
+abbrev pub first_lines : Status → Option Allow → Bool → List ℕ
+first_lines status allow last =
+    codes "HTTP/1.1 " ++ status_text status ++ codes "\r\n" ++ allow_field allow ++ close_field last
+
+-- the lines of a head that say of the body how long it is and that it is JSON, and the empty line
+abbrev pub body_lines : ℕ → List ℕ
+body_lines n = codes "Content-Length: " ++ decimal n ++ codes "\r\nContent-Type: application/json\r\n\r\n"
+
+-- the bytes of a response
+abbrev pub reply_bytes : Reply → List ℕ
+reply_bytes r = first_lines r.status r.allow r.last ++ body_lines (length r.body) ++ r.body
+
+-- what is said where there was not enough memory
+abbrev pub memory_fault : Reply
+memory_fault = reply status.InternalServerError None true (codes "{\"fault\":\"memory\"}")
+
+-- what is said where the keeper failed
+abbrev pub keeper_fault : Bool → Reply
+keeper_fault last = reply status.ServiceUnavailable None last (codes "{\"fault\":\"keeper\"}")
+
+-- the bytes of what was made, or of the fixed responses
+abbrev pub response_bytes : Response → List ℕ
+response_bytes (Made message last) = message
+response_bytes MemoryFault = reply_bytes memory_fault
+response_bytes (KeeperFault last) = reply_bytes (keeper_fault last)
+
+-- the stream is closed after the response
+abbrev pub is_last : Response → Bool
+is_last (Made message last) = last
+is_last MemoryFault = true
+is_last (KeeperFault last) = last
+
+-- the response says this, or that there was not enough memory
+abbrev pub Says : Reply → Response → Type 0
+Says reply response = (response ≡ Made (reply_bytes reply) reply.last) ⊎ (response ≡ MemoryFault)

@@ -1,0 +1,47 @@
+-- Which part of the desk a request asks: by the path of its target, and then by its method.
+use Rattle.std.specs.Prelude.{ℕ, Bool, ◌==◌, bytes_eq, List, codes, Option, None, Some, Result, Ok, Err, if◌then◌else◌}
+use Rattle.std.specs.List.{before_first, after_first}
+use Rattle.law_http.specs.declared.route.Route.{Route}
+use Rattle.law_http.specs.declared.route.Route.TheVariants as route
+use Rattle.law_http.specs.declared.status.Allow.{Allow}
+use Rattle.law_http.specs.declared.status.Allow.TheVariants.{Get, Post}
+use Rattle.law_http.specs.declared.refusal.RequestRefusal.{RequestRefusal}
+use Rattle.law_http.specs.declared.refusal.RequestRefusal.TheVariants.{NoRoute, WrongMethod}
+
+-- a question mark
+abbrev pub is_question_mark : ℕ → Bool
+is_question_mark byte = byte == 63
+
+-- the target up to the first question mark (RFC 3986, section 3.3)
+abbrev pub path_of : List ℕ → List ℕ
+path_of target = before_first is_question_mark target
+
+-- what stands behind the first question mark, or nothing (RFC 3986, section 3.4)
+abbrev pub query_of : List ℕ → List ℕ
+query_of target = after_first is_question_mark target
+
+-- the paths, byte for byte
+abbrev pub route_at : List ℕ → Option Route
+route_at path =
+    if bytes_eq path (codes "/front") then Some route.Front
+    else (if bytes_eq path (codes "/text") then Some route.Text
+    else (if bytes_eq path (codes "/commands") then Some route.Commands else None))
+
+-- the one method of a path
+abbrev pub method_of : Route → Allow
+method_of route.Front = Get
+method_of route.Text = Get
+method_of route.Commands = Post
+
+abbrev pub has_method : List ℕ → Allow → Bool
+has_method method Get = bytes_eq method (codes "GET")
+has_method method Post = bytes_eq method (codes "POST")
+
+-- the path decides before the method
+abbrev pub with_method : List ℕ → Option Route → Result Route RequestRefusal
+with_method method None = Err NoRoute
+with_method method (Some found) = if has_method method (method_of found) then Ok found else Err (WrongMethod (method_of found))
+
+-- what a request asks
+abbrev pub route_of : List ℕ → List ℕ → Result Route RequestRefusal
+route_of method target = with_method method (route_at (path_of target))

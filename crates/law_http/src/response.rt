@@ -1,0 +1,202 @@
+//! Responses: how they are laid out and put.
+
+ghost use Rattle.std.specs.Prelude.{◌≡◌, ◌++◌, length, string_bytes, IfOk, OnOk};
+ghost use Rattle.desk_base.specs.Streams.{Appended, HasCause};
+ghost use Rattle.law_http.specs.Refusals.{message_reply, request_reply, object_text, form_text};
+ghost use Rattle.law_http.specs.Responses as spec;
+
+use crate::{Allow, Bytes, MessageRefusal, RequestRefusal, Status};
+use desk_base::{Failed, Link, Memory};
+use std::alloc::Global;
+
+// The fixed responses, which take no memory.
+const MEMORY_FAULT: &[u8] = b"HTTP/1.1 500 Internal Server Error\r\nConnection: close\r\n\
+    Content-Length: 18\r\nContent-Type: application/json\r\n\r\n{\"fault\":\"memory\"}";
+
+const KEEPER_FAULT: &[u8] = b"HTTP/1.1 503 Service Unavailable\r\n\
+    Content-Length: 18\r\nContent-Type: application/json\r\n\r\n{\"fault\":\"keeper\"}";
+
+const LAST_KEEPER_FAULT: &[u8] = b"HTTP/1.1 503 Service Unavailable\r\nConnection: close\r\n\
+    Content-Length: 18\r\nContent-Type: application/json\r\n\r\n{\"fault\":\"keeper\"}";
+
+/// A response (RFC 9110), laid out so that it is put by one call that takes no memory.
+#[derive(Debug, Drop)]
+pub enum Response {
+    /// Its head and its body, and whether the stream is closed after it.
+    Made { message: Bytes, last: bool },
+    /// 500: there was not enough memory. The stream is closed.
+    MemoryFault,
+    /// 503: the keeper failed.
+    KeeperFault { last: bool },
+}
+
+fn put_first_lines(
+    message: &mut Vec<u8>,
+    status: Status,
+    allow: Option<Allow>,
+    last: bool,
+) -> Result<(), Memory>
+    ensures { OnOk result (message.new.items ≡ message.old.items ++ spec.first_lines status allow last) }
+{
+    message.extend_from_slice(b"HTTP/1.1 ")?;
+    message.extend_from_slice(status.text().as_bytes())?;
+    message.extend_from_slice(b"\r\n")?;
+    message.extend_from_slice(allow_field(allow).as_bytes())?;
+    message.extend_from_slice(close_field(last).as_bytes())?;
+    Ok(())
+}
+
+fn allow_field(allow: Option<Allow>) -> &'static str
+    ensures { result.now ≡ spec.allow_field allow }
+{
+    match allow {
+        None => "",
+        Some(Allow::Get) => "Allow: GET\r\n",
+        Some(Allow::Post) => "Allow: POST\r\n",
+    }
+}
+
+fn close_field(last: bool) -> &'static str
+    ensures { result.now ≡ spec.close_field last }
+{
+    if last { "Connection: close\r\n" } else { "" }
+}
+
+fn put_body_lines(alloc: Global, message: &mut Vec<u8>, length: usize) -> Result<(), Memory>
+    ensures { OnOk result (message.new.items ≡ message.old.items ++ spec.body_lines length) }
+{
+    let lines = format!(in alloc;
+        "Content-Length: {length}\r\nContent-Type: application/json\r\n\r\n"
+    )?;
+    message.extend_from_slice(lines.as_bytes())?;
+    Ok(())
+}
+
+fn laid_out(
+    alloc: Global,
+    status: Status,
+    allow: Option<Allow>,
+    last: bool,
+    body: &[u8],
+) -> Result<Bytes, Memory>
+    ensures { IfOk result (λ message. message
+        ≡ spec.reply_bytes (spec.reply status allow last body.now)) }
+{
+    let mut message = Vec::new(alloc);
+    put_first_lines(&mut message, status, allow, last)?;
+    put_body_lines(alloc, &mut message, body.len())?;
+    message.extend_from_slice(body)?;
+    Ok(Bytes::from_vec(message))
+}
+
+fn memory_fault() -> &'static [u8]
+    ensures { result.now ≡ spec.reply_bytes spec.memory_fault }
+{
+    MEMORY_FAULT
+}
+
+fn keeper_fault(last: bool) -> &'static [u8]
+    ensures { result.now ≡ spec.reply_bytes (spec.keeper_fault last) }
+{
+    if last {
+        LAST_KEEPER_FAULT
+    } else {
+        KEEPER_FAULT
+    }
+}
+
+impl Response {
+    /// A response with a status, the method that the path has where the request had another, and a body that is JSON;
+    /// `last` says whether the stream is closed after it. It is the fixed 500 where there is not enough memory.
+    pub fn of(
+        alloc: Global,
+        status: Status,
+        allow: Option<Allow>,
+        last: bool,
+        body: &[u8],
+    ) -> Response
+        ensures { spec.Says (spec.reply status allow last body.now) result }
+    {
+        match laid_out(alloc, status, allow, last, body) {
+            Ok(message) => Response::Made { message, last },
+            Err(_) => Response::MemoryFault,
+        }
+    }
+
+    /// Whether the stream is closed after it.
+    pub fn is_last(&self) -> bool
+        ensures { result ≡ spec.is_last self.now }
+    {
+        match self {
+            Response::Made { last, .. } => *last,
+            Response::MemoryFault => true,
+            Response::KeeperFault { last } => *last,
+        }
+    }
+
+    // Its bytes.
+    fn bytes(&self) -> &[u8]
+        ensures { result.now ≡ spec.response_bytes self.now }
+    {
+        match self {
+            Response::Made { message, .. } => message.as_slice(),
+            Response::MemoryFault => memory_fault(),
+            Response::KeeperFault { last } => keeper_fault(*last),
+        }
+    }
+}
+
+/// Writes a response to a link, by one call. It takes no memory.
+pub fn put_response<L: Link>(link: &mut L, response: &Response) -> Result<(), Failed>
+    ensures appended { Appended (L.written link.old) (L.written link.new) (spec.response_bytes response.now) result }
+    ensures cause { HasCause (L.write_faults link.old) (L.write_faults link.new) result }
+    ensures left { L.left link.new ≡ L.left link.old }
+    ensures room { L.room link.new ≡ L.room link.old }
+    ensures read_faults { L.read_faults link.new ≡ L.read_faults link.old }
+    ensures origin { L.origin link.new ≡ L.origin link.old }
+{
+    link.write_all(response.bytes())
+}
+
+fn object_of(alloc: Global, number: u8, name: &str) -> Result<String, Memory>
+    ensures { IfOk result (λ text. string_bytes text ≡ object_text number name.now) }
+{
+    Ok(format!(in alloc; "{{\"http\":{number},\"name\":\"{name}\"}}")?)
+}
+
+fn form_object_of(alloc: Global, form: u8, place: u32) -> Result<String, Memory>
+    ensures { IfOk result (λ text. string_bytes text ≡ form_text form place) }
+{
+    Ok(format!(in alloc; "{{\"form\":{form},\"http\":8,\"name\":\"BadForm\",\"place\":{place}}}")?)
+}
+
+/// The response where no request can be read. The stream is closed after it.
+pub fn refused_message(alloc: Global, refusal: MessageRefusal) -> Response
+    ensures { spec.Says (message_reply refusal) result }
+{
+    match object_of(alloc, refusal.number(), refusal.name()) {
+        Ok(object) => Response::of(alloc, refusal.status(), None, true, object.as_bytes()),
+        Err(_) => Response::MemoryFault,
+    }
+}
+
+/// The response to a request that gets no answer of the desk.
+pub fn refused_request(alloc: Global, refusal: RequestRefusal, last: bool) -> Response
+    ensures { spec.Says (request_reply refusal last) result }
+{
+    let (status, allow, object) = match refusal {
+        RequestRefusal::NoRoute => (Status::NotFound, None, object_of(alloc, 6, "NoRoute")),
+        RequestRefusal::WrongMethod(allow) => (
+            Status::MethodNotAllowed,
+            Some(allow),
+            object_of(alloc, 7, "WrongMethod"),
+        ),
+        RequestRefusal::BadForm { form, place } => {
+            (Status::BadRequest, None, form_object_of(alloc, form, place))
+        }
+    };
+    match object {
+        Ok(object) => Response::of(alloc, status, allow, last, object.as_bytes()),
+        Err(_) => Response::MemoryFault,
+    }
+}

@@ -1,0 +1,90 @@
+//! Which part of the desk a request asks.
+
+ghost use Rattle.std.specs.Prelude.{◌≡◌};
+ghost use Rattle.law_http.specs.Routes as spec;
+
+use crate::status::Allow;
+use crate::{Request, RequestRefusal};
+
+/// What a path stands for.
+#[derive(Clone, Copy, Debug, PartialEq, Eq)]
+pub enum Route {
+    /// GET /front
+    Front,
+    /// GET /text
+    Text,
+    /// POST /commands
+    Commands,
+}
+
+impl Route {
+    /// The one method that the path has.
+    pub fn method(self) -> Allow
+        ensures { result ≡ spec.method_of self }
+    {
+        match self {
+            Route::Front | Route::Text => Allow::Get,
+            Route::Commands => Allow::Post,
+        }
+    }
+}
+
+// The target up to the first `?`, and what stands behind that.
+fn split_target(target: &str) -> (&str, &str)
+    ensures path { result.0.now ≡ spec.path_of target.now }
+    ensures query { result.1.now ≡ spec.query_of target.now }
+{
+    match target.split_once('?') {
+        Some((path, query)) => (path, query),
+        None => (target, ""),
+    }
+}
+
+fn route_at(path: &str) -> Option<Route>
+    ensures { result ≡ spec.route_at path.now }
+{
+    match path {
+        "/front" => Some(Route::Front),
+        "/text" => Some(Route::Text),
+        "/commands" => Some(Route::Commands),
+        _ => None,
+    }
+}
+
+fn has_method(method: &str, allow: Allow) -> bool
+    ensures { result ≡ spec.has_method method.now allow }
+{
+    match allow {
+        Allow::Get => method == "GET",
+        Allow::Post => method == "POST",
+    }
+}
+
+fn with_method(method: &str, route: Option<Route>) -> Result<Route, RequestRefusal>
+    ensures { result ≡ spec.with_method method.now route }
+{
+    match route {
+        None => Err(RequestRefusal::NoRoute),
+        Some(route) if has_method(method, route.method()) => Ok(route),
+        Some(route) => Err(RequestRefusal::WrongMethod(route.method())),
+    }
+}
+
+impl Request {
+    /// What the request asks, by the path of its target and then by its method. Paths are compared as they were sent,
+    /// byte for byte.
+    pub fn route(&self) -> Result<Route, RequestRefusal>
+        ensures { result ≡ spec.route_of self.now.method self.now.target }
+    {
+        let (path, _) = split_target(self.target.as_str());
+        with_method(self.method.as_str(), route_at(path))
+    }
+
+    /// The query: what stands behind the first `?` of the target, or nothing.
+    pub fn query(&self) -> &str
+        ensures { result.now ≡ spec.query_of self.now.target }
+    {
+        let (_, query) = split_target(self.target.as_str());
+        query
+    }
+}
