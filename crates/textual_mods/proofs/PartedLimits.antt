@@ -50,9 +50,20 @@ module _ (n : Numbering) (k : ℕ) (head : List ℕ) (q : Provision) (w : List �
       let then : List (List ℕ) = all_beginning n t (all_owns (added bs)) in
       elim (bytes_eq p.wid w) as (λ s. times x (all_beginning n t (all_owns (cond s (more_branches (branch (cut p) (first k (split below))) (more_branches (branch q (behind k (split below))) (split bs))) (more_branches (branch p (split below)) (split bs)))))
       ≡ times x (all_beginning n t (all_owns (cond s (more_branches (branch p (added below)) (more_branches (branch (bare q) no_branches) (added bs))) (more_branches (branch p (added below)) (added bs)))))) [
-        | true ↦ omega (arith, whole, begun_split x false below, begun_split x t bs,
-            times-append x (own ++ front) ((second ++ back) ++ now), times-append x own front, times-append x (second ++ back) now, times-append x second back,
-            times-append x (own ++ inner) ((second ++ []) ++ then), times-append x own inner, times-append x (second ++ []) then, times-append x second [])
+        | true ↦ omega (
+          arith,
+          whole,
+          begun_split x false below,
+          begun_split x t bs,
+          times-append x (own ++ front) ((second ++ back) ++ now),
+          times-append x own front,
+          times-append x (second ++ back) now,
+          times-append x second back,
+          times-append x (own ++ inner) ((second ++ []) ++ then),
+          times-append x own inner,
+          times-append x (second ++ []) then,
+          times-append x second [],
+        )
         | false ↦
             let plain : List (List ℕ) = all_beginning n false (all_owns (split below)) in
             omega (arith, begun_split x false below, begun_split x t bs, times-append x (own ++ plain) now, times-append x own plain, times-append x (own ++ inner) then, times-append x own inner)
@@ -111,24 +122,21 @@ module _ (n : Numbering) (k : ℕ) (head : List ℕ) (q : Provision) (w : List �
   pub long_split : (bs : Branches Provision) → writes_long ≡ true → any_holds w bs ≡ true → have_long (all_owns (split bs)) ≡ true
   long_split no_branches long held = absurd cc
   long_split (more_branches (branch p below) bs) long held =
-      by (bytes_eq p.wid w) refl
-    where
-      after_all : Bool → Branches Provision
-      after_all s = cond s (more_branches (branch (cut p) (first k (split below))) (more_branches (branch q (behind k (split below))) (split bs))) (more_branches (branch p (split below)) (split bs))
-
-      by : (s : Bool) → bytes_eq p.wid w ≡ s → have_long (all_owns (after_all (bytes_eq p.wid w))) ≡ true
-      by true it =
-          ap (λ s. have_long (all_owns (after_all s))) it
-          ∙ elim (cases_Bool (nat_lt 16384 (length head))) [
-            | inl over ↦ or_left _ _ (or_left _ _ (or_right (nat_lt 16384 (length p.own.heading)) _ over))
-            | inr fine ↦ or_right (has_long (owns (branch (cut p) (first k (split below))))) _ (or_left _ _ (or_left _ _ (sym (ap (λ s. s || is_long q.own) fine) ∙ long)))
-          ]
-      by false other =
-          ap (λ s. have_long (all_owns (after_all s))) other
-          ∙ elim (cases_Bool (any_holds w below)) [
-            | inl under ↦ or_left _ _ (or_right (is_long p.own) _ (long_split below long under))
-            | inr none ↦ or_right (has_long (owns (branch p (split below)))) _ (long_split bs long (sym (ap (λ s. (s || any_holds w below) || any_holds w bs) other ∙ ap (λ s. s || any_holds w bs) none) ∙ held))
-          ]
+      let after_all : Bool → Branches Provision = λ s. cond s (more_branches (branch (cut p) (first k (split below))) (more_branches (branch q (behind k (split below))) (split bs))) (more_branches (branch p (split below)) (split bs)) in
+      elim (cases_Bool (bytes_eq p.wid w)) [
+        | inl it ↦
+            ap (λ s. have_long (all_owns (after_all s))) it
+            ∙ elim (cases_Bool (nat_lt 16384 (length head))) [
+              | inl over ↦ or_left _ _ (or_left _ _ (or_right (nat_lt 16384 (length p.own.heading)) _ over))
+              | inr fine ↦ or_right (has_long (owns (branch (cut p) (first k (split below))))) _ (or_left _ _ (or_left _ _ (sym (ap (λ s. s || is_long q.own) fine) ∙ long)))
+            ]
+        | inr other ↦
+            ap (λ s. have_long (all_owns (after_all s))) other
+            ∙ elim (cases_Bool (any_holds w below)) [
+              | inl under ↦ or_left _ _ (or_right (is_long p.own) _ (long_split below long under))
+              | inr none ↦ or_right (has_long (owns (branch p (split below)))) _ (long_split bs long (sym (ap (λ s. (s || any_holds w below) || any_holds w bs) other ∙ ap (λ s. s || any_holds w bs) none) ∙ held))
+            ]
+      ]
 
   once_parts : (bs : Branches Provision) → one_twice (all_going_on n false (all_owns bs)) ≡ false → (one_twice (all_going_on n false (all_owns (first k bs))) ≡ false) × (one_twice (all_going_on n false (all_owns (behind k bs))) ≡ false)
   once_parts bs once =
@@ -147,39 +155,31 @@ module _ (n : Numbering) (k : ℕ) (head : List ℕ) (q : Provision) (w : List �
   pub alike_split : (bs : Branches Provision) → one_twice (all_wids bs) ≡ false → alike_beneath n (all_owns bs) ≡ false → alike_beneath n (all_owns (split bs)) ≡ alike_beneath n (all_owns (added bs))
   alike_split no_branches once none = refl
   alike_split (more_branches (branch p below) bs) once none =
-      by (bytes_eq p.wid w) refl
-    where
-      d : AreDistinct p below bs
-      d = are_distinct p below bs once
-
-      own : (one_twice (all_going_on n false (all_owns below)) || alike_beneath n (all_owns below)) ≡ false
-      own = none_left _ _ none
-
-      later : alike_beneath n (all_owns (split bs)) ≡ alike_beneath n (all_owns (added bs))
-      later = alike_split bs d.behind_once (none_right (one_twice (all_going_on n false (all_owns below)) || alike_beneath n (all_owns below)) _ none)
-
-      now : Bool → Branches Provision → Branches Provision
-      now s inner = cond s (more_branches (branch (cut p) (first k inner)) (more_branches (branch q (behind k inner)) (split bs))) (more_branches (branch p inner) (split bs))
-
-      plain : Bool → Branches Provision → Branches Provision
-      plain s inner = cond s (more_branches (branch p inner) (more_branches (branch (bare q) no_branches) (added bs))) (more_branches (branch p inner) (added bs))
-
-      by : (s : Bool) → bytes_eq p.wid w ≡ s → alike_beneath n (all_owns (now (bytes_eq p.wid w) (split below))) ≡ alike_beneath n (all_owns (plain (bytes_eq p.wid w) (added below)))
-      by true it =
-          let none_below : any_holds w below ≡ false = sym (ap (λ v. any_holds v below) (same_text p.wid w it)) ∙ d.not_beneath in
-          let levels = once_parts below (none_left _ _ own) in
-          let deeper = unlike_parts below (none_right (one_twice (all_going_on n false (all_owns below))) _ own) in
-          ap (λ s. alike_beneath n (all_owns (now s (split below)))) it
-          ∙ ap (λ cs. alike_beneath n (all_owns (now true cs))) (not_changed (parted k head q) w below none_below)
-          ∙ ap (λ s. s || (alike_inside n (owns (branch q (behind k below))) || alike_beneath n (all_owns (split bs)))) (neither _ _ levels.0 deeper.0)
-          ∙ ap (λ s. s || alike_beneath n (all_owns (split bs))) (neither _ _ levels.1 deeper.1)
-          ∙ later
-          ∙ sym (ap (λ s. alike_beneath n (all_owns (plain s (added below)))) it
-          ∙ ap (λ cs. alike_beneath n (all_owns (plain true cs))) (not_changed (after (alone q)) w below none_below)
-          ∙ ap (λ s. s || alike_beneath n (all_owns (added bs))) own)
-      by false other =
-          ap (λ s. alike_beneath n (all_owns (now s (split below)))) other
-          ∙ ap (λ ls. (one_twice ls || alike_beneath n (all_owns (split below))) || alike_beneath n (all_owns (split bs))) (on_split false below)
-          ∙ ap (λ s. (one_twice (all_going_on n false (all_owns (added below))) || s) || alike_beneath n (all_owns (split bs))) (alike_split below d.beneath_once (none_right (one_twice (all_going_on n false (all_owns below))) _ own))
-          ∙ ap (λ s. (one_twice (all_going_on n false (all_owns (added below))) || alike_beneath n (all_owns (added below))) || s) later
-          ∙ sym (ap (λ s. alike_beneath n (all_owns (plain s (added below)))) other)
+      let d : AreDistinct p below bs = are_distinct p below bs once in
+      let own : (one_twice (all_going_on n false (all_owns below)) || alike_beneath n (all_owns below)) ≡ false = none_left _ _ none in
+      let later : alike_beneath n (all_owns (split bs)) ≡ alike_beneath n (all_owns (added bs)) =
+      alike_split bs d.behind_once (none_right (one_twice (all_going_on n false (all_owns below)) || alike_beneath n (all_owns below)) _ none) in
+      let inner : alike_beneath n (all_owns (split below)) ≡ alike_beneath n (all_owns (added below)) =
+      alike_split below d.beneath_once (none_right (one_twice (all_going_on n false (all_owns below))) _ own) in
+      let now : Bool → Branches Provision → Branches Provision = λ s cs. cond s (more_branches (branch (cut p) (first k cs)) (more_branches (branch q (behind k cs)) (split bs))) (more_branches (branch p cs) (split bs)) in
+      let plain : Bool → Branches Provision → Branches Provision = λ s cs. cond s (more_branches (branch p cs) (more_branches (branch (bare q) no_branches) (added bs))) (more_branches (branch p cs) (added bs)) in
+      elim (cases_Bool (bytes_eq p.wid w)) [
+        | inl it ↦
+            let none_below : any_holds w below ≡ false = sym (ap (λ v. any_holds v below) (same_text p.wid w it)) ∙ d.not_beneath in
+            let levels = once_parts below (none_left _ _ own) in
+            let deeper = unlike_parts below (none_right (one_twice (all_going_on n false (all_owns below))) _ own) in
+            ap (λ s. alike_beneath n (all_owns (now s (split below)))) it
+            ∙ ap (λ cs. alike_beneath n (all_owns (now true cs))) (not_changed (parted k head q) w below none_below)
+            ∙ ap (λ s. s || (alike_inside n (owns (branch q (behind k below))) || alike_beneath n (all_owns (split bs)))) (neither (one_twice (all_going_on n false (all_owns (first k below)))) (alike_beneath n (all_owns (first k below))) levels.0 deeper.0)
+            ∙ ap (λ s. s || alike_beneath n (all_owns (split bs))) (neither (one_twice (all_going_on n false (all_owns (behind k below)))) (alike_beneath n (all_owns (behind k below))) levels.1 deeper.1)
+            ∙ later
+            ∙ sym (ap (λ s. alike_beneath n (all_owns (plain s (added below)))) it
+            ∙ ap (λ cs. alike_beneath n (all_owns (plain true cs))) (not_changed (after (alone q)) w below none_below)
+            ∙ ap (λ s. s || alike_beneath n (all_owns (added bs))) own)
+        | inr other ↦
+            ap (λ s. alike_beneath n (all_owns (now s (split below)))) other
+            ∙ ap (λ ls. (one_twice ls || alike_beneath n (all_owns (split below))) || alike_beneath n (all_owns (split bs))) (on_split false below)
+            ∙ ap (λ s. (one_twice (all_going_on n false (all_owns (added below))) || s) || alike_beneath n (all_owns (split bs))) inner
+            ∙ ap (λ s. (one_twice (all_going_on n false (all_owns (added below))) || alike_beneath n (all_owns (added below))) || s) later
+            ∙ sym (ap (λ s. alike_beneath n (all_owns (plain s (added below)))) other)
+      ]

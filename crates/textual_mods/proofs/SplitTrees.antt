@@ -8,7 +8,7 @@ use Rattle.eid_paths.specs.declared.numbering.Numbering.{Numbering}
 use Rattle.eid_paths.specs.Elements.{is_throughout}
 use Rattle.eid_paths.specs.Levels.{level_text}
 use Rattle.eid_paths.specs.Nums.{is_num}
-use Rattle.act_tree.specs.declared.cause.Cause.TheVariants.{NumberTaken, TooManyNodes, TextTooLong}
+use Rattle.act_tree.specs.declared.build_fault.BuildFault.{BuildFault}
 use Rattle.act_tree.specs.declared.surveying.TheConstants.{NONE_THROUGHOUT}
 use Rattle.act_tree.specs.declared.tree.Tree.{Tree}
 use Rattle.act_tree.specs.Branches.{Branch, Branches, branch, no_branches, more_branches, heights, counts}
@@ -27,7 +27,7 @@ use Rattle.act_tree.proofs.LevelsDiffer.{levels_decide}
 use Rattle.act_tree.proofs.Nums.{KeepsNums, both, joined_kept, changed_kept, parted_keeps}
 use Rattle.act_tree.proofs.Walking.{branch_is}
 use Rattle.textual_mods.specs.Edits.{unless_for, within_limits}
-use Rattle.textual_mods.specs.Insertions.{one_among, begins_again, goes_on_again, is_root, number_taken, insertion_fault, have_nums, one_alone}
+use Rattle.textual_mods.specs.Insertions.{one_among, begins_again, goes_on_again, height_with, is_root, number_taken, insertion_fault, have_nums, one_alone, split_fault}
 use Rattle.textual_mods.proofs.InsertedTrees.{fault_of_insertion, counts_owns}
 use Rattle.textual_mods.proofs.InsertionLimits.{for_one}
 use Rattle.textual_mods.proofs.JoinLimits.{times, few_once, once_few, or_none}
@@ -109,7 +109,9 @@ module _ (t : Tree) (id parent place : ℕ) (by : Id) (k : ℕ) (head num headin
   alone_numbered = both _ _ (both _ _ kept refl) refl
 
   plain_taken : one_twice (all_eids n None (all_owns plain)) ≡ number_taken t parent new
-  plain_taken = first_test _ _ _ _ _ _ _ _ plain_cause
+  plain_taken =
+      first_test (one_twice (all_eids n None (all_owns plain))) (nat_lt 12 (heights (all_owns plain))) (nat_lt 4096 (counts (all_owns plain))) (have_long (all_owns plain))
+      (number_taken t parent new) (nat_lt 12 (height_with (provision_at t parent).wid (heights new) body)) (nat_lt 4096 (counts body + counts new)) false plain_cause
 
   faultless_body : first_fault n (all_owns body) ≡ None
   faultless_body = faultless (tree_view t) fits
@@ -150,3 +152,30 @@ module _ (t : Tree) (id parent place : ℕ) (by : Id) (k : ℕ) (head num headin
       ∙ ap (λ s. option_map fault_cause (fault_by (number_taken t parent new) s (nat_lt 4096 (counts (all_owns text))) (have_long (all_owns text)))) low
       ∙ ap (λ c. option_map fault_cause (fault_by (number_taken t parent new) false (nat_lt 4096 c) (have_long (all_owns text)))) many
       ∙ ap (λ s. option_map fault_cause (fault_by (number_taken t parent new) false (nat_lt 4096 (counts body + 1)) s)) long
+
+  pub split_held : (fault : BuildFault) (long_told : Bool) → long_told ≡ writes_long n k head q w → Some fault ≡ split_fault t parent element num long_told → within_limits (tree_view t) (Ok text) ≡ Err (fault_cause fault)
+  split_held fault long_told is_long_told is =
+      ap (λ c. unless_for c text) (cause_of_split ∙ ap (λ s. option_map fault_cause (split_fault t parent element num s)) (sym is_long_told) ∙ ap (option_map fault_cause) (sym is))
+
+  pub split_done : (long_told : Bool) → long_told ≡ writes_long n k head q w → None ≡ split_fault t parent element num long_told → within_limits (tree_view t) (Ok text) ≡ Ok text
+  split_done long_told is_long_told is =
+      ap (λ c. unless_for c text) (cause_of_split ∙ ap (λ s. option_map fault_cause (split_fault t parent element num s)) (sym is_long_told) ∙ ap (option_map fault_cause) (sym is))
+
+-- whether the number of one provision is taken
+pub level_taken_begun : (t : Tree) (parent : ℕ) (element : Element) (num : List ℕ) (told : Bool) → (is_root t parent || is_throughout (tree_view t).numbering element) ≡ true
+    → told ≡ is_among (level_text element num) (levels_begun (tree_view t)) → told ≡ number_taken t parent (one_alone element num)
+level_taken_begun t parent element num told begun is =
+    let l : List ℕ = level_text element num in
+    let levels : List (List ℕ) = levels_begun (tree_view t) in
+    let siblings : List (List ℕ) = all_going_on (tree_view t).numbering (is_root t parent) (all_owns (below_at t parent)) in
+    is ∙ sym (ap (λ s. (one_twice ((cond s (l ∷ []) [] ++ []) ++ []) || one_among ((cond s (l ∷ []) [] ++ []) ++ []) levels) || one_among (cond s [] (l ∷ []) ++ []) siblings) begun
+    ∙ or_none (is_among l levels || false) ∙ or_none (is_among l levels))
+
+pub level_taken_on : (t : Tree) (parent : ℕ) (element : Element) (num : List ℕ) (told : Bool) → is_root t parent ≡ false → is_throughout (tree_view t).numbering element ≡ false
+    → told ≡ is_among (level_text element num) (levels_on (tree_view t).numbering (below_at t parent)) → told ≡ number_taken t parent (one_alone element num)
+level_taken_on t parent element num told root through is =
+    let l : List ℕ = level_text element num in
+    let n : Numbering = (tree_view t).numbering in
+    is ∙ sym (or_none (is_among l (levels_on n (below_at t parent))))
+    ∙ sym (ap (λ r. begins_again n r (one_alone element num) (all_owns (tree_view t).body) || goes_on_again n r (one_alone element num) (all_owns (below_at t parent))) root
+    ∙ ap (λ s. (one_twice ((cond s (l ∷ []) [] ++ []) ++ []) || one_among ((cond s (l ∷ []) [] ++ []) ++ []) (levels_begun (tree_view t))) || one_among (cond s [] (l ∷ []) ++ []) (all_going_on n false (all_owns (below_at t parent)))) through)
