@@ -16,7 +16,7 @@ use Rattle.textual_mods.proofs.JoinLimits.{times, times-append, none_times, some
 use Rattle.textual_mods.proofs.OnePlace.{AreDistinct, are_distinct, first_found, found_past, first_of, beneath_it, behind_it}
 
 -- the first so many, and those behind them, are all
-parts_join : (k : ℕ) (bs : Branches Provision) → joined (first k bs) (behind k bs) ≡ bs
+pub parts_join : (k : ℕ) (bs : Branches Provision) → joined (first k bs) (behind k bs) ≡ bs
 parts_join zero bs = refl
 parts_join (suc k) no_branches = refl
 parts_join (suc k) (more_branches b bs) = ap (more_branches b) (parts_join k bs)
@@ -108,7 +108,7 @@ for_one m w (more_branches (branch p below) bs) once held =
           ]
     ]
 
-on_joined : (n : Numbering) (x : List ℕ) (t : Bool) (bs cs : Branches Provision) → times x (all_going_on n t (all_owns (joined bs cs))) ≡ times x (all_going_on n t (all_owns bs)) + times x (all_going_on n t (all_owns cs))
+pub on_joined : (n : Numbering) (x : List ℕ) (t : Bool) (bs cs : Branches Provision) → times x (all_going_on n t (all_owns (joined bs cs))) ≡ times x (all_going_on n t (all_owns bs)) + times x (all_going_on n t (all_owns cs))
 on_joined n x t no_branches cs = omega arith
 on_joined n x t (more_branches b bs) cs =
     omega (arith, on_joined n x t bs cs, times-append x (going_on n t (owns b)) (all_going_on n t (all_owns (joined bs cs))), times-append x (going_on n t (owns b)) (all_going_on n t (all_owns bs)))
@@ -129,7 +129,7 @@ or_assoc : (a b c : Bool) → ((a || b) || c) ≡ (a || (b || c))
 or_assoc true b c = refl
 or_assoc false b c = refl
 
-unlike_joined : (n : Numbering) (bs cs : Branches Provision) → alike_beneath n (all_owns (joined bs cs)) ≡ (alike_beneath n (all_owns bs) || alike_beneath n (all_owns cs))
+pub unlike_joined : (n : Numbering) (bs cs : Branches Provision) → alike_beneath n (all_owns (joined bs cs)) ≡ (alike_beneath n (all_owns bs) || alike_beneath n (all_owns cs))
 unlike_joined n no_branches cs = refl
 unlike_joined n (more_branches b bs) cs =
     ap (λ t. alike_inside n (owns b) || t) (unlike_joined n bs cs) ∙ sym (or_assoc (alike_inside n (owns b)) (alike_beneath n (all_owns bs)) (alike_beneath n (all_owns cs)))
@@ -141,7 +141,7 @@ unlike_put n k new bs none =
     ∙ ap (λ t. alike_beneath n (all_owns (first k bs)) || t) (unlike_joined n new (behind k bs) ∙ ap (λ t. t || alike_beneath n (all_owns (behind k bs))) none)
     ∙ sym (unlike_joined n (first k bs) (behind k bs)) ∙ ap (λ cs. alike_beneath n (all_owns cs)) (parts_join k bs)
 
-short_parts : (k : ℕ) (bs : Branches Provision) → have_long (all_owns bs) ≡ false → (have_long (all_owns (first k bs)) ≡ false) × (have_long (all_owns (behind k bs)) ≡ false)
+pub short_parts : (k : ℕ) (bs : Branches Provision) → have_long (all_owns bs) ≡ false → (have_long (all_owns (first k bs)) ≡ false) × (have_long (all_owns (behind k bs)) ≡ false)
 short_parts zero bs short = (refl, short)
 short_parts (suc k) no_branches short = (refl, refl)
 short_parts (suc k) (more_branches b bs) short =

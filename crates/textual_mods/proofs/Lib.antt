@@ -16,11 +16,13 @@ pub mod Naming
 pub mod OldOrBrought
 pub mod OneChange
 pub mod OnePlace
+pub mod PartedLimits
 pub mod Placing
 pub mod Readers
 pub mod Removals
 pub mod RenumberedBack
 pub mod SplitJoined
+pub mod SplitTrees
 pub mod Starting
 pub mod Sublists
 pub mod Swapping

@@ -1,14 +1,15 @@
 -- What can be held against an insertion, told before it is made: by the levels that are brought, and by how deep and how
 -- many the provisions would be.
-use Rattle.std.specs.Prelude.{ℕ, ◌+◌, ◌||◌, ◌&&◌, Bool, true, false, not, List, max, nat_lt, Option, Some, None, if◌then◌else◌}
+use Rattle.std.specs.Prelude.{ℕ, ◌+◌, ◌||◌, ◌&&◌, Bool, true, false, not, List, [], max, nat_lt, Option, Some, None, if◌then◌else◌}
 use Rattle.std.specs.List.{list_any}
 use Rattle.std.specs.Str.{bytes_eq}
+use Rattle.eid_paths.specs.declared.element.Element.{Element}
 use Rattle.eid_paths.specs.declared.numbering.Numbering.{Numbering}
 use Rattle.eid_paths.specs.Elements.{is_throughout}
 use Rattle.eid_paths.specs.Levels.{level_text}
 use Rattle.eid_paths.specs.Nums.{is_num}
 use Rattle.act_tree.specs.declared.build_fault.BuildFault.{BuildFault}
-use Rattle.act_tree.specs.declared.build_fault.BuildFault.TheVariants.{EidTwice, TooDeep, TooManyNodes}
+use Rattle.act_tree.specs.declared.build_fault.BuildFault.TheVariants.{EidTwice, TooDeep, TooManyNodes, TextTooLong}
 use Rattle.act_tree.specs.declared.tree.Tree.{Tree}
 use Rattle.act_tree.specs.Branches.{Branch, Branches, branch, no_branches, more_branches, heights, counts}
 use Rattle.act_tree.specs.Changes.{root_wid}
@@ -88,3 +89,18 @@ insertion_fault t parent new =
 abbrev pub have_nums : Branches Own → Bool
 have_nums no_branches = true
 have_nums (more_branches (branch own below) bs) = is_num own.num && (have_nums below && have_nums bs)
+
+-- one provision that is brought, which says no more than its element and num
+abbrev pub one_alone : Element → List ℕ → Branches Own
+one_alone element num =
+    more_branches (branch
+    (record { element = element; num = num; heading = []; content = []; refs = [] })
+    no_branches) no_branches
+
+-- the first fault of a tree with a split: a second part of this element and num stands below the parent, too, and a text
+-- that is written may be too long
+abbrev pub split_fault : Tree → ℕ → Element → List ℕ → Bool → Option BuildFault
+split_fault t parent element num long =
+    if number_taken t parent (one_alone element num) then Some EidTwice
+    else (if nat_lt 4096 (counts (tree_view t).body + 1) then Some TooManyNodes
+    else (if long then Some TextTooLong else None))

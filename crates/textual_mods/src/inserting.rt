@@ -1,6 +1,6 @@
 //! Inserting: whether nodes may stand among the children of a node, which is known before they are put there.
 
-ghost use Rattle.std.specs.Prelude.{◌≡◌, ◌+◌, ◌-◌, ◌≤◌, ◌^◌, min, length, map, nat_lt, true, false, None, Ok, IfOk, OnOk, OnErr, if◌then◌else◌};
+ghost use Rattle.std.specs.Prelude.{◌≡◌, ◌+◌, ◌-◌, ◌≤◌, ◌^◌, ◌||◌, min, length, map, nat_lt, true, false, None, Ok, IfOk, OnOk, OnErr, if◌then◌else◌};
 ghost use Rattle.std.specs.List.{All};
 ghost use Rattle.std.specs.Str.{bytes_eq};
 ghost use Rattle.act_tree.specs.Branches.{branches_of, heights};
@@ -9,15 +9,17 @@ ghost use Rattle.act_tree.specs.Faults.{all_eids, all_owns, first_cause, first_f
 ghost use Rattle.act_tree.specs.Seen.{tree_view, has_node, provision_at, branch_at, below_at, children_at, grafted_at};
 ghost use Rattle.act_tree.specs.Wids.{one_twice};
 ghost use Rattle.act_tree.specs.declared.surveying.TheConstants.{NONE_THROUGHOUT};
+ghost use Rattle.eid_paths.specs.Elements.{is_throughout};
 ghost use Rattle.textual_mods.specs.Edits.{answer_to, settled};
 ghost use Rattle.textual_mods.specs.Insertions as spec;
-ghost use Rattle.textual_mods.specs.Insertions.{goes_on_again, have_nums, heights_over, insertion_fault, is_root, number_taken};
+ghost use Rattle.textual_mods.specs.Insertions.{goes_on_again, have_nums, heights_over, insertion_fault, is_root, number_taken, one_alone, split_fault};
 
 use crate::Outcome;
 use crate::brought::{begin_again, count_of_all, go_on_again, height_of_all, nums_are_kept};
 use crate::held_back::{held_back, or_step};
 use act_tree::{BuildFault, NodeId, Nodes, Tree, fault_of};
 use desk_base::{Id, Memory, Steps};
+use eid_paths::{Element, Num};
 use std::alloc::Global;
 use std::sync::ledger::Ledger;
 
@@ -104,6 +106,53 @@ fn is_number_taken(alloc: Global, tree: &Tree, parent: NodeId, new: &Nodes) -> R
     }
     let twice = has_eid_twice(alloc, tree, new)?;
     Ok(twice)
+}
+
+// Whether a node of this element begins an eId, among the children of a node.
+fn begins_below(tree: &Tree, parent: NodeId, element: Element) -> bool
+    requires { has_node tree.now parent ≡ true }
+    ensures { result ≡ (is_root tree.now parent || is_throughout (tree_view tree.now).numbering element) }
+{
+    if parent == tree.root() {
+        return true;
+    }
+    tree.numbering().has(element)
+}
+
+// Whether the number of one node is taken, among the children of a node.
+fn is_level_taken(tree: &Tree, parent: NodeId, element: Element, num: &Num) -> bool
+    requires { has_node tree.now parent ≡ true }
+    ensures { result ≡ number_taken tree.now parent (one_alone element num.now) }
+{
+    if begins_below(tree, parent, element) {
+        tree.has_level(element, num)
+    } else {
+        tree.has_child_level(parent, element, num)
+    }
+}
+
+/// The first fault of a tree with a split, if it would have one: a second part of this element and num stands below the
+/// parent, too; `long` says that a text which is written is too long.
+pub fn fault_of_split(
+    tree: &Tree,
+    parent: NodeId,
+    element: Element,
+    num: &Num,
+    long: bool,
+) -> Option<BuildFault>
+    requires { has_node tree.now parent ≡ true }
+    ensures { result ≡ split_fault tree.now parent element num.now long }
+{
+    if is_level_taken(tree, parent, element, num) {
+        return Some(BuildFault::EidTwice);
+    }
+    if tree.count().saturating_add(1) > 4096 {
+        return Some(BuildFault::TooManyNodes);
+    }
+    if long {
+        return Some(BuildFault::TextTooLong);
+    }
+    None
 }
 
 /// The first fault of a tree with nodes among the children of a node, if it would have one. The nodes of the tree are

@@ -1,10 +1,12 @@
 //! Split: a provision keeps its first part, and right behind it stands a new one with the second.
 
-ghost use Rattle.std.specs.Prelude.{◌≡◌, ◌+◌, ◌≤◌, false, true, length, map, IfOk, IfSome, OnOk, OnErr};
+ghost use Rattle.std.specs.Prelude.{◌≡◌, ◌+◌, ◌≤◌, ◌||◌, false, true, None, length, nat_lt, map, IfOk, IfSome, OnOk, OnErr};
 ghost use Rattle.std.specs.List.{All};
 ghost use Rattle.act_tree.specs.Branches.{branches_of};
 ghost use Rattle.act_tree.specs.Brought.{has_brought};
+ghost use Rattle.act_tree.specs.Faults.{first_cause};
 ghost use Rattle.act_tree.specs.Seen.{tree_view, has_node, provision_at, children_at, branch_at, below_at};
+ghost use Rattle.eid_paths.specs.Nums.{is_num};
 ghost use Rattle.textual_mods.specs.Edits.{answer_to, settled};
 ghost use Rattle.textual_mods.specs.EditsOfNodes as at_node;
 ghost use Rattle.textual_mods.specs.EditsOfNodes.{split_with};
@@ -13,11 +15,11 @@ ghost use Rattle.textual_mods.specs.Splits as spec;
 ghost use Rattle.textual_mods.specs.Splits.{split_at_cut};
 
 use crate::held_back::{held_back, or_step};
-use crate::settling::settle;
+use crate::inserting::fault_of_split;
 use crate::targets::provision_named;
 use crate::text::both;
 use crate::{Outcome, SplitAt, Spot, occurrences};
-use act_tree::{Cause, NodeId, Tree};
+use act_tree::{Cause, MAX_TEXT_BYTES, NodeId, Tree};
 use desk_base::{Id, Memory, Steps, Text};
 use eid_paths::Num;
 use std::alloc::Global;
@@ -42,7 +44,8 @@ pub fn split<L: Ledger>(
     heading: &Text,
     steps: &mut Steps<L>,
 ) -> Result<Outcome, Memory>
-    requires { has_brought by (tree_view tree.old).body ≡ false }
+    requires fresh { has_brought by (tree_view tree.old).body ≡ false }
+    requires fits { first_cause (tree_view tree.old) ≡ None }
     ensures outcome { IfOk result (λ o. o ≡ answer_to tree.old (split_at_cut by wid.now at.now num.now heading.now)) }
     ensures tree { OnOk result (tree_view tree.new
         ≡ settled tree.old (split_at_cut by wid.now at.now num.now heading.now)) }
@@ -69,6 +72,7 @@ fn split_node<L: Ledger>(
     requires fresh { has_brought by (tree_view tree.old).body ≡ false }
     requires node { has_node tree.old id ≡ true }
     requires provision { id ≡ 0 → ⊥ }
+    requires fits { first_cause (tree_view tree.old) ≡ None }
     ensures outcome { IfOk result (λ o. o ≡ answer_to tree.old
         (split_with tree.old by id (at_node.cut_at tree.old id at.now) num.now heading.now)) }
     ensures tree { OnOk result (tree_view tree.new ≡ settled tree.old
@@ -97,6 +101,7 @@ fn split_along<L: Ledger>(
     requires node { has_node tree.old id ≡ true }
     requires provision { id ≡ 0 → ⊥ }
     requires place { cut.children ≤ length (children_at tree.old id) }
+    requires fits { first_cause (tree_view tree.old) ≡ None }
     ensures outcome { IfOk result (λ o. o ≡ answer_to tree.old
         (split_with tree.old by id (Ok cut) num.now heading.now)) }
     ensures tree { OnOk result (tree_view tree.new ≡ settled tree.old
@@ -106,6 +111,16 @@ fn split_along<L: Ledger>(
 {
     let heading = or_step(heading.copy(), steps)?;
     part_along(alloc, tree, by, id, cut, num.copy(), heading, steps)
+}
+
+// Whether one of the texts that a split writes is too long.
+fn is_long(head: &Text, heading: &Text, tail: &Text) -> bool
+    ensures { result ≡ (nat_lt MAX_TEXT_BYTES (length head.now)
+        || (nat_lt MAX_TEXT_BYTES (length heading.now) || nat_lt MAX_TEXT_BYTES (length tail.now))) }
+{
+    head.as_str().len() > MAX_TEXT_BYTES
+        || heading.as_str().len() > MAX_TEXT_BYTES
+        || tail.as_str().len() > MAX_TEXT_BYTES
 }
 
 // The same, with a num and a heading of its own.
@@ -123,6 +138,8 @@ fn part_along<L: Ledger>(
     requires node { has_node tree.old id ≡ true }
     requires provision { id ≡ 0 → ⊥ }
     requires place { cut.children ≤ length (children_at tree.old id) }
+    requires fits { first_cause (tree_view tree.old) ≡ None }
+    requires num { is_num num ≡ true }
     ensures outcome { IfOk result (λ o. o ≡ answer_to tree.old (split_with tree.old by id (Ok cut) num heading)) }
     ensures tree { OnOk result (tree_view tree.new
         ≡ settled tree.old (split_with tree.old by id (Ok cut) num heading)) }
@@ -134,9 +151,16 @@ fn part_along<L: Ledger>(
         head,
         tail,
     } = cut;
-    let before = or_step(tree.copy(alloc), steps)?;
-    tree.cut_node(alloc, id, children, head, tail, num, heading, by, steps)?;
-    settle(alloc, tree, before)
+    let (parent, _place) = tree.place_of(id);
+    let element = tree.provision(id).element;
+    let long = is_long(&head, &heading, &tail);
+    match fault_of_split(tree, parent, element, &num, long) {
+        Some(fault) => Ok(held_back(fault.cause(), steps)),
+        None => {
+            tree.cut_node(alloc, id, children, head, tail, num, heading, by, steps)?;
+            Ok(Outcome::Done)
+        }
+    }
 }
 
 // How the provision of a node is split. `Err`: the cause that holds the split back.
