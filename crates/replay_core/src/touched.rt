@@ -174,7 +174,8 @@ fn day_of_filing(
     work: &WorkName,
 ) -> Result<Option<Day>, Memory>
     ensures { IfOk result
-        (λ day. day ≡ spec.day_recorded (map (λ i. i.body) (items_of work.now (draft_of drafter.now register.now.entries)))) }
+        (λ day. day
+        ≡ spec.day_recorded (map (λ i. i.body) (items_of work.now (draft_of drafter.now register.now.entries)))) }
 {
     let draft = register.draft(alloc, drafter)?;
     Ok(day_filed(draft.as_slice(), work))

@@ -22,7 +22,8 @@ fn known_for(
     question: &Question,
 ) -> Result<Option<Known>, Memory>
     ensures known { IfOk result
-        (λ known. known ≡ known_for register.now.entries question.now.work question.now.viewpoint question.now.version) }
+        (λ known. known
+        ≡ known_for register.now.entries question.now.work question.now.viewpoint question.now.version) }
     ensures sound { IfOk result (λ known. IfSome known IsSound) }
 {
     if question.version.is_some() {
