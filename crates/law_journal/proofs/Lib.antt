@@ -6,6 +6,7 @@ mod Crash
 mod Appending
 pub mod Lists
 pub mod Resting
+mod Alone
 mod Frames
 mod MemorySteps
 mod Painting

@@ -167,3 +167,7 @@ outlook_of bytes pasts = record {
   moment = length pasts;
   left_since = λ t c. (c ≡ bytes) ⊎ ((k : ℕ) × (t ≤ k) × (k ≤ length pasts) × images_at pasts k c);
 }
+
+-- an image that a crash may leave of a disk in memory
+abbrev pub MayLeave : HeldBytes → List ℕ → Type 0
+MayLeave h file = (outlook_of h.bytes h.pasts).may_leave file

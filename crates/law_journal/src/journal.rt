@@ -8,7 +8,7 @@ ghost use Rattle.law_journal.specs.Grammar.{is_size, frame_of, payload_of};
 ghost use Rattle.law_journal.specs.Journals.{AddsPayload, GatesStay, HasLoadCause, IsFrame, IsLater, IsListed, ListStays};
 ghost use Rattle.law_journal.specs.Journals.{GivesListed, LeavesOldOrSame, LeavesOneOfTwo, MayAddPayload, ReadsEntry};
 ghost use Rattle.law_journal.specs.Journals.{TellsDamage, stays_ready};
-ghost use Rattle.law_journal.specs.States.{HasFault, IsKnown};
+ghost use Rattle.law_journal.specs.States.{HasFault, IsKnown, LeavesAlone};
 
 use crate::Disk;
 use crate::reading::entry_at;
@@ -71,7 +71,7 @@ impl<D: Disk> Journal<D> {
     }
 
     /// Opens the journal on a disk: syncs, reads, cuts off what a crash left behind the closed gate. A file of at
-    /// most nine bytes becomes a journal with no payload.
+    /// most nine bytes becomes a journal with no payload. A file at rest is left alone.
     pub fn open(alloc: Global, disk: D) -> Result<Journal<D>, JournalRefused<D>>
         ensures opened { IfOk result (λ journal. journal.ready ≡ true) }
         ensures listed { IfOk result (λ journal. IsListed (D.outlook journal.disk) journal.gate) }
@@ -80,6 +80,8 @@ impl<D: Disk> Journal<D> {
         ensures damaged { IfErr result (λ refused. TellsDamage (D.outlook disk) refused.fault) }
         ensures any_moment { IfOk result (λ journal. LeavesOldOrSame (D.outlook disk) (D.outlook journal.disk)) }
         ensures any_moment_refused { IfErr result (λ refused. LeavesOldOrSame (D.outlook disk) (D.outlook refused.disk)) }
+        ensures alone { IfOk result (λ journal. LeavesAlone (D.outlook disk) (D.outlook journal.disk)) }
+        ensures alone_refused { IfErr result (λ refused. LeavesAlone (D.outlook disk) (D.outlook refused.disk)) }
         ensures cause { IfOk result (λ journal. D.faults journal.disk ≡ D.faults disk) }
         ensures cause_refused { IfErr result (λ refused. HasFault (D.faults disk) (D.faults refused.disk) refused.fault) }
     {
@@ -101,6 +103,7 @@ impl<D: Disk> Journal<D> {
         ensures same { ListStays (D.outlook self.old.disk) (D.outlook self.new.disk) }
         ensures damaged { IfErr result (TellsDamage (D.outlook self.old.disk)) }
         ensures any_moment { LeavesOldOrSame (D.outlook self.old.disk) (D.outlook self.new.disk) }
+        ensures alone { LeavesAlone (D.outlook self.old.disk) (D.outlook self.new.disk) }
         ensures tells { (D.outlook self.new.disk).tells → (D.outlook self.old.disk).tells }
         ensures cause { HasLoadCause (D.faults self.old.disk) (D.faults self.new.disk) result }
     {

@@ -9,9 +9,9 @@ use crate::history::History;
 use desk_base::{Failed, FailingCalls, Memory, count_fault};
 use std::alloc::Global;
 
-/// A disk in memory, which takes all its memory when it is made. A write, a cut or a sync past so many of them fails, so
-/// does a write that brings the bytes written in all above the capacity, and so do the calls whose numbers are listed,
-/// counted from 1. A call that fails does nothing.
+/// A disk in memory, which takes all its memory when it is made. A write, a cut or a sync past so many of them fails,
+/// so does a write that brings the bytes written in all above the capacity, and so do the calls whose numbers are
+/// listed, counted from 1. A call that fails does nothing.
 #[derive(Drop)]
 pub struct MemoryDisk {
     history: History,
@@ -50,7 +50,7 @@ impl MemoryDisk {
     /// other value the bytes as a read gives them with each byte written since the last sync turned into it.
     pub fn image(&self, alloc: Global, pick: u8) -> Result<Vec<u8>, Memory>
         ensures picked { IfOk result (λ image. image.items ≡ spec.image_of pick self.now.history) }
-        ensures left { IfOk result (λ image. (spec.outlook_of self.now.history.bytes self.now.history.pasts).may_leave image.items) }
+        ensures left { IfOk result (λ image. spec.MayLeave self.now.history image.items) }
     {
         self.history.image(alloc, pick)
     }

@@ -2,10 +2,11 @@
 
 ghost use Rattle.std.specs.Prelude.{◌≡◌, ◌+◌, ◌^◌, ◌<◌, ◌≤◌, length, OnOk, IfOk, IfErr};
 ghost use Rattle.desk_base.specs.Streams.{HasCause};
-ghost use Rattle.law_journal.specs.Disks.{LeavesOnly, Only};
+ghost use Rattle.law_journal.specs.Disks.{Idles, LeavesOnly, Only};
 ghost use Rattle.law_journal.specs.Grammar.{list_of};
 ghost use Rattle.law_journal.specs.Journals.{HasEnd, HasLoadCause, IsSameList, IsShort, LeavesOldOrSame, LeavesSame};
 ghost use Rattle.law_journal.specs.Journals.{Rests, Tells, is_started as started};
+ghost use Rattle.law_journal.specs.States.{LeavesAlone};
 ghost use Rattle.law_journal.specs.Windows.{IsWindow};
 
 use crate::Disk;
@@ -28,6 +29,7 @@ fn settle_short<D: Disk>(disk: &mut D) -> Result<u64, Failed>
     ensures rests { (D.outlook disk.old).tells → IfOk result (Rests (D.outlook disk.new)) }
     ensures bound { IfOk result (λ gate. gate ≡ 8) }
     ensures any_moment { (D.outlook disk.old).tells → LeavesOnly IsShort (D.outlook disk.old) (D.outlook disk.new) }
+    ensures alone { LeavesAlone (D.outlook disk.old) (D.outlook disk.new) }
     ensures tells { (D.outlook disk.new).tells → (D.outlook disk.old).tells }
     ensures cause { HasCause (D.faults disk.old) (D.faults disk.new) result }
 {
@@ -49,6 +51,7 @@ fn cut_behind<D: Disk>(disk: &mut D, window: &mut Window, gate: u64, len: u64) -
     requires durable { (D.outlook disk.old).tells → Only (D.outlook disk.old).seen (D.outlook disk.old).may_leave }
     ensures rests { OnOk result ((D.outlook disk.old).tells → Rests (D.outlook disk.new) gate) }
     ensures any_moment { LeavesSame (D.outlook disk.old) (D.outlook disk.new) }
+    ensures alone { gate + 1 ≡ len → Idles (D.outlook disk.old) (D.outlook disk.new) }
     ensures window { OnOk result (IsWindow (D.outlook disk.new) window.new) }
     ensures tells { (D.outlook disk.new).tells → (D.outlook disk.old).tells }
     ensures cause { HasCause (D.faults disk.old) (D.faults disk.new) result }
@@ -72,6 +75,7 @@ fn settle_long<D: Disk>(disk: &mut D, window: &mut Window, len: u64) -> Result<u
     ensures first { IfOk result (λ gate. 8 ≤ gate) }
     ensures bound { IfOk result (λ gate. gate + 1 < 2 ^ 63) }
     ensures any_moment { LeavesSame (D.outlook disk.old) (D.outlook disk.new) }
+    ensures alone { LeavesAlone (D.outlook disk.old) (D.outlook disk.new) }
     ensures window { OnOk result (IsWindow (D.outlook disk.new) window.new) }
     ensures tells { (D.outlook disk.new).tells → (D.outlook disk.old).tells }
     ensures cause { HasLoadCause (D.faults disk.old) (D.faults disk.new) result }
@@ -91,6 +95,7 @@ fn settle<D: Disk>(disk: &mut D, window: &mut Window) -> Result<u64, LoadFault>
     ensures first { IfOk result (λ gate. 8 ≤ gate) }
     ensures bound { IfOk result (λ gate. gate + 1 < 2 ^ 63) }
     ensures any_moment { LeavesSame (D.outlook disk.old) (D.outlook disk.new) }
+    ensures alone { LeavesAlone (D.outlook disk.old) (D.outlook disk.new) }
     ensures window { OnOk result (IsWindow (D.outlook disk.new) window.new) }
     ensures tells { (D.outlook disk.new).tells → (D.outlook disk.old).tells }
     ensures cause { HasLoadCause (D.faults disk.old) (D.faults disk.new) result }
@@ -112,6 +117,7 @@ pub fn recover<D: Disk>(disk: &mut D, window: &mut Window) -> Result<u64, LoadFa
     ensures first { IfOk result (λ gate. 8 ≤ gate) }
     ensures bound { IfOk result (λ gate. gate + 1 < 2 ^ 63) }
     ensures any_moment { LeavesOldOrSame (D.outlook disk.old) (D.outlook disk.new) }
+    ensures alone { LeavesAlone (D.outlook disk.old) (D.outlook disk.new) }
     ensures window { OnOk result (IsWindow (D.outlook disk.new) window.new) }
     ensures tells { (D.outlook disk.new).tells → (D.outlook disk.old).tells }
     ensures cause { HasLoadCause (D.faults disk.old) (D.faults disk.new) result }
