@@ -2,6 +2,7 @@ pub mod Cutting
 pub mod Framing
 pub mod Heads
 pub mod Hearing
+pub mod Queries
 pub mod Refusals
 pub mod Responses
 pub mod Rests

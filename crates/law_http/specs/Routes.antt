@@ -1,12 +1,13 @@
 -- Which part of the desk a request asks: by the path of its target, and then by its method.
-use Rattle.std.specs.Prelude.{ℕ, Bool, ◌==◌, bytes_eq, List, codes, Option, None, Some, Result, Ok, Err, if◌then◌else◌}
+use Rattle.std.specs.Prelude.{ℕ, Bool, true, ◌==◌, ◌&&◌, bytes_eq, List, [], ◌∷◌, codes, is_some, Option, None, Some, Result, Ok, Err, if◌then◌else◌}
 use Rattle.std.specs.List.{before_first, after_first}
+use Rattle.law_http.specs.Queries.{has_keys, query_pairs, value_of}
 use Rattle.law_http.specs.declared.route.Route.{Route}
 use Rattle.law_http.specs.declared.route.Route.TheVariants as route
 use Rattle.law_http.specs.declared.status.Allow.{Allow}
 use Rattle.law_http.specs.declared.status.Allow.TheVariants.{Get, Post}
 use Rattle.law_http.specs.declared.refusal.RequestRefusal.{RequestRefusal}
-use Rattle.law_http.specs.declared.refusal.RequestRefusal.TheVariants.{NoRoute, WrongMethod}
+use Rattle.law_http.specs.declared.refusal.RequestRefusal.TheVariants.{NoRoute, WrongMethod, BadForm}
 
 -- a question mark
 abbrev pub is_question_mark : ℕ → Bool
@@ -45,3 +46,27 @@ with_method method (Some found) = if has_method method (method_of found) then Ok
 -- what a request asks
 abbrev pub route_of : List ℕ → List ℕ → Result Route RequestRefusal
 route_of method target = with_method method (route_at (path_of target))
+
+-- the keys that a route knows
+abbrev pub known_keys : Route → List (List ℕ)
+known_keys route.Front = []
+known_keys route.Text = codes "expression" ∷ codes "viewpoint" ∷ codes "reading" ∷ []
+known_keys route.Commands = []
+
+-- the key that a route needs is there
+abbrev pub has_needed : Route → List (List ℕ × List ℕ) → Bool
+has_needed route.Front pairs = true
+has_needed route.Text pairs = is_some (value_of (codes "expression") pairs)
+has_needed route.Commands pairs = true
+
+-- no key is unknown, none is there twice, and none is missing
+abbrev pub has_keys_of : Route → List (List ℕ × List ℕ) → Bool
+has_keys_of route pairs = has_keys (known_keys route) pairs && has_needed route pairs
+
+-- the pairs, or the fault of their form
+abbrev pub judged : Route → List (List ℕ × List ℕ) → Result (List (List ℕ × List ℕ)) RequestRefusal
+judged route pairs = if has_keys_of route pairs then Ok pairs else Err (BadForm 2 0)
+
+-- what the query of a target asks of a route
+abbrev pub asked_of : Route → List ℕ → Result (List (List ℕ × List ℕ)) RequestRefusal
+asked_of route target = judged route (query_pairs (query_of target))

@@ -1,10 +1,12 @@
 //! Which part of the desk a request asks.
 
-ghost use Rattle.std.specs.Prelude.{◌≡◌};
+ghost use Rattle.std.specs.Prelude.{◌≡◌, IfOk};
 ghost use Rattle.law_http.specs.Routes as spec;
 
 use crate::status::Allow;
-use crate::{Request, RequestRefusal};
+use crate::{Query, Request, RequestRefusal};
+use desk_base::Memory;
+use std::alloc::Global;
 
 /// What a path stands for.
 #[derive(Clone, Copy, Debug, PartialEq, Eq)]
@@ -70,6 +72,29 @@ fn with_method(method: &str, route: Option<Route>) -> Result<Route, RequestRefus
     }
 }
 
+// Whether a query has the keys that the route knows, none of them twice, and those that it needs.
+fn has_keys_of(query: &Query, route: Route) -> bool
+    ensures { result ≡ spec.has_keys_of route query.now }
+{
+    match route {
+        Route::Front | Route::Commands => query.has_keys(&[]),
+        Route::Text => {
+            query.has_keys(&["expression", "viewpoint", "reading"])
+                && query.value("expression").is_some()
+        }
+    }
+}
+
+fn judged(query: Query, route: Route) -> Result<Query, RequestRefusal>
+    ensures { result ≡ spec.judged route query }
+{
+    if has_keys_of(&query, route) {
+        Ok(query)
+    } else {
+        Err(RequestRefusal::BadForm { form: 2, place: 0 })
+    }
+}
+
 impl Request {
     /// What the request asks, by the path of its target and then by its method. Paths are compared as they were sent,
     /// byte for byte.
@@ -86,5 +111,17 @@ impl Request {
     {
         let (_, query) = split_target(self.target.as_str());
         query
+    }
+
+    /// The pairs of the query, for a route. Where a key is unknown, is there twice or is missing, the form is bad by
+    /// rule 2. Values are not judged.
+    pub fn read_query(
+        &self,
+        alloc: Global,
+        route: Route,
+    ) -> Result<Result<Query, RequestRefusal>, Memory>
+        ensures { IfOk result (λ asked. asked ≡ spec.asked_of route self.now.target) }
+    {
+        Ok(judged(Query::from_text(alloc, self.query())?, route))
     }
 }

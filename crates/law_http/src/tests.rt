@@ -3,8 +3,8 @@
 ghost use Rattle.std.specs.Prelude.{◌≤◌};
 
 use crate::{
-    HearFault, Heard, MessageRefusal, Response, Rest, Status, put_response, read_request,
-    refused_message,
+    Allow, HearFault, Heard, MessageRefusal, Request, RequestRefusal, Response, Rest, Route,
+    Status, put_response, read_request, refused_message,
 };
 use desk_base::MemoryLink;
 use std::test::Fail;
@@ -95,6 +95,48 @@ fn failed_read_loses_nothing(rt: HostRuntime) -> Result<(), Fail> {
     }
     match read_request(rt.alloc(), &mut link, &mut rest) {
         Ok(Heard::Refused(refusal)) => assert_eq!(rt; refusal, MessageRefusal::Truncated),
+        _ => return Err(Fail::from("no refusal")),
+    }
+    Ok(())
+}
+
+fn request_of<R: AllocGlobal>(rt: &R, bytes: &[u8]) -> Result<Request, Fail> {
+    match first(rt, bytes, 1_000)? {
+        Heard::Request(request) => Ok(request),
+        _ => Err(Fail::from("no request")),
+    }
+}
+
+#[test]
+fn path_decides_before_method(rt: HostRuntime) -> Result<(), Fail> {
+    let request = request_of(&rt, b"DELETE /text?a HTTP/1.0\r\n\r\n")?;
+    assert_eq!(rt;
+        request.route(),
+        Err(RequestRefusal::WrongMethod(Allow::Get))
+    );
+    let request = request_of(&rt, b"DELETE /texts HTTP/1.0\r\n\r\n")?;
+    assert_eq!(rt; request.route(), Err(RequestRefusal::NoRoute));
+    Ok(())
+}
+
+#[test]
+fn query_is_decoded(rt: HostRuntime) -> Result<(), Fail> {
+    let request = request_of(
+        &rt,
+        b"GET /text?&expression=%2Fakn+1&reading=force HTTP/1.0\r\n\r\n",
+    )?;
+    assert_eq!(rt; request.route(), Ok(Route::Text));
+    match request.read_query(rt.alloc(), Route::Text) {
+        Ok(Ok(query)) => {
+            assert_eq!(rt; query.value("expression"), Some("/akn 1"));
+            assert_eq!(rt; query.value("viewpoint"), None);
+        }
+        _ => return Err(Fail::from("no query")),
+    }
+    match request.read_query(rt.alloc(), Route::Front) {
+        Ok(Err(refusal)) => {
+            assert_eq!(rt; refusal, RequestRefusal::BadForm { form: 2, place: 0 });
+        }
         _ => return Err(Fail::from("no refusal")),
     }
     Ok(())
