@@ -1,0 +1,8 @@
+use Rattle.entry_codec.specs.Values.{expression}
+use Rattle.entry_codec.proofs.Loops.{goes_on}
+use Rattle.entry_codec.proofs.reading.reader.Reader.each_ref.Goals as goal
+
+pub loop-preserved : goal.loop-preserved
+loop-preserved c =
+    goes_on expression.read c.loop.refs c.args.count c.loop.counter c.loop.self.left.now _ _ c.push.new.self _
+    c.loop-test.true c.in_ok-expression.ensures c.in_ok-push.ensures.ok c.loop.invariant

@@ -1,0 +1,8 @@
+-- What is written so far is what those so far spell.
+use Rattle.std.proofs.Common.{◌≡◌, ◌++◌, take}
+use Rattle.std.specs.List.{flat_map}
+use Rattle.entry_codec.specs.Modifications.{modification}
+use Rattle.entry_codec.proofs.writing.modifications.put_each_modification.Given as goal
+
+abbrev pub invariant-loop-modification : goal.invariant-loop-modification
+invariant-loop-modification l = l.out.items ≡ l.fn.out.items ++ flat_map modification.spell (take l.modification-index l.mods)

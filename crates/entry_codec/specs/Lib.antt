@@ -1,0 +1,7 @@
+pub mod Reads
+pub mod Fields
+pub mod Values
+pub mod Nodes
+pub mod Modifications
+pub mod Commands
+pub mod Entries

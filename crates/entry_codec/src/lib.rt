@@ -1,0 +1,10 @@
+//! The bytes in which an entry is kept: one spelling for each, and for other bytes the first fault.
+#![tactic(auto)]
+
+mod fault;
+mod reading;
+mod writing;
+
+pub use fault::{CodecFault, DecodeFail};
+pub use reading::decode;
+pub use writing::encode;

@@ -1,0 +1,49 @@
+//! An entry is decoded from its bytes: a clause says which entry it is, or where the first broken field begins.
+
+ghost use Rattle.std.specs.Prelude.{◌≡◌};
+ghost use Rattle.entry_codec.specs.Reads.{Gives};
+ghost use Rattle.entry_codec.specs.Entries as spec;
+
+mod commands;
+mod edits;
+mod effects;
+mod entries;
+mod modifications;
+mod nodes;
+mod numbers;
+mod reader;
+mod texts;
+mod values;
+
+use crate::{CodecFault, DecodeFail};
+use law_register::Entry;
+use reader::{Reader, Stop};
+use std::alloc::Global;
+
+fn fault_at(bytes: &[u8], left: usize) -> CodecFault
+    ensures { result ≡ spec.fault_at bytes.now left }
+{
+    let place = bytes.len().saturating_sub(left);
+    CodecFault {
+        place: place as u64,
+        byte: bytes.get(place).copied(),
+    }
+}
+
+/// The entry that bytes spell.
+///
+/// The fault is that of the first field, from the left, that breaks its rule or that the bytes do not hold whole. A length has no
+/// rule of its own: a text whose length its rule forbids breaks that rule where its bytes begin. Bytes left over are a fault at
+/// the first of them. What is decoded is well spelled, and can be spelled.
+#[tactic(auto, unfolding(crate::specs::Entries::decoding))]
+pub fn decode(alloc: Global, bytes: &[u8]) -> Result<Entry, DecodeFail>
+    ensures { Gives (λ e. e) result (spec.decoding bytes.now) }
+{
+    let mut reader = Reader { left: bytes };
+    match reader.entry(alloc) {
+        Ok(entry) if reader.left.is_empty() => Ok(entry),
+        Ok(_) => Err(DecodeFail::Fault(fault_at(bytes, reader.left.len()))),
+        Err(Stop::Broken(left)) => Err(DecodeFail::Fault(fault_at(bytes, left))),
+        Err(Stop::Memory) => Err(DecodeFail::Memory),
+    }
+}

@@ -1,0 +1,80 @@
+//! Acts and commands.
+
+ghost use Rattle.std.specs.Prelude.{◌≡◌, ◌++◌, OnOk};
+ghost use Rattle.entry_codec.specs.Commands as spec;
+
+use super::modifications::{put_modification, put_modifications};
+use super::nodes::put_payload;
+use super::numbers::put_number32;
+use super::texts::put_work;
+use super::values::{put_day, put_id, put_numbering, put_period};
+use desk_base::Memory;
+use law_register::{Act, Command};
+
+// The day of an act, and what stands behind it.
+#[tactic(auto, unfolding(crate::specs::Commands::act_rest, crate::specs::Values::act_day))]
+fn put_act_rest(out: &mut Vec<u8>, act: &Act) -> Result<(), Memory>
+    ensures { OnOk result (out.new.items ≡ out.old.items
+        ++ (spec.act_rest act.now.work).spell (act.now.day, (act.now.numbering, (act.now.force, act.now.body)))) }
+{
+    put_day(out, act.day)?;
+    put_numbering(out, &act.numbering)?;
+    put_period(out, act.force)?;
+    put_payload(out, &act.body)?;
+    Ok(())
+}
+
+#[tactic(auto, unfolding(crate::specs::Commands::act, crate::specs::Values::language))]
+fn put_act(out: &mut Vec<u8>, act: &Act) -> Result<(), Memory>
+    ensures { OnOk result (out.new.items ≡ out.old.items ++ spec.act.spell act.now) }
+{
+    put_work(out, &act.work)?;
+    out.extend_from_slice(&act.language)?;
+    put_act_rest(out, act)?;
+    Ok(())
+}
+
+#[tactic(auto, unfolding(crate::specs::Commands::command, crate::specs::Commands::enact, crate::specs::Commands::recorded, crate::specs::Commands::correct, crate::specs::Commands::withdraw, crate::specs::Commands::restore, crate::specs::Commands::draft_add, crate::specs::Commands::draft_drop, crate::specs::Commands::file))]
+pub(super) fn put_command(out: &mut Vec<u8>, command: &Command) -> Result<(), Memory>
+    ensures { OnOk result (out.new.items ≡ out.old.items ++ spec.command.spell command.now) }
+{
+    match command {
+        Command::Enact { act } => {
+            out.push(1)?;
+            put_act(out, act)?;
+        }
+        Command::Record { work, mods } => {
+            out.push(2)?;
+            put_work(out, work)?;
+            put_modifications(out, mods)?;
+        }
+        Command::Correct { id, body } => {
+            out.push(3)?;
+            put_id(out, *id)?;
+            put_modification(out, body)?;
+        }
+        Command::Withdraw { id } => {
+            out.push(4)?;
+            put_id(out, *id)?;
+        }
+        Command::Restore { id } => {
+            out.push(5)?;
+            put_id(out, *id)?;
+        }
+        Command::DraftAdd { work, body } => {
+            out.push(6)?;
+            put_work(out, work)?;
+            put_modification(out, body)?;
+        }
+        Command::DraftDrop { item } => {
+            out.push(7)?;
+            put_number32(out, *item)?;
+        }
+        Command::File { work, seen } => {
+            out.push(8)?;
+            put_work(out, work)?;
+            put_number32(out, *seen)?;
+        }
+    }
+    Ok(())
+}

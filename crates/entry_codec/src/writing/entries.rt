@@ -1,0 +1,33 @@
+//! Entries.
+
+ghost use Rattle.std.specs.Prelude.{◌≡◌, ◌++◌, OnOk};
+ghost use Rattle.entry_codec.specs.Entries as spec;
+
+use super::commands::put_command;
+use super::numbers::put_number64;
+use super::texts::put_drafter;
+use super::values::{put_day, put_law};
+use desk_base::Memory;
+use law_register::Entry;
+
+// The fields of an entry behind the byte for its format.
+#[tactic(auto, unfolding(crate::specs::Entries::fields))]
+fn put_fields(out: &mut Vec<u8>, entry: &Entry) -> Result<(), Memory>
+    ensures { OnOk result (out.new.items ≡ out.old.items ++ spec.fields.spell entry.now) }
+{
+    put_drafter(out, &entry.drafter)?;
+    put_number64(out, entry.request)?;
+    put_day(out, entry.day)?;
+    put_law(out, entry.law)?;
+    put_command(out, &entry.command)?;
+    Ok(())
+}
+
+#[tactic(auto, unfolding(crate::specs::Entries::entry))]
+pub(super) fn put_entry(out: &mut Vec<u8>, entry: &Entry) -> Result<(), Memory>
+    ensures { OnOk result (out.new.items ≡ out.old.items ++ spec.entry.spell entry.now) }
+{
+    out.push(1)?;
+    put_fields(out, entry)?;
+    Ok(())
+}
