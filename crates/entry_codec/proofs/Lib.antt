@@ -2,3 +2,8 @@ pub mod Texts
 pub mod Loops
 pub mod Depths
 pub mod Lengths
+pub mod Exact
+pub mod Numberings
+pub mod Formats
+pub mod Decoding
+pub mod Rules

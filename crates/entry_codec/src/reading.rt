@@ -1,6 +1,8 @@
 //! An entry is decoded from its bytes: a clause says which entry it is, or where the first broken field begins.
 
-ghost use Rattle.std.specs.Prelude.{◌≡◌};
+ghost use Rattle.std.specs.Prelude.{◌≡◌, true, IfOk};
+ghost use Rattle.law_register.specs.Law.Spellable.{can_be_spelled};
+ghost use Rattle.law_register.specs.Law.Spelling.{is_well_spelled};
 ghost use Rattle.entry_codec.specs.Reads.{Gives};
 ghost use Rattle.entry_codec.specs.Entries as spec;
 
@@ -30,13 +32,8 @@ fn fault_at(bytes: &[u8], left: usize) -> CodecFault
     }
 }
 
-/// The entry that bytes spell.
-///
-/// The fault is that of the first field, from the left, that breaks its rule or that the bytes do not hold whole. A length has no
-/// rule of its own: a text whose length its rule forbids breaks that rule where its bytes begin. Bytes left over are a fault at
-/// the first of them. What is decoded is well spelled, and can be spelled.
 #[tactic(auto, unfolding(crate::specs::Entries::decoding))]
-pub fn decode(alloc: Global, bytes: &[u8]) -> Result<Entry, DecodeFail>
+fn decoded(alloc: Global, bytes: &[u8]) -> Result<Entry, DecodeFail>
     ensures { Gives (λ e. e) result (spec.decoding bytes.now) }
 {
     let mut reader = Reader { left: bytes };
@@ -46,4 +43,17 @@ pub fn decode(alloc: Global, bytes: &[u8]) -> Result<Entry, DecodeFail>
         Err(Stop::Broken(left)) => Err(DecodeFail::Fault(fault_at(bytes, left))),
         Err(Stop::Memory) => Err(DecodeFail::Memory),
     }
+}
+
+/// The entry that bytes spell.
+///
+/// The fault is that of the first field, from the left, that breaks its rule or that the bytes do not hold whole. A length has no
+/// rule of its own: a text whose length its rule forbids breaks that rule where its bytes begin. Bytes left over are a fault at
+/// the first of them. What is decoded is well spelled, and can be spelled.
+pub fn decode(alloc: Global, bytes: &[u8]) -> Result<Entry, DecodeFail>
+    ensures value { Gives (λ e. e) result (spec.decoding bytes.now) }
+    ensures well { IfOk result (λ e. is_well_spelled e.command ≡ true) }
+    ensures able { IfOk result (λ e. can_be_spelled e ≡ true) }
+{
+    decoded(alloc, bytes)
 }
