@@ -1,0 +1,83 @@
+-- What an office has, and how it stands to its keeper.
+use Rattle.std.specs.Prelude.{ℕ, ◌≡◌, ◌≢◌, ◌≤◌, List, [], ◌∷◌, length, All, Option, Some, None, IfSome, Ok}
+use Rattle.std.specs.Option.{option_map}
+use Rattle.law_journal.specs.Grammar.{Listing}
+use Rattle.law_keeper.specs.Keepers.{Holding, IsSettled, IsWithOrWithout}
+use Rattle.law_keeper.specs.declared.readiness.Readiness.{Readiness}
+use Rattle.law_keeper.specs.declared.readiness.Readiness.TheVariants.{Unopened, Ready}
+use Rattle.law_register.specs.declared.desk.fault_mark.FaultMark.{FaultMark}
+use Rattle.law_register.specs.declared.register.entry.Entry.{Entry}
+use Rattle.law_register.specs.Desk.States.{DeskState, MayFollow, Standing}
+use Rattle.entry_codec.specs.Entries.{spelling}
+use Rattle.law_office.specs.Opening.{spellings}
+use Rattle.law_office.specs.declared.book.Book.{Book}
+use Rattle.law_office.specs.declared.book.Pending.{Pending}
+
+-- what contracts see of an office: its keeper and its clock as they are now, its entries, the one that is pending,
+-- the marks of faults, and the names of the keeper and the clock that it was lent
+pub record OfficeState (K C : Type 0) : Type 0 where
+  pub keeper : K
+  pub clock : C
+  pub entries : List Entry
+  pub pending : Option Entry
+  pub marks : List FaultMark
+  pub origin : List ℕ
+
+-- the names of a keeper and a clock
+abbrev pub names_of : ℕ → ℕ → List ℕ
+names_of keeper clock = keeper ∷ clock ∷ []
+
+-- the first of these names is that of the keeper
+abbrev pub IsNamed : List ℕ → ℕ → Type 0
+IsNamed [] name = ⊥
+IsNamed (keeper ∷ others) name = name ≡ keeper
+
+-- the entry that is pending, if there is one
+abbrev pub pending_of : Option Pending → Option Entry
+pending_of pending = option_map (λ p. p.entry) pending
+
+-- an entry that is pending may stand behind the others, there is room for it, and its bytes are those that spell it
+pub record IsPendingOn (entries : List Entry) (spare : ℕ) (p : Pending) : Type 0 where
+  pub follows : MayFollow entries p.entry
+  pub room : 1 ≤ spare
+  pub bytes : p.bytes.items ≡ spelling p.entry
+
+-- the book of an office is right in itself: what is pending, and its marks, which were made when so many entries
+-- stood as there are, or fewer
+pub record IsRight (book : Book) : Type 0 where
+  pub pending : IfSome book.pending (IsPendingOn book.register.entries book.register.spare)
+  pub marks : All (λ mark. mark.entries ≤ length book.register.entries) book.marks.items
+
+-- a list of payloads spells entries; where one is pending, it may stand behind them or not
+abbrev pub Spells : List Entry → Option Entry → Listing → Type 0
+Spells entries None list = list ≡ Ok (spellings entries)
+Spells entries (Some entry) list = IsWithOrWithout (Ok (spellings entries)) (spelling entry) list
+
+-- a keeper holds entries and the one that is pending: it was opened, is ready unless one is pending, and where it
+-- tells its list, that spells them, and the cursor stands behind the entries
+pub record Holds (h : Holding) (readiness : Readiness) (entries : List Entry) (pending : Option Entry) (cursor : ℕ)
+    : Type 0 where
+  pub opened : readiness ≢ Unopened
+  pub ready : pending ≡ None → readiness ≡ Ready
+  pub settled : readiness ≡ Ready → IsSettled h
+  pub list : h.tells → Spells entries pending h.list
+  pub end : h.tells → h.place_of cursor ≡ Some (length entries)
+
+-- a keeper holds what the book of an office says
+abbrev pub HoldsBook : Holding → Readiness → Book → Type 0
+HoldsBook h readiness book = Holds h readiness book.register.entries (pending_of book.pending) book.end
+
+-- how the desk stands whose book this is, with these days to come
+abbrev pub standing_of : Book → Option (ℕ → ℕ) → Standing
+standing_of book days = record { entries = book.register.entries; pending = pending_of book.pending; days = days }
+
+-- what of an office all desks have
+abbrev pub desk_of : {K C : Type 0} → (K → ℕ) → (C → Option (ℕ → ℕ)) → OfficeState K C → DeskState
+desk_of faults days office = record {
+  entries = office.entries;
+  pending = office.pending;
+  marks = office.marks;
+  faults = faults office.keeper;
+  days = days office.clock;
+  origin = office.origin;
+}

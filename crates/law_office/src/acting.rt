@@ -1,0 +1,245 @@
+//! Acting: a command is done in two steps. What is pending is settled, and the command is judged and acts.
+
+ghost use Rattle.std.specs.Prelude.{◌≡◌, ◌≤◌, ◌∷◌, ◌++◌, [], true, None, IfOk};
+ghost use Rattle.law_register.specs.Desk.Commands.{Ends, HasCommandCause, mark_of, marks_after};
+ghost use Rattle.law_register.specs.Desk.States.{MayFollow};
+ghost use Rattle.law_register.specs.Law.Spelling.{is_well_spelled};
+ghost use Rattle.law_register.specs.Register.Verdicts.{verdict};
+ghost use Rattle.law_register.specs.declared.register.verdict.Verdict.TheVariants.{Accepted};
+ghost use Rattle.entry_codec.specs.Entries.{spelling};
+ghost use Rattle.law_office.specs.Acting.{Acts, Settles};
+ghost use Rattle.law_office.specs.Offices.{HoldsBook, IsPendingOn, IsRight, standing_of};
+
+use crate::book::{Book, Pending};
+use crate::sent::Sent;
+use desk_base::{Clock, LoadFault, Memory};
+use entry_codec::encode;
+use law_keeper::{KeepFault, Keeper, settle};
+use law_register::{CommandFault, Entry, Register, Reply, Verdict, laws};
+use std::alloc::Global;
+
+// Does a command. Room for a mark is made before all else.
+pub(crate) fn command<K: Keeper, C: Clock>(
+    alloc: Global,
+    keeper: &mut K,
+    clock: &mut C,
+    book: &mut Book,
+    sent: Sent,
+) -> Result<Reply, CommandFault>
+    requires right { IsRight book.old }
+    requires held { HoldsBook (K.holding keeper.old) (K.readiness keeper.old) book.old }
+    requires spelled { is_well_spelled sent.command ≡ true }
+    ensures outcome { Ends sent.drafter sent.request sent.command
+        (standing_of book.old (C.days clock.old)) (standing_of book.new (C.days clock.new)) result }
+    ensures marks { book.new.marks.items ≡ marks_after book.old.marks.items
+        (mark_of sent.drafter sent.request book.new.register.entries) result }
+    ensures right { IsRight book.new }
+    ensures held { HoldsBook (K.holding keeper.new) (K.readiness keeper.new) book.new }
+    ensures cause { HasCommandCause (K.faults keeper.old) (K.faults keeper.new) result }
+{
+    match book.reserve_mark(&sent.drafter, sent.request) {
+        Ok(mark) => match settle_and_act(alloc, keeper, clock, book, sent) {
+            Err(CommandFault::KeeperFault) => {
+                book.add_mark(mark);
+                Err(CommandFault::KeeperFault)
+            }
+            outcome => outcome,
+        },
+        Err(Memory) => {
+            drop(sent);
+            Err(CommandFault::Memory)
+        }
+    }
+}
+
+// Settles what is pending, asks the clock for the day, and does what the verdict says.
+fn settle_and_act<K: Keeper, C: Clock>(
+    alloc: Global,
+    keeper: &mut K,
+    clock: &mut C,
+    book: &mut Book,
+    sent: Sent,
+) -> Result<Reply, CommandFault>
+    requires right { IsRight book.old }
+    requires held { HoldsBook (K.holding keeper.old) (K.readiness keeper.old) book.old }
+    requires spelled { is_well_spelled sent.command ≡ true }
+    ensures outcome { Ends sent.drafter sent.request sent.command
+        (standing_of book.old (C.days clock.old)) (standing_of book.new (C.days clock.new)) result }
+    ensures marks { book.new.marks ≡ book.old.marks }
+    ensures right { IsRight book.new }
+    ensures held { HoldsBook (K.holding keeper.new) (K.readiness keeper.new) book.new }
+    ensures cause { HasCommandCause (K.faults keeper.old) (K.faults keeper.new) result }
+{
+    match settle_pending(alloc, keeper, book) {
+        Ok(()) => {
+            let day = clock.today();
+            act(alloc, keeper, book, sent.on(day))
+        }
+        Err(fault) => {
+            drop(sent);
+            Err(fault)
+        }
+    }
+}
+
+// Opens the keeper again where an entry is pending, and finds out whether it was kept.
+fn settle_pending<K: Keeper>(
+    alloc: Global,
+    keeper: &mut K,
+    book: &mut Book,
+) -> Result<(), CommandFault>
+    requires right { IsRight book.old }
+    requires held { HoldsBook (K.holding keeper.old) (K.readiness keeper.old) book.old }
+    ensures settles { Settles book.old book.new result }
+    ensures marks { book.new.marks ≡ book.old.marks }
+    ensures right { IsRight book.new }
+    ensures held { HoldsBook (K.holding keeper.new) (K.readiness keeper.new) book.new }
+    ensures cause { HasCommandCause (K.faults keeper.old) (K.faults keeper.new) result }
+{
+    let found = match &book.pending {
+        None => return Ok(()),
+        Some(pending) => settle(alloc, keeper, book.end, pending.bytes.as_slice()),
+    };
+    match found {
+        Ok(found) => {
+            book.resolve(found);
+            Ok(())
+        }
+        Err(LoadFault::Memory) => Err(CommandFault::Memory),
+        Err(_) => Err(CommandFault::KeeperFault),
+    }
+}
+
+// Judges the command of an entry whose law number is not known yet, behind entries of which none is pending.
+#[tactic(auto, unfolding(law_register::specs::Register::Entering::entered))]
+fn act<K: Keeper>(
+    alloc: Global,
+    keeper: &mut K,
+    book: &mut Book,
+    entry: Entry,
+) -> Result<Reply, CommandFault>
+    requires right { IsRight book.old }
+    requires settled { book.old.pending ≡ None }
+    requires held { HoldsBook (K.holding keeper.old) (K.readiness keeper.old) book.old }
+    requires spelled { is_well_spelled entry.command ≡ true }
+    ensures acts { Acts entry book.old book.new result }
+    ensures marks { book.new.marks ≡ book.old.marks }
+    ensures right { IsRight book.new }
+    ensures held { HoldsBook (K.holding keeper.new) (K.readiness keeper.new) book.new }
+    ensures cause { HasCommandCause (K.faults keeper.old) (K.faults keeper.new) result }
+{
+    match book
+        .register
+        .judge(alloc, &entry.drafter, entry.request, &entry.command)
+    {
+        Ok(Verdict::Accepted { law, reply }) => {
+            keep(alloc, keeper, book, with_law(entry, law), reply)
+        }
+        Ok(Verdict::Repeat(reply)) => let_go(entry, Ok(reply)),
+        Ok(Verdict::Refused(rule)) => let_go(entry, Err(CommandFault::Rule(rule))),
+        Err(Memory) => let_go(entry, Err(CommandFault::Memory)),
+    }
+}
+
+// An entry is let go in one call, whatever is answered.
+fn let_go(entry: Entry, outcome: Result<Reply, CommandFault>) -> Result<Reply, CommandFault>
+    ensures { result ≡ outcome }
+{
+    drop(entry);
+    outcome
+}
+
+// The entry with this law number.
+fn with_law(entry: Entry, law: Option<u32>) -> Entry
+    ensures { result ≡ record entry { law = law } }
+{
+    let Entry {
+        drafter,
+        request,
+        day,
+        law: _,
+        command,
+    } = entry;
+    Entry {
+        drafter,
+        request,
+        day,
+        law,
+        command,
+    }
+}
+
+// Keeps an entry that is accepted with this reply. All memory is taken before the keeper is asked.
+fn keep<K: Keeper>(
+    alloc: Global,
+    keeper: &mut K,
+    book: &mut Book,
+    entry: Entry,
+    reply: Reply,
+) -> Result<Reply, CommandFault>
+    requires right { IsRight book.old }
+    requires settled { book.old.pending ≡ None }
+    requires held { HoldsBook (K.holding keeper.old) (K.readiness keeper.old) book.old }
+    requires spelled { is_well_spelled entry.command ≡ true }
+    requires accepted { verdict book.old.register.entries entry.drafter entry.request entry.command
+        ≡ Accepted entry.law reply }
+    ensures acts { Acts entry book.old book.new result }
+    ensures marks { book.new.marks ≡ book.old.marks }
+    ensures right { IsRight book.new }
+    ensures held { HoldsBook (K.holding keeper.new) (K.readiness keeper.new) book.new }
+    ensures cause { HasCommandCause (K.faults keeper.old) (K.faults keeper.new) result }
+{
+    match prepare(alloc, &mut book.register, &entry) {
+        Ok(bytes) => append(alloc, keeper, book, Pending { entry, bytes }, reply),
+        Err(Memory) => let_go(entry, Err(CommandFault::Memory)),
+    }
+}
+
+// Makes room for an entry, and spells it.
+fn prepare(alloc: Global, register: &mut Register, entry: &Entry) -> Result<Vec<u8>, Memory>
+    requires { MayFollow register.old.entries entry.now }
+    ensures entries { register.new.entries ≡ register.old.entries }
+    ensures pending { IfOk result (λ bytes. IsPendingOn register.new.entries register.new.spare
+        (record { entry = entry.now; bytes = bytes })) }
+{
+    register.reserve(entry)?;
+    laws::accepted_can_be_spelled(register, entry);
+    encode(alloc, entry)
+}
+
+// Gives an entry to the keeper, and commits it once the keeper has it.
+#[tactic(auto, unfolding(law_register::specs::Register::Entering::entered))]
+fn append<K: Keeper>(
+    alloc: Global,
+    keeper: &mut K,
+    book: &mut Book,
+    pending: Pending,
+    reply: Reply,
+) -> Result<Reply, CommandFault>
+    requires right { IsRight book.old }
+    requires settled { book.old.pending ≡ None }
+    requires held { HoldsBook (K.holding keeper.old) (K.readiness keeper.old) book.old }
+    requires follows { IsPendingOn book.old.register.entries book.old.register.spare pending }
+    requires accepted { verdict book.old.register.entries pending.entry.drafter pending.entry.request
+        pending.entry.command ≡ Accepted pending.entry.law reply }
+    ensures acts { Acts pending.entry book.old book.new result }
+    ensures marks { book.new.marks ≡ book.old.marks }
+    ensures right { IsRight book.new }
+    ensures held { HoldsBook (K.holding keeper.new) (K.readiness keeper.new) book.new }
+    ensures cause { HasCommandCause (K.faults keeper.old) (K.faults keeper.new) result }
+{
+    match keeper.append(alloc, pending.bytes.as_slice()) {
+        Ok(end) => {
+            book.commit(pending, end);
+            Ok(reply)
+        }
+        Err(KeepFault::Failed) => {
+            book.pending = Some(pending);
+            Err(CommandFault::KeeperFault)
+        }
+        Err(KeepFault::Memory) => {
+            drop(pending);
+            Err(CommandFault::Memory)
+        }
+    }
+}

@@ -1,0 +1,15 @@
+//! The office: a desk whose entries a keeper keeps. It opens what is kept, does one command after another, and finds
+//! out after a failure what was kept.
+#![tactic(auto)]
+
+mod acting;
+mod book;
+mod office;
+mod opening;
+mod sent;
+#[cfg(test)]
+mod tests;
+mod writing;
+
+pub use book::{Book, Pending};
+pub use office::Office;

@@ -1,0 +1,173 @@
+//! Office: a desk over a keeper and a clock that it is lent. A clause sees both as they are, its entries, the one
+//! that is pending, its marks, and the names of what it was lent.
+
+ghost use Rattle.std.specs.Prelude.{◌≡◌, ◌≢◌, ◌↔◌, [], None, IfOk, IsTrue};
+ghost use Rattle.law_keeper.specs.Keepers.{Keeps};
+ghost use Rattle.law_office.specs.Offices.{HoldsBook, IsNamed, IsRight, names_of, pending_of};
+ghost use Rattle.law_office.specs.Opening.{Opens, opened_of};
+
+use crate::acting::command as do_command;
+use crate::book::Book;
+use crate::sent::Sent;
+use desk_base::{Clock, Memory, Steps};
+use law_keeper::Keeper;
+use law_register::{
+    Answer, AskFault, Command, CommandFault, Desk, Drafter, OpenFault, Question, Register, Reply,
+};
+use replay_core::FromEnacted;
+use std::alloc::Global;
+use std::marker::Model;
+use std::sync::ledger::Ledger;
+use viewpoints::Past;
+
+/// A desk whose entries a keeper keeps.
+#[derive(Drop)]
+pub struct Office<'a, K: Keeper, C: Clock> {
+    keeper: &'a mut K,
+    clock: &'a mut C,
+    book: Book,
+}
+
+impl<'a, K: Keeper, C: Clock> Model for Office<'a, K, C> {
+    ghost use Rattle.law_office.specs.Offices.{HoldsBook, IsRight, OfficeState, names_of, pending_of};
+
+    ghost Value = { OfficeState K C };
+
+    ghost use Rattle.std.specs.Coded.{Coded, code_by, coded×, coded_ℕ, coded_list, codes};
+    ghost use Rattle.act_tree.specs.Codes.{branches_code};
+    ghost use Rattle.act_tree.specs.OwnCode.{own_code};
+
+    ghost coded = { Prim.hlevel (codes, branches_code own_code) };
+
+    ghost view = { λ o. record {
+      keeper = o.keeper.now;
+      clock = o.clock.now;
+      entries = o.book.register.entries;
+      pending = pending_of o.book.pending;
+      marks = o.book.marks.items;
+      origin = names_of o.keeper.ghost_name o.clock.ghost_name;
+    } };
+
+    ghost invariant = { λ o. IsRight o.book × HoldsBook (K.holding o.keeper.now) (K.readiness o.keeper.now) o.book };
+}
+
+impl<'a, K: Keeper, C: Clock> Office<'a, K, C> {
+    /// Opens a keeper, and the office of what it has. `Book::open` and `new` are the two parts of it: the first says
+    /// also what is left of the keeper where it is refused.
+    pub fn open(
+        alloc: Global,
+        keeper: &'a mut K,
+        clock: &'a mut C,
+    ) -> Result<Office<'a, K, C>, OpenFault>
+        ensures opened { (K.holding keeper.old).tells
+            → Opens (λ office. office.entries) result (opened_of (K.holding keeper.old).list) }
+        ensures pending { IfOk result (λ office. office.pending ≡ None) }
+        ensures marks { IfOk result (λ office. office.marks ≡ []) }
+        ensures same { IfOk result (λ office. Keeps (K.holding keeper.old) (K.holding office.keeper)) }
+        ensures faults { IfOk result (λ office. K.faults office.keeper ≡ K.faults keeper.old) }
+        ensures clock { IfOk result (λ office. office.clock ≡ clock.old) }
+        ensures origin { IfOk result (λ office. office.origin
+            ≡ names_of keeper.entry.ghost_name clock.entry.ghost_name) }
+    {
+        let book = Book::open(alloc, keeper)?;
+        Ok(Office::new(keeper, clock, book))
+    }
+
+    /// The office of a book that the keeper holds. It takes no memory.
+    pub fn new(keeper: &'a mut K, clock: &'a mut C, book: Book) -> Office<'a, K, C>
+        requires right { IsRight book }
+        requires held { HoldsBook (K.holding keeper.old) (K.readiness keeper.old) book }
+        ensures entries { result.entries ≡ book.register.entries }
+        ensures pending { result.pending ≡ pending_of book.pending }
+        ensures marks { result.marks ≡ book.marks.items }
+        ensures keeper { result.keeper ≡ keeper.old }
+        ensures clock { result.clock ≡ clock.old }
+        ensures origin { result.origin ≡ names_of keeper.entry.ghost_name clock.entry.ghost_name }
+    {
+        Office {
+            keeper,
+            clock,
+            book,
+        }
+    }
+
+    /// Gives the keeper back.
+    pub fn close(self) -> &'a mut K
+        ensures keeper { result.now ≡ self.entry.keeper }
+        ensures name { IsNamed self.entry.origin result.ghost_name }
+    {
+        let Office {
+            keeper,
+            clock: _,
+            book,
+        } = self;
+        drop(book);
+        keeper
+    }
+
+    /// Whether some command was answered by a fault of the keeper.
+    pub fn faulted(&self) -> bool
+        ensures { IsTrue result ↔ (self.now.marks ≢ []) }
+    {
+        !self.book.marks.is_empty()
+    }
+}
+
+impl<'a, K: Keeper, C: Clock> Desk for Office<'a, K, C> {
+    ghost use Rattle.law_office.specs.Offices.{desk_of};
+
+    ghost state = { λ office. desk_of K.faults C.days office };
+
+    fn command<L: Ledger>(
+        &mut self,
+        alloc: Global,
+        drafter: &Drafter,
+        request: u64,
+        command: Command,
+        steps: &mut Steps<L>,
+    ) -> Result<Reply, CommandFault> {
+        let _ = steps;
+        match drafter.copy() {
+            Ok(drafter) => {
+                let sent = Sent {
+                    drafter,
+                    request,
+                    command,
+                };
+                do_command(alloc, self.keeper, self.clock, &mut self.book, sent)
+            }
+            Err(Memory) => {
+                drop(command);
+                Err(CommandFault::Memory)
+            }
+        }
+    }
+
+    fn ask<L: Ledger>(
+        &self,
+        alloc: Global,
+        question: &Question,
+        steps: &mut Steps<L>,
+    ) -> Result<Answer, AskFault> {
+        Past::new(alloc)?.answer_past(alloc, &FromEnacted, &self.book.register, question, steps)
+    }
+
+    fn ask_past<L: Ledger>(
+        &mut self,
+        alloc: Global,
+        question: &Question,
+        steps: &mut Steps<L>,
+    ) -> Result<Answer, AskFault> {
+        self.book
+            .past
+            .answer_past(alloc, &FromEnacted, &self.book.register, question, steps)
+    }
+
+    fn front(&self) -> u32 {
+        self.book.register.front()
+    }
+
+    fn register(&self) -> &Register {
+        &self.book.register
+    }
+}

@@ -1,0 +1,155 @@
+//! Opening: what a keeper has is decoded, and each entry is judged behind those before it.
+
+ghost use Rattle.std.specs.Prelude.{◌≡◌, ◌≤◌, ◌∷◌, ◌++◌, [], true, None, IfErr, IfOk, OnOk};
+ghost use Rattle.law_keeper.specs.Keepers.{IsSettled, Keeps};
+ghost use Rattle.law_keeper.specs.declared.readiness.Readiness.TheVariants.{Ready};
+ghost use Rattle.law_register.specs.Law.Spelling.{is_well_spelled};
+ghost use Rattle.law_register.specs.Register.Verdicts.{verdict as said};
+ghost use Rattle.law_office.specs.Offices.{Holds, HoldsBook, IsRight};
+ghost use Rattle.law_office.specs.Opening as spec;
+ghost use Rattle.law_office.specs.Opening.{HasOpenCause, IsOfPayload, Opens, opened_of, with_entry, with_payload};
+
+use crate::book::Book;
+use desk_base::Memory;
+use entry_codec::laws::decoded_is_spelled;
+use entry_codec::{CodecFault, DecodeFail, decode};
+use law_keeper::Keeper;
+use law_register::{Damage, Entry, OpenFault, Register, Verdict, laws};
+use std::alloc::Global;
+use viewpoints::Past;
+
+// The number of the rule for which an entry with this law number may not stand where this is said of its command.
+fn order_rule(law: Option<u32>, verdict: &Verdict) -> Option<u8>
+    ensures { result ≡ spec.order_rule law verdict.now }
+{
+    match verdict {
+        Verdict::Accepted { law: number, .. } => { if law == *number { None } else { Some(0) } }
+        Verdict::Repeat(_) => Some(1),
+        Verdict::Refused(rule) => Some(rule.number()),
+    }
+}
+
+// Appends an entry of which this is said, where it is accepted with its law number.
+#[tactic(auto, unfolding(crate::specs::Opening::with_entry))]
+fn add_judged(register: &mut Register, entry: Entry, verdict: &Verdict) -> Result<(), OpenFault>
+    requires room { 1 ≤ register.old.spare }
+    requires spelled { is_well_spelled entry.command ≡ true }
+    requires judged { verdict.now ≡ said register.old.entries entry.drafter entry.request entry.command }
+    ensures adds { Opens (λ _. register.new.entries) result (with_entry register.old.entries entry) }
+    ensures appended { OnOk result (register.new.entries ≡ register.old.entries ++ entry ∷ []) }
+    ensures refuses { IfErr result IsOfPayload }
+{
+    match order_rule(entry.law, verdict) {
+        None => {
+            register.push(entry);
+            Ok(())
+        }
+        Some(rule) => {
+            laws::entries_are_few(register);
+            let number = register.len() as u64 + 1;
+            drop(entry);
+            Err(OpenFault::Damaged(Damage::Order { number, rule }))
+        }
+    }
+}
+
+// Appends an entry, where it is accepted with its law number.
+fn add_entry(alloc: Global, register: &mut Register, entry: Entry) -> Result<(), OpenFault>
+    requires { is_well_spelled entry.command ≡ true }
+    ensures adds { Opens (λ _. register.new.entries) result (with_entry register.old.entries entry) }
+    ensures appended { OnOk result (register.new.entries ≡ register.old.entries ++ entry ∷ []) }
+    ensures refuses { IfErr result IsOfPayload }
+{
+    match register.judge(alloc, &entry.drafter, entry.request, &entry.command) {
+        Ok(verdict) => match register.reserve(&entry) {
+            Ok(()) => add_judged(register, entry, &verdict),
+            Err(Memory) => {
+                drop(entry);
+                Err(OpenFault::Memory)
+            }
+        },
+        Err(Memory) => {
+            drop(entry);
+            Err(OpenFault::Memory)
+        }
+    }
+}
+
+// Appends the entry that a payload spells.
+#[tactic(auto, unfolding(crate::specs::Opening::with_payload))]
+fn add_payload(alloc: Global, register: &mut Register, payload: &[u8]) -> Result<(), OpenFault>
+    ensures adds { Opens (λ _. register.new.entries) result (with_payload register.old.entries payload.now) }
+    ensures spelled { OnOk result (spec.spellings register.new.entries
+        ≡ spec.spellings register.old.entries ++ payload.now ∷ []) }
+    ensures refuses { IfErr result IsOfPayload }
+{
+    decoded_is_spelled(payload);
+    match decode(alloc, payload) {
+        Ok(entry) => add_entry(alloc, register, entry),
+        Err(DecodeFail::Fault(CodecFault { place, byte })) => {
+            laws::entries_are_few(register);
+            let number = register.len() as u64 + 1;
+            Err(OpenFault::Damaged(Damage::Entry {
+                number,
+                place,
+                byte,
+            }))
+        }
+        Err(DecodeFail::Memory) => Err(OpenFault::Memory),
+    }
+}
+
+// Loads one payload after another, and appends the entry that each spells. It gives the cursor of their end.
+fn load_entries<K: Keeper>(
+    alloc: Global,
+    keeper: &mut K,
+    register: &mut Register,
+) -> Result<u64, OpenFault>
+    requires none { register.old.entries ≡ [] }
+    requires ready { K.readiness keeper.old ≡ Ready }
+    requires settled { IsSettled (K.holding keeper.old) }
+    ensures opened { (K.holding keeper.old).tells
+        → Opens (λ _. register.new.entries) result (opened_of (K.holding keeper.old).list) }
+    ensures held { IfOk result (Holds (K.holding keeper.new) (K.readiness keeper.new) register.new.entries None) }
+    ensures same { Keeps (K.holding keeper.old) (K.holding keeper.new) }
+    ensures cause { HasOpenCause (K.faults keeper.old) (K.faults keeper.new) result }
+{
+    let mut end = 0;
+    'walk: while let Some((payload, next)) = keeper.load(alloc, end)? {
+        add_payload(alloc, register, payload.as_slice())?;
+        end = next;
+    }
+    Ok(end)
+}
+
+impl Book {
+    /// Opens a keeper, and the register of the entries that its payloads spell. Damage is that of what holds the
+    /// payloads, or of the first payload that is no entry, or that is not accepted behind those before it. No payload
+    /// changes.
+    pub fn open<K: Keeper>(alloc: Global, keeper: &mut K) -> Result<Book, OpenFault>
+        ensures opened { (K.holding keeper.old).tells
+            → Opens (λ book. book.register.entries) result (opened_of (K.holding keeper.old).list) }
+        ensures new { IfOk result (λ book. (book.pending ≡ None) × (book.marks.items ≡ [])) }
+        ensures right { IfOk result IsRight }
+        ensures held { IfOk result (HoldsBook (K.holding keeper.new) (K.readiness keeper.new)) }
+        ensures same { Keeps (K.holding keeper.old) (K.holding keeper.new) }
+        ensures cause { HasOpenCause (K.faults keeper.old) (K.faults keeper.new) result }
+    {
+        let past = Past::new(alloc)?;
+        keeper.reopen(alloc)?;
+        let mut register = Register::new(alloc);
+        match load_entries(alloc, keeper, &mut register) {
+            Ok(end) => Ok(Book {
+                register,
+                end,
+                pending: None,
+                marks: Vec::new(alloc),
+                past,
+            }),
+            Err(fault) => {
+                drop(register);
+                Err(fault)
+            }
+        }
+    }
+}

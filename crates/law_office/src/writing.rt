@@ -1,0 +1,92 @@
+//! What is written into a book. None of it takes memory but the room for a mark.
+
+ghost use Rattle.std.specs.Prelude.{◌≡◌, ◌≤◌, ◌<◌, ◌∷◌, ◌++◌, [], None, IfOk, OnOk, length, vec_len, vec_capacity};
+ghost use Rattle.law_register.specs.Desk.Commands.{mark_of};
+ghost use Rattle.law_office.specs.Acting.{resolved, resolved_end};
+ghost use Rattle.law_office.specs.Offices.{IsPendingOn, IsRight, pending_of};
+
+use crate::book::{Book, Pending};
+use desk_base::Memory;
+use law_register::{Drafter, FaultMark};
+
+impl Book {
+    // Makes room for a mark, and the mark of a request.
+    pub(crate) fn reserve_mark(
+        &mut self,
+        drafter: &Drafter,
+        request: u64,
+    ) -> Result<FaultMark, Memory>
+        requires { IsRight self.old }
+        ensures mark { IfOk result (λ mark. (mark.drafter ≡ drafter.now) × (mark.request ≡ request)) }
+        ensures room { OnOk result (vec_len self.new.marks < vec_capacity self.new.marks) }
+        ensures register { self.new.register ≡ self.old.register }
+        ensures pending { self.new.pending ≡ self.old.pending }
+        ensures end { self.new.end ≡ self.old.end }
+        ensures marks { self.new.marks.items ≡ self.old.marks.items }
+        ensures right { IsRight self.new }
+    {
+        self.marks.reserve(1)?;
+        Ok(FaultMark {
+            drafter: drafter.copy()?,
+            request,
+            entries: 0,
+        })
+    }
+
+    // Adds a mark, made when as many entries stand as do now.
+    pub(crate) fn add_mark(&mut self, mark: FaultMark)
+        requires room { vec_len self.old.marks < vec_capacity self.old.marks }
+        requires right { IsRight self.old }
+        ensures marks { self.new.marks.items ≡ self.old.marks.items
+            ++ mark_of mark.drafter mark.request self.old.register.entries ∷ [] }
+        ensures register { self.new.register ≡ self.old.register }
+        ensures pending { self.new.pending ≡ self.old.pending }
+        ensures end { self.new.end ≡ self.old.end }
+        ensures right { IsRight self.new }
+    {
+        let FaultMark {
+            drafter,
+            request,
+            entries: _,
+        } = mark;
+        let entries = self.register.len() as u64;
+        self.marks.push_reserved(FaultMark {
+            drafter,
+            request,
+            entries,
+        });
+    }
+
+    // An entry that the keeper has stands behind the others, up to this cursor.
+    pub(crate) fn commit(&mut self, pending: Pending, end: u64)
+        requires right { IsRight self.old }
+        requires follows { IsPendingOn self.old.register.entries self.old.register.spare pending }
+        ensures entries { self.new.register.entries ≡ self.old.register.entries ++ pending.entry ∷ [] }
+        ensures end { self.new.end ≡ end }
+        ensures marks { self.new.marks ≡ self.old.marks }
+        ensures pending { self.new.pending ≡ self.old.pending }
+    {
+        let Pending { entry, bytes: _ } = pending;
+        self.register.push(entry);
+        self.end = end;
+    }
+
+    // The entry that is pending was found, up to this cursor, or was not: it is pending no more.
+    pub(crate) fn resolve(&mut self, found: Option<u64>)
+        requires right { IsRight self.old }
+        ensures entries { self.new.register.entries
+            ≡ resolved self.old.register.entries (pending_of self.old.pending) found }
+        ensures end { self.new.end ≡ resolved_end self.old.end (pending_of self.old.pending) found }
+        ensures pending { self.new.pending ≡ None }
+        ensures marks { self.new.marks ≡ self.old.marks }
+        ensures right { IsRight self.new }
+    {
+        match self.pending.take() {
+            None => (),
+            Some(pending) => match found {
+                None => drop(pending),
+                Some(end) => self.commit(pending, end),
+            },
+        }
+    }
+}
