@@ -1,13 +1,15 @@
 -- What a journal does, said of the keeper over it.
-use Rattle.std.proofs.Common.{◌≡◌, ◌↔◌, inl, inr, ℕ, ◌+◌, ◌-◌, ◌^◌, ◌<◌, min, Bool, true, false, is_ok, List, Option, Some, None, Result, Ok, Err, IsOk, IfOk, Vec, refl, sym, ◌∙◌, ap, subst, arith}
+use Rattle.std.proofs.Common.{◌≡◌, ◌↔◌, inl, inr, ⊎_elim, ℕ, ◌+◌, ◌-◌, ◌^◌, ◌<◌, min, Bool, true, false, is_ok, List, Option, Some, None, Result, Ok, Err, IsOk, IfOk, Vec, refl, sym, ◌∙◌, ap, subst, arith}
 use Rattle.std.specs.declared.alloc.Global.{Global}
 use Rattle.desk_base.specs.declared.load_fault.LoadFault.{LoadFault}
 use Rattle.desk_base.specs.declared.load_fault.LoadFault.TheVariants.{Failed, Damaged, Memory}
 use Rattle.law_journal.specs.Disks.{Outlook, Idles}
+use Rattle.law_journal.specs.Disks as disks
+use Rattle.law_journal.specs.Journals as journals
 use Rattle.law_journal.specs.Grammar.{Listing, gate_in, gate_number, list_of, with_last}
 use Rattle.law_journal.specs.Journals.{HasList, GivesListed, GivesNth, KeepsGates, IsBeforeOrAfter}
 use Rattle.law_journal.proofs.Resting.{gate_bound}
-use Rattle.law_keeper.specs.Keepers.{IsSettled, HaveSizes, Gives, Appends, Becomes, size_of}
+use Rattle.law_keeper.specs.Keepers.{IsOldOrSame, IsSettled, LeavesOnly, HaveSizes, Gives, Appends, Becomes, size_of}
 use Rattle.law_keeper.specs.declared.keep_fault.KeepFault.{KeepFault}
 use Rattle.law_keeper.specs.declared.keep_fault.KeepFault.TheVariants as keep
 use Rattle.law_keeper.specs.JournalKeepers.{holding_of, readiness_of}
@@ -21,6 +23,28 @@ settled o gate lists = record {
   first = λ t. ap (λ (l : Listing). gate_in l 8) (lists t).is_list ∙ (lists t).first;
   durable = λ t list left. sym left.2 ∙ ap list_of ((lists t).durable left.0 left.1);
 }
+
+-- lists in place of the files that stand for them
+of_files : (P : List ℕ → Type 0) (Q : Listing → Type 0) (o n : Outlook) → ((file : List ℕ) → P file → Q (list_of file)) → disks.LeavesOnly P o n → LeavesOnly Q (holding_of o) (holding_of n)
+of_files P Q o n leads run = record {
+  tells = run.tells;
+  now = λ list left. subst Q left.2 (leads left.0 (run.now left.0 left.1));
+  any_moment = λ t. record {
+    tells = run.tells;
+    later = run.later;
+    since = λ list left. subst Q left.2 (leads left.0 (run.since left.0 left.1));
+    before = λ moment list le left. ⊎_elim
+        (λ old. inl (left.0, old, left.2))
+        (λ p. inr (subst Q left.2 (leads left.0 p)))
+        (run.before moment left.0 le left.1);
+  };
+}
+
+-- an opening leaves a list that could be left before, or the same
+pub old_or_same : (o n : Outlook) → disks.LeavesOnly (journals.IsOldOrSame o) o n → LeavesOnly (IsOldOrSame (holding_of o)) (holding_of o) (holding_of n)
+old_or_same o n run =
+    of_files (journals.IsOldOrSame o) (IsOldOrSame (holding_of o)) o n
+    (λ file either. ⊎_elim (λ old. inl (file, old, refl)) (λ same. inr same) either) run
 
 -- what is read at a place is loaded at the cursor of that place
 module _ (o n : Outlook) (idle : Idles o n) (gate : ℕ) (lists : o.tells → HasList o gate) (cursor place : ℕ) (at_place : place ≡ min (cursor + 8) (2 ^ 64 - 1)) where
