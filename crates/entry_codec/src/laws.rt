@@ -6,8 +6,8 @@ ghost use Rattle.law_register.specs.Law.Spelling.{is_well_spelled};
 ghost use Rattle.law_register.specs.declared.register.entry.Entry.{Entry};
 ghost use Rattle.entry_codec.specs.Entries.{decoding, keeps_rules, spelling};
 
-/// Bytes that are decoded are the spelling of the entry that they give, so that an entry has one spelling and bytes left over are
-/// never accepted. The entry keeps the rules of the format, is well spelled, and can be spelled.
+/// Bytes that are decoded are the spelling of the entry that they give, so that an entry has one spelling and bytes left
+/// over are never accepted. The entry keeps the rules of the format, is well spelled, and can be spelled.
 pub fn decoded_is_spelled(bytes: &[u8])
     ensures spelling { (e : Entry) → decoding bytes.now ≡ Ok e → spelling e ≡ bytes.now }
     ensures kept { (e : Entry) → decoding bytes.now ≡ Ok e → keeps_rules e ≡ true }
@@ -24,5 +24,6 @@ pub fn spelled_is_decoded()
 
 /// No spelling of an entry begins another's.
 pub fn spelling_begins_no_other()
-    ensures { (e f : Entry) (rest : List ℕ) → keeps_rules e ≡ true → keeps_rules f ≡ true → spelling e ++ rest ≡ spelling f → rest ≡ [] }
+    ensures { (e f : Entry) (rest : List ℕ) → keeps_rules e ≡ true → keeps_rules f ≡ true
+        → spelling e ++ rest ≡ spelling f → rest ≡ [] }
 {}
