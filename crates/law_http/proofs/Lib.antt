@@ -5,4 +5,5 @@ pub mod Kept
 pub mod Lengths
 pub mod Members
 pub mod Pieces
+pub mod PutResponses
 pub mod SaidHeads

@@ -40,7 +40,8 @@ object_text number name = codes "{\"http\":" ++ decimal number ++ codes ",\"name
 -- the object of a fault of form, with the number of its rule and its place
 abbrev pub form_text : ℕ → ℕ → List ℕ
 form_text form place =
-    codes "{\"form\":" ++ decimal form ++ codes ",\"http\":8,\"name\":\"BadForm\",\"place\":" ++ decimal place ++ codes "}"
+    codes "{\"form\":" ++ decimal form ++ codes ",\"http\":8,\"name\":\"BadForm\",\"place\":"
+    ++ decimal place ++ codes "}"
 
 -- what is said where no request can be read; the stream is closed
 abbrev pub message_reply : MessageRefusal → Reply
@@ -49,5 +50,6 @@ message_reply r = reply (message_status r) None true (object_text (message_numbe
 -- what is said where a request gets no answer of the desk
 abbrev pub request_reply : RequestRefusal → Bool → Reply
 request_reply NoRoute last = reply status.NotFound None last (object_text 6 (codes "NoRoute"))
-request_reply (WrongMethod allow) last = reply status.MethodNotAllowed (Some allow) last (object_text 7 (codes "WrongMethod"))
+request_reply (WrongMethod allow) last =
+    reply status.MethodNotAllowed (Some allow) last (object_text 7 (codes "WrongMethod"))
 request_reply (BadForm form place) last = reply status.BadRequest None last (form_text form place)

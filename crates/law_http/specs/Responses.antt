@@ -1,6 +1,10 @@
 -- What a response says, and its bytes (RFC 9112, sections 2 to 6).
-use Rattle.std.specs.Prelude.{◌≡◌, ℕ, ◌⊎◌, Bool, true, false, List, [], ◌++◌, length, codes, Option, None, Some}
+use Rattle.std.specs.Prelude.{◌≡◌, ℕ, ◌⊎◌, Bool, true, false, List, [], ◌∷◌, ◌++◌, map, length, codes, Option, None, Some}
 use Rattle.std.specs.Fmt.{decimal}
+use Rattle.httparse.specs.Grammar.{ResponseHead, ReadsResponse, status_code}
+use Rattle.httparse.specs.Spans.{name_and_value}
+use Rattle.http1.specs.Fields.{Header}
+use Rattle.http1.specs.Head.{response_head}
 use Rattle.law_http.specs.declared.status.Status.{Status}
 use Rattle.law_http.specs.declared.status.Status.TheVariants as status
 use Rattle.law_http.specs.declared.status.Allow.{Allow}
@@ -22,6 +26,34 @@ status_text status.FieldsTooLarge = codes "431 Request Header Fields Too Large"
 status_text status.InternalServerError = codes "500 Internal Server Error"
 status_text status.NotImplemented = codes "501 Not Implemented"
 status_text status.ServiceUnavailable = codes "503 Service Unavailable"
+
+abbrev pub status_number : Status → ℕ
+status_number status.Ok = 200
+status_number status.Created = 201
+status_number status.BadRequest = 400
+status_number status.NotFound = 404
+status_number status.MethodNotAllowed = 405
+status_number status.Conflict = 409
+status_number status.LengthRequired = 411
+status_number status.ContentTooLarge = 413
+status_number status.FieldsTooLarge = 431
+status_number status.InternalServerError = 500
+status_number status.NotImplemented = 501
+status_number status.ServiceUnavailable = 503
+
+abbrev pub status_phrase : Status → List ℕ
+status_phrase status.Ok = codes "OK"
+status_phrase status.Created = codes "Created"
+status_phrase status.BadRequest = codes "Bad Request"
+status_phrase status.NotFound = codes "Not Found"
+status_phrase status.MethodNotAllowed = codes "Method Not Allowed"
+status_phrase status.Conflict = codes "Conflict"
+status_phrase status.LengthRequired = codes "Length Required"
+status_phrase status.ContentTooLarge = codes "Content Too Large"
+status_phrase status.FieldsTooLarge = codes "Request Header Fields Too Large"
+status_phrase status.InternalServerError = codes "Internal Server Error"
+status_phrase status.NotImplemented = codes "Not Implemented"
+status_phrase status.ServiceUnavailable = codes "Service Unavailable"
 
 -- the field that says which method a path has
 abbrev pub allow_field : Option Allow → List ℕ
@@ -81,3 +113,29 @@ is_last (KeeperFault last) = last
 -- the response says this, or that there was not enough memory
 abbrev pub Says : Reply → Response → Type 0
 Says reply response = (response ≡ Made (reply_bytes reply) reply.last) ⊎ (response ≡ MemoryFault)
+
+-- the same fields as names and values
+abbrev pub allow_fields : Option Allow → List Header
+allow_fields None = []
+allow_fields (Some Get) = (codes "Allow", codes "GET") ∷ []
+allow_fields (Some Post) = (codes "Allow", codes "POST") ∷ []
+
+abbrev pub close_fields : Bool → List Header
+close_fields true = (codes "Connection", codes "close") ∷ []
+close_fields false = []
+
+abbrev pub body_fields : ℕ → List Header
+body_fields n = (codes "Content-Length", decimal n) ∷ (codes "Content-Type", codes "application/json") ∷ []
+
+abbrev pub fields_of : Reply → List Header
+fields_of r = allow_fields r.allow ++ (close_fields r.last ++ body_fields (length r.body))
+
+-- the head that a client of httparse reads: HTTP/1.1, the status, its phrase and the fields
+abbrev pub head_of : Reply → ResponseHead
+head_of r = response_head 1 (status_number r.status) (status_phrase r.status) (fields_of r)
+
+-- read as a response, the bytes are that head and then the body, and the head says the status and the fields
+pub record ReadsBack (r : Reply) : Type 0 where
+  pub reads : ReadsResponse (reply_bytes r) (head_of r) r.body
+  pub status : status_code (head_of r) ≡ status_number r.status
+  pub fields : map name_and_value (head_of r).fields ≡ fields_of r

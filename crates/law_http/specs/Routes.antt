@@ -41,7 +41,8 @@ has_method method Post = bytes_eq method (codes "POST")
 -- the path decides before the method
 abbrev pub with_method : List ℕ → Option Route → Result Route RequestRefusal
 with_method method None = Err NoRoute
-with_method method (Some found) = if has_method method (method_of found) then Ok found else Err (WrongMethod (method_of found))
+with_method method (Some found) =
+    if has_method method (method_of found) then Ok found else Err (WrongMethod (method_of found))
 
 -- what a request asks
 abbrev pub route_of : List ℕ → List ℕ → Result Route RequestRefusal

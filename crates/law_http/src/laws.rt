@@ -1,7 +1,8 @@
-//! Laws of what is heard, each as the contract of a function with an empty body.
+//! Laws of what is heard and what is put, each as the contract of a function with an empty body.
 
-ghost use Rattle.std.specs.Prelude.{◌≡◌, ℕ, List};
+ghost use Rattle.std.specs.Prelude.{◌≡◌, ◌<◌, ◌^◌, ℕ, List, length};
 ghost use Rattle.law_http.specs.Hearing.{AreHeard, IsFirstHeard};
+ghost use Rattle.law_http.specs.Responses.{ReadsBack, Reply};
 ghost use Rattle.law_http.specs.declared.heard.Heard.{Heard};
 
 /// The bytes of a stream determine what is heard first, and what bytes are left behind it.
@@ -14,4 +15,9 @@ pub fn first_heard_is_determined()
 pub fn all_heard_is_determined()
     ensures { (bytes : List ℕ) (all others : List Heard) → AreHeard bytes all → AreHeard bytes others
         → all ≡ others }
+{}
+
+/// What is put is a response of HTTP/1.1 as httparse reads one, with its status, its fields and its body.
+pub fn response_is_read_back()
+    ensures { (reply : Reply) → length reply.body < 2 ^ 64 → ReadsBack reply }
 {}
