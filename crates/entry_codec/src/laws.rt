@@ -1,6 +1,7 @@
 //! Laws of the format. Each is a function that does nothing, whose clause is the law.
 
-ghost use Rattle.std.specs.Prelude.{◌≡◌, ◌++◌, [], ℕ, List, Ok, true};
+ghost use Rattle.std.specs.Prelude.{◌≡◌, ◌++◌, [], ℕ, List, length, Ok, true};
+ghost use Rattle.law_register.specs.Law.Sizes.{entry_size};
 ghost use Rattle.law_register.specs.Law.Spellable.{can_be_spelled};
 ghost use Rattle.law_register.specs.Law.Spelling.{is_well_spelled};
 ghost use Rattle.law_register.specs.declared.register.entry.Entry.{Entry};
@@ -20,6 +21,12 @@ pub fn decoded_is_spelled(bytes: &[u8])
 /// The spelling of an entry that keeps the rules of the format is decoded as that entry, and as no other.
 pub fn spelled_is_decoded()
     ensures { (e : Entry) → keeps_rules e ≡ true → decoding (spelling e) ≡ Ok e }
+{}
+
+/// The spelling of an entry that is well spelled and can be spelled has as many bytes as its size says.
+pub fn spelling_has_its_size()
+    ensures { (e : Entry) → is_well_spelled e.command ≡ true → can_be_spelled e ≡ true
+        → length (spelling e) ≡ entry_size e }
 {}
 
 /// No spelling of an entry begins another's.
