@@ -2,25 +2,30 @@
 
 ghost use Rattle.std.specs.Prelude.{◌≡◌, ◌^◌, ◌<◌, ◌≤◌, true, is_none, length, IfOk};
 ghost use Rattle.desk_base.specs.Streams.{HasCause};
-ghost use Rattle.law_journal.specs.Answers.{HasValueOf};
 
 use crate::Disk;
+use crate::handle::{Handle, counted};
+use crate::system_file::{LIMIT, SystemFile};
 use desk_base::{Failed, count_fault};
 use std::fs::{Files, OpenFile, OpenOptions};
 use std::io::{Read, Seek, SeekFrom, Write};
 use std::{fs, io};
 
-/// Lengths are below this.
-const LIMIT: u64 = 1 << 63;
-
 /// A file of the working folder, which is opened, or made, at the first call. Each call that the system answers with a
-/// fault raises the count; what had come of it before is not known.
+/// fault raises the count; what had come of it before is not known. Once a sync has failed, each later call is such a
+/// fault, and the file has to be opened anew, by a disk of its own.
 #[derive(Drop)]
 pub struct FileDisk<'a, R: Files> {
     files: &'a R,
     path: &'a str,
-    file: Option<R::File>,
+    handle: Option<Handle<StdFile<R::File>>>,
     faults: u64,
+}
+
+/// A file of std.
+#[derive(Drop)]
+struct StdFile<F> {
+    file: F,
 }
 
 // Opens the file, or makes it, and waits until its entry in the working folder is on the disk.
@@ -68,14 +73,25 @@ fn write_at<F: Write + Seek>(file: &mut F, place: u64, bytes: &[u8]) -> io::Resu
     file.write_all(bytes)
 }
 
-// The answer of a call of the system, whose fault is counted.
-fn counted<T: Drop>(answer: io::Result<T>, faults: &mut u64) -> Result<T, Failed>
-    ensures cause { HasCause faults.old faults.new result }
-    ensures same { HasValueOf answer result }
-{
-    match answer {
-        Ok(value) => Ok(value),
-        Err(_) => Err(count_fault(faults)),
+impl<F: Read + Write + Seek + OpenFile> SystemFile for StdFile<F> {
+    fn len(&mut self) -> io::Result<u64> {
+        length_of(&mut self.file)
+    }
+
+    fn read_at(&mut self, place: u64, into: &mut [u8]) -> io::Result<usize> {
+        read_at(&mut self.file, place, into)
+    }
+
+    fn write_at(&mut self, place: u64, bytes: &[u8]) -> io::Result<()> {
+        write_at(&mut self.file, place, bytes)
+    }
+
+    fn set_len(&mut self, len: u64) -> io::Result<()> {
+        self.file.set_len(len)
+    }
+
+    fn sync_all(&mut self) -> io::Result<()> {
+        self.file.sync_all()
     }
 }
 
@@ -84,13 +100,13 @@ impl<'a, R: Files> FileDisk<'a, R> {
     pub fn new(files: &'a R, path: &'a str) -> FileDisk<'a, R>
         ensures files { result.files.now ≡ files.now }
         ensures path { result.path.now ≡ path.now }
-        ensures unopened { is_none result.file ≡ true }
+        ensures unopened { is_none result.handle ≡ true }
         ensures faults { result.faults ≡ 0 }
     {
         FileDisk {
             files,
             path,
-            file: None,
+            handle: None,
             faults: 0,
         }
     }
@@ -99,8 +115,9 @@ impl<'a, R: Files> FileDisk<'a, R> {
     fn open(&mut self) -> Result<(), Failed>
         ensures { HasCause self.old.faults self.new.faults result }
     {
-        if self.file.is_none() {
-            self.file = Some(counted(open_file(self.files, self.path), &mut self.faults)?);
+        if self.handle.is_none() {
+            let file = counted(open_file(self.files, self.path), &mut self.faults)?;
+            self.handle = Some(Handle::new(StdFile { file }));
         }
         Ok(())
     }
@@ -115,43 +132,40 @@ impl<'a, R: Files> Disk for FileDisk<'a, R> {
 
     fn len(&mut self) -> Result<u64, Failed> {
         self.open()?;
-        match &mut self.file {
-            Some(file) => counted(length_of(file), &mut self.faults),
+        match &mut self.handle {
+            Some(handle) => handle.len(&mut self.faults),
             None => Err(count_fault(&mut self.faults)),
         }
     }
 
     fn read(&mut self, place: u64, into: &mut [u8]) -> Result<usize, Failed> {
         self.open()?;
-        match &mut self.file {
-            Some(file) => counted(read_at(file, place, into), &mut self.faults),
+        match &mut self.handle {
+            Some(handle) => handle.read(place, into, &mut self.faults),
             None => Err(count_fault(&mut self.faults)),
         }
     }
 
     fn write_at(&mut self, place: u64, bytes: &[u8]) -> Result<(), Failed> {
         self.open()?;
-        if place >= LIMIT || bytes.len() as u64 >= LIMIT - place {
-            return Err(count_fault(&mut self.faults));
-        }
-        match &mut self.file {
-            Some(file) => counted(write_at(file, place, bytes), &mut self.faults),
+        match &mut self.handle {
+            Some(handle) => handle.write(place, bytes, &mut self.faults),
             None => Err(count_fault(&mut self.faults)),
         }
     }
 
     fn cut(&mut self, len: u64) -> Result<(), Failed> {
         self.open()?;
-        match &mut self.file {
-            Some(file) => counted(file.set_len(len), &mut self.faults),
+        match &mut self.handle {
+            Some(handle) => handle.cut(len, &mut self.faults),
             None => Err(count_fault(&mut self.faults)),
         }
     }
 
     fn sync(&mut self) -> Result<(), Failed> {
         self.open()?;
-        match &mut self.file {
-            Some(file) => counted(file.sync_all(), &mut self.faults),
+        match &mut self.handle {
+            Some(handle) => handle.sync(&mut self.faults),
             None => Err(count_fault(&mut self.faults)),
         }
     }

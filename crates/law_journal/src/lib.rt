@@ -3,6 +3,7 @@
 
 mod disk;
 mod file_disk;
+mod handle;
 mod history;
 mod journal;
 mod memory_disk;
@@ -10,6 +11,7 @@ mod reading;
 mod recovering;
 mod scanning;
 mod step;
+mod system_file;
 #[cfg(test)]
 mod tests;
 mod window;

@@ -1,10 +1,14 @@
 //! The journal over a disk in memory and over a file, held against bytes that were worked by hand.
 
-use crate::{FileDisk, Journal, MemoryDisk, frame};
-use desk_base::LoadFault;
+ghost use Rattle.std.specs.Prelude.{◌≡◌, true, IfOk};
+
+use crate::handle::Handle;
+use crate::system_file::SystemFile;
+use crate::{Disk, FileDisk, Journal, MemoryDisk, frame};
+use desk_base::{Failed, LoadFault};
 use std::alloc::AllocGlobal;
-use std::fs;
 use std::test::Fail;
+use std::{fs, io};
 
 // The spelling of an entry, 28 bytes.
 const PAYLOAD: [u8; 28] = [
@@ -201,5 +205,151 @@ fn file_is_a_disk(rt: HostRuntime) -> Result<(), Fail> {
     fs::remove_file(&rt, path)?;
     assert_eq!(rt; appended, Ok(41));
     assert_eq!(rt; bytes.as_slice(), one_payload(&rt)?.as_slice());
+    Ok(())
+}
+
+// What changes a file, or waits for it.
+#[derive(Clone, Copy, Debug, PartialEq, Eq)]
+enum Change {
+    Write(u64),
+    Cut,
+    Sync,
+}
+
+// A file that reads as so many of the bytes of the magic and a closed gate. It notes its changes, of which one fails.
+#[derive(Drop)]
+struct NotedFile {
+    size: usize,
+    changes: Vec<Change>,
+    failing: usize,
+}
+
+impl NotedFile {
+    fn note(&mut self, change: Change) -> io::Result<()> {
+        if self.changes.push(change).is_err() || self.changes.len() == self.failing {
+            return Err(io::Error::from(io::ErrorKind::Other));
+        }
+        Ok(())
+    }
+}
+
+impl SystemFile for NotedFile {
+    fn len(&mut self) -> io::Result<u64> {
+        Ok(self.size.min(9) as u64)
+    }
+
+    fn read_at(&mut self, _place: u64, into: &mut [u8]) -> io::Result<usize> {
+        let count = into.len().min(self.size).min(9);
+        into[..count].copy_from_slice(&b"AKNLAW01\0"[..count]);
+        Ok(count)
+    }
+
+    fn write_at(&mut self, place: u64, _bytes: &[u8]) -> io::Result<()> {
+        self.note(Change::Write(place))
+    }
+
+    fn set_len(&mut self, _len: u64) -> io::Result<()> {
+        self.note(Change::Cut)
+    }
+
+    fn sync_all(&mut self) -> io::Result<()> {
+        self.note(Change::Sync)
+    }
+}
+
+// A disk over that file.
+#[derive(Drop)]
+struct NotedDisk {
+    handle: Handle<NotedFile>,
+    faults: u64,
+}
+
+impl Disk for NotedDisk {
+    ghost use Rattle.law_journal.specs.Unknown.{unknown, unknown_is};
+
+    ghost outlook = { λ d. unknown };
+
+    ghost faults = { λ d. d.faults };
+
+    fn len(&mut self) -> Result<u64, Failed> {
+        self.handle.len(&mut self.faults)
+    }
+
+    fn read(&mut self, place: u64, into: &mut [u8]) -> Result<usize, Failed> {
+        self.handle.read(place, into, &mut self.faults)
+    }
+
+    fn write_at(&mut self, place: u64, bytes: &[u8]) -> Result<(), Failed> {
+        self.handle.write(place, bytes, &mut self.faults)
+    }
+
+    fn cut(&mut self, len: u64) -> Result<(), Failed> {
+        self.handle.cut(len, &mut self.faults)
+    }
+
+    fn sync(&mut self) -> Result<(), Failed> {
+        self.handle.sync(&mut self.faults)
+    }
+
+    ghost is_outlook = { λ d. unknown_is };
+}
+
+// A journal on that disk, with a file of a size, one of whose changes fails.
+fn noted<R: AllocGlobal>(rt: &R, size: usize, failing: usize) -> Result<Journal<NotedDisk>, Fail>
+    ensures { IfOk result (λ journal. journal.ready ≡ true) }
+{
+    let file = NotedFile {
+        size,
+        changes: Vec::new(rt.alloc()),
+        failing,
+    };
+    let disk = NotedDisk {
+        handle: Handle::new(file),
+        faults: 0,
+    };
+    match Journal::open(rt.alloc(), disk) {
+        Ok(journal) => Ok(journal),
+        Err(_) => Err(Fail::from("refused")),
+    }
+}
+
+#[test]
+fn short_file_is_cut_before_it_is_written(rt: HostRuntime) -> Result<(), Fail> {
+    let journal = noted(&rt, 5, 0)?;
+    assert_eq!(rt;
+        journal.disk().handle.file().changes.as_slice(),
+        [Change::Sync, Change::Cut, Change::Write(0), Change::Sync].as_slice()
+    );
+    Ok(())
+}
+
+#[test]
+fn record_is_synced_before_its_gate_is_opened(rt: HostRuntime) -> Result<(), Fail> {
+    let framed = frame(rt.alloc(), &PAYLOAD)?;
+    let mut journal = noted(&rt, 9, 0)?;
+    assert_eq!(rt; journal.append(&framed), Ok(41));
+    assert_eq!(rt;
+        journal.disk().handle.file().changes.as_slice(),
+        [
+            Change::Sync,
+            Change::Write(9),
+            Change::Sync,
+            Change::Write(8),
+            Change::Sync
+        ]
+        .as_slice()
+    );
+    Ok(())
+}
+
+#[test]
+fn nothing_is_asked_once_a_sync_has_failed(rt: HostRuntime) -> Result<(), Fail> {
+    let framed = frame(rt.alloc(), &PAYLOAD)?;
+    let mut journal = noted(&rt, 9, 3)?;
+    assert!(rt; journal.append(&framed).is_err());
+    assert_eq!(rt; journal.reopen(), Err(LoadFault::Failed));
+    assert_eq!(rt; journal.reopen(), Err(LoadFault::Failed));
+    assert_eq!(rt; journal.disk().handle.file().changes.len(), 3);
+    assert_eq!(rt; journal.disk().faults, 3);
     Ok(())
 }
