@@ -39,10 +39,7 @@ fn text_of(alloc: Global, bytes: &[u8]) -> Result<Text, Memory>
     requires { IsUtf8 bytes.now }
     ensures { IfOk result (λ text. text ≡ bytes.now) }
 {
-    match str::from_utf8(bytes) {
-        Ok(text) => Text::copy_of(alloc, text),
-        Err(_) => Err(Memory),
-    }
+    Text::copy_of(alloc, str::from_utf8(bytes).unwrap())
 }
 
 // What the parts of a head say.
