@@ -12,7 +12,8 @@ use crate::sent::Sent;
 use desk_base::{Clock, Memory, Steps};
 use law_keeper::Keeper;
 use law_register::{
-    Answer, AskFault, Command, CommandFault, Desk, Drafter, OpenFault, Question, Register, Reply,
+    Answer, AskFault, Command, CommandFault, Desk, Drafter, FaultMark, OpenFault, Question,
+    Register, Reply,
 };
 use replay_core::FromEnacted;
 use std::alloc::Global;
@@ -103,6 +104,13 @@ impl<'a, K: Keeper, C: Clock> Office<'a, K, C> {
         } = self;
         drop(book);
         keeper
+    }
+
+    /// The marks of the commands that a fault of the keeper answered, in their order. It takes no memory.
+    pub fn marks(&self) -> &[FaultMark]
+        ensures { result.now ≡ self.now.marks }
+    {
+        self.book.marks.as_slice()
     }
 
     /// Whether some command was answered by a fault of the keeper.
