@@ -4,7 +4,7 @@ import subprocess
 
 TOP = os.path.dirname(os.path.dirname(os.path.abspath(__file__)))
 PROGRAM = os.path.join(TOP, "crates", "lawdesk", "out", "lawdesk")
-REGISTER = os.path.join(TOP, "crates", "register_trial", "out", "register_trial")
+DESK = os.path.join(TOP, "crates", "desk_trial", "out", "desk_trial")
 TURNS = os.path.join(TOP, "crates", "turn_trial", "out", "turn_trial")
 SCRIPT = os.path.join(TOP, "lawdesk")
 

@@ -1,4 +1,4 @@
-"""Sessions of a register: lines that `register_trial` is given, each with the line that it is to write. Those lines were written by hand,
+"""Sessions of a register: lines that `desk_trial` is given, each with the line that it is to write. Those lines were written by hand,
 from docs/RULES.md, docs/MODEL.md and docs/FORMS.md.
 
 Each session begins with an empty register and is a list of (line, line). Where two neighbouring rules of a command can be broken at

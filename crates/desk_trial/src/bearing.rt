@@ -5,7 +5,7 @@ ghost use Rattle.desk_base.specs.Days.{day_text};
 ghost use Rattle.desk_base.specs.Ids.{id_text};
 ghost use Rattle.law_register.specs.Answer.Answers.{asked_day};
 ghost use Rattle.law_register.specs.Register.KnownIds as known;
-ghost use Rattle.register_trial.specs.Bearing as spec;
+ghost use Rattle.desk_trial.specs.Bearing as spec;
 
 use act_tree::{BuildFail, Tree};
 use desk_base::{Day, Id, Memory};

@@ -5,15 +5,13 @@ ghost use Rattle.law_register.specs.Answer.Answers.{Answers};
 ghost use Rattle.law_register.specs.Answer.Asking.{answer_at};
 ghost use Rattle.law_register.specs.declared.answer.answer.Answer.{Answer};
 ghost use Rattle.law_register.specs.declared.answer.queries.QueryRule.{QueryRule};
-ghost use Rattle.register_trial.specs.Knowing as spec;
+ghost use Rattle.desk_trial.specs.Knowing as spec;
 
 use akn_json::{answer_value, put_answer, put_query_rule};
 use desk_base::{Memory, Steps};
-use law_register::{Answer, AskFault, Question, Register};
-use replay_core::FromEnacted;
+use law_register::{Answer, AskFault, Desk, Question};
 use std::alloc::Global;
 use std::sync::ledger::Ledger;
-use viewpoints::Past;
 
 // The line of an answer, or of the rule that a question breaks.
 fn answer_line(alloc: Global, told: Result<Answer, AskFault>) -> Result<Vec<u8>, Memory>
@@ -27,20 +25,32 @@ fn answer_line(alloc: Global, told: Result<Answer, AskFault>) -> Result<Vec<u8>,
     }
 }
 
-/// The line of the answer to a question by a register.
-pub fn told_of_question<L: Ledger>(
+// The answer of a desk to a question, at the front or before it.
+fn asked<D: Desk, L: Ledger>(
     alloc: Global,
-    register: &Register,
-    past: &mut Past,
+    desk: &mut D,
+    question: &Question,
+    steps: &mut Steps<L>,
+) -> Result<Answer, AskFault>
+    ensures { Answers result (answer_at (D.state desk.old).entries question.now) }
+{
+    if question.viewpoint < desk.front() {
+        desk.ask_past(alloc, question, steps)
+    } else {
+        desk.ask(alloc, question, steps)
+    }
+}
+
+/// The line of the answer to a question by a desk.
+pub fn told_of_question<D: Desk, L: Ledger>(
+    alloc: Global,
+    desk: &mut D,
     question: &Question,
     steps: &mut Steps<L>,
 ) -> Result<Vec<u8>, Memory>
-    ensures { IfOk result (λ line. line.items ≡ spec.answer_line (answer_at register.now.entries question.now)) }
+    ensures { IfOk result (λ line. line.items ≡ spec.answer_line (answer_at (D.state desk.old).entries question.now)) }
 {
-    answer_line(
-        alloc,
-        past.answer_past(alloc, &FromEnacted, register, question, steps),
-    )
+    answer_line(alloc, asked(alloc, desk, question, steps))
 }
 
 // The line of an answer by its value, or of the rule that a question breaks.
@@ -52,16 +62,12 @@ fn value_line(alloc: Global, told: Result<Answer, AskFault>) -> Result<Vec<u8>, 
     }
 }
 
-/// The line of the answer to a question by a register, written from a value of serde_json.
-pub fn told_by_value<L: Ledger>(
+/// The line of the answer to a question by a desk, written from a value of serde_json.
+pub fn told_by_value<D: Desk, L: Ledger>(
     alloc: Global,
-    register: &Register,
-    past: &mut Past,
+    desk: &mut D,
     question: &Question,
     steps: &mut Steps<L>,
 ) -> Result<Vec<u8>, Memory> {
-    value_line(
-        alloc,
-        past.answer_past(alloc, &FromEnacted, register, question, steps),
-    )
+    value_line(alloc, asked(alloc, desk, question, steps))
 }

@@ -1,12 +1,13 @@
-//! The lines of replies, and of the front.
+//! The lines of replies and of faults, and of the front.
 
 ghost use Rattle.std.specs.Prelude.{◌≡◌, false, IfOk, length, string_bytes};
 ghost use Rattle.law_register.specs.Register.LawList.{front};
-ghost use Rattle.register_trial.specs.Knowing.{front_line};
-ghost use Rattle.register_trial.specs.Verdicts as spec;
+ghost use Rattle.desk_trial.specs.Commands as spec;
+ghost use Rattle.desk_trial.specs.Knowing.{front_line};
 
+use akn_json::put_damage;
 use desk_base::Memory;
-use law_register::{Register, Reply};
+use law_register::{FaultMark, OpenFault, Register, Reply};
 use std::alloc::Global;
 
 // The text of a reply.
@@ -36,6 +37,32 @@ pub fn reply_line(alloc: Global, is_new: bool, reply: Reply) -> Result<Vec<u8>, 
         Ok(reply_text(alloc, reply)?.into_bytes())
     } else {
         repeat_line(alloc, reply)
+    }
+}
+
+/// The line of a fault of the keeper.
+pub fn fault_line(alloc: Global) -> Result<Vec<u8>, Memory>
+    ensures { IfOk result (λ line. line.items ≡ spec.fault_text) }
+{
+    Ok(String::from_str(alloc, "{\"fault\":\"keeper\"}")?.into_bytes())
+}
+
+/// The line of the marks that faults of the keeper left: of each the drafter, the request, and how many entries stood.
+pub fn marks_line(alloc: Global, marks: &[FaultMark]) -> Result<Vec<u8>, Memory> {
+    let mut line = String::from_str(alloc, "marks")?;
+    for mark in marks {
+        let (drafter, request, entries) = (mark.drafter.as_str(), mark.request, mark.entries);
+        line.push_str(format!(in alloc; " {drafter} {request} {entries}")?.as_str())?;
+    }
+    Ok(line.into_bytes())
+}
+
+/// The line of a register that was not opened.
+pub fn refused_line(alloc: Global, fault: OpenFault) -> Result<Vec<u8>, Memory> {
+    match fault {
+        OpenFault::Failed => fault_line(alloc),
+        OpenFault::Damaged(damage) => put_damage(alloc, damage),
+        OpenFault::Memory => Err(Memory),
     }
 }
 

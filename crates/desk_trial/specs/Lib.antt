@@ -1,4 +1,4 @@
 pub mod Bearing
 pub mod Knowing
-pub mod Lines
-pub mod Verdicts
+pub mod Commands
+pub mod Bytes

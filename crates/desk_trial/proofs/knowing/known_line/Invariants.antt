@@ -1,6 +1,6 @@
 use Rattle.std.proofs.Common.{◌≡◌, ◌++◌, Some, string_bytes, drop}
-use Rattle.register_trial.specs.Knowing as spec
-use Rattle.register_trial.proofs.knowing.known_line.Given as goal
+use Rattle.desk_trial.specs.Knowing as spec
+use Rattle.desk_trial.proofs.knowing.known_line.Given as goal
 
 -- the line so far, and the text of the ids behind it, are all of the line
 abbrev pub invariant-loop-modification : goal.invariant-loop-modification

@@ -2,7 +2,7 @@
 
 ghost use Rattle.std.specs.Prelude.{◌≡◌, ◌++◌, Some, IfOk, OnOk, string_bytes};
 ghost use Rattle.law_register.specs.Register.KnownIds as known;
-ghost use Rattle.register_trial.specs.Knowing as spec;
+ghost use Rattle.desk_trial.specs.Knowing as spec;
 
 use desk_base::Memory;
 use frbr_names::WorkName;

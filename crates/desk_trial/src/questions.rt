@@ -2,7 +2,7 @@
 
 ghost use Rattle.std.specs.Prelude.{◌≡◌, IfOk};
 ghost use Rattle.std.specs.Option.{option_copied};
-ghost use Rattle.register_trial.specs.Knowing as spec;
+ghost use Rattle.desk_trial.specs.Knowing as spec;
 
 use desk_base::{Memory, Text, decimal_number};
 use frbr_names::{ExpressionIri, WorkName, parse_expression, parse_work};
