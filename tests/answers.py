@@ -5,7 +5,7 @@ import subprocess
 
 import bearing
 import cases
-from checks import PROGRAM, TOP, check, read, run
+from checks import PROGRAM, TOP, check, over_a_folder, read, run, to_a_full_device
 
 
 def examples():
@@ -31,6 +31,13 @@ def words():
     for line in cases.NO_WORDS:
         done = subprocess.run([PROGRAM] + line, input=cases.dossier(), capture_output=True, timeout=60)
         check(f"the words {line}", (done.returncode, done.stdout, done.stderr), (2, b"", cases.USAGE))
+
+
+def checked():
+    """`check` of the register that is kept: the program keeps it in memory, so there is none. Nothing is read."""
+    check("a check", run(["check"], b""), (0, b"entries 0 law 0\n"))
+    check("a check reads nothing", over_a_folder([PROGRAM, "check"]), (0, b"entries 0 law 0\n"))
+    check("a check to a full device", to_a_full_device([PROGRAM, "check"], b""), 4)
 
 
 def tables():

@@ -139,7 +139,8 @@ def padded(length):
     return text + b" " * (length - len(text))
 
 
-USAGE = b"usage: lawdesk text DATE [force|efficacy] (DATE as 2011-01-01; the dossier on standard input)\n"
+USAGE = (b"usage: lawdesk text DATE [force|efficacy], with DATE as 2011-01-01 and the dossier on standard input; "
+         b"or lawdesk check\n")
 
 # Words that are no form of the command line.
 NO_WORDS = [
@@ -148,6 +149,7 @@ NO_WORDS = [
     ["text", "20100501"], ["text", "2010-05-1"], ["text", "0000-01-01"], ["text", "2010-02-29"], ["text", "1900-02-29"],
     ["text", "2010-04-31"], ["text", "2010-00-10"], ["text", "2010-10-00"], ["text", "2010-10-32"], ["text", "2010-05-01 "],
     ["text", "2010-05-01\n"], ["text", "+010-05-01"], ["text", b"2010-05-0\xff"], ["--help"], ["help"], ["text", "--", "2010-05-01"], [""],
+    ["check", "check"], ["check", "2010-05-01"], ["Check"], ["check", ""], ["checks"], ["--check"],
 ]
 
 

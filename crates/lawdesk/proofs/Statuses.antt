@@ -1,4 +1,4 @@
--- What a job tells of its input comes with the status of a job that is done.
+-- What is told of an input comes with the status of a text that is told.
 use Rattle.std.proofs.Common.{ℕ, List, Option, Result, Ok, Err, refl, subst, inl, inr}
 use Rattle.akn_json.specs.Reading.Dossiers.{dossier_of}
 use Rattle.akn_json.specs.declared.dossier.Dossier.{Dossier}
@@ -13,10 +13,9 @@ use Rattle.law_register.specs.declared.answer.queries.QueryRule.{QueryRule}
 use Rattle.law_register.specs.declared.register.rules.Rule.{Rule}
 use Rattle.lawdesk.specs.Asking.{question_of}
 use Rattle.lawdesk.specs.Entering.{entries_of}
-use Rattle.lawdesk.specs.declared.job.Job.{Job}
-use Rattle.lawdesk.specs.declared.job.Job.TheVariants.{Text}
 use Rattle.lawdesk.specs.Reports.{told, told_answer, told_by, told_of, told_text}
 use Rattle.lawdesk.specs.Runs.{IsDone, IsTold}
+use Rattle.lawdesk.specs.declared.job.TextJob.{TextJob}
 
 told_answer-done : (answer : Result Answer QueryRule) → IsDone (told_answer answer).status
 told_answer-done (Ok answer) = inl refl
@@ -34,10 +33,10 @@ told_of-done : (day : ℕ) (reading : Reading) (read : Result Dossier FormFault)
 told_of-done day reading (Ok dossier) = told_by-done day reading dossier.act (entries_of dossier)
 told_of-done day reading (Err fault) = inr (inr refl)
 
-told-done : (job : Job) (input : List ℕ) → IsDone (told job input).status
+told-done : (job : TextJob) (input : List ℕ) → IsDone (told job input).status
 unfolding told
-told-done (Text day reading) input = told_of-done day reading (dossier_of input)
+told-done job input = told_of-done job.day job.reading (dossier_of input)
 
--- a status that was told is that of a job that is done
-pub done : (job : Job) (left now written after : Option (List ℕ)) (status : ℕ) → IsTold job left now written after status → IsDone status
+-- a status that was told is that of a text that is told
+pub done : (job : TextJob) (left now written after : Option (List ℕ)) (status : ℕ) → IsTold job left now written after status → IsDone status
 done job left now written after status h = subst IsDone h.status_told (told-done job h.input)

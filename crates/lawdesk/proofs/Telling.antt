@@ -1,9 +1,9 @@
--- What is written of a report is what the job tells of its input.
+-- What is written of a report is what is told of the input.
 use Rattle.std.proofs.Common.{◌≡◌, ℕ, List, Option, Some, None, Ok, Err, ap, sym, ◌∙◌, subst}
 use Rattle.desk_base.specs.declared.source.Failed.{Failed}
 use Rattle.desk_base.specs.Streams.{Appended, AppendsFront}
 use Rattle.akn_json.specs.Reading.Bytes.{most_bytes}
-use Rattle.lawdesk.specs.declared.job.Job.{Job}
+use Rattle.lawdesk.specs.declared.job.TextJob.{TextJob}
 use Rattle.lawdesk.specs.Input.{IsInputOf}
 use Rattle.lawdesk.specs.Reports.{Told, told}
 use Rattle.lawdesk.specs.Runs.{IsWritten, IsTold, IsCut}
@@ -18,7 +18,7 @@ is_front None after bytes fault h = tt
 is_front (Some before) after bytes fault h = h
 
 -- a report that is written whole
-pub told_by : (job : Job) (left now written after : Option (List ℕ)) (input shown : List ℕ) (report : Told) (done : Unit)
+pub told_by : (job : TextJob) (left now written after : Option (List ℕ)) (input shown : List ℕ) (report : Told) (done : Unit)
     → IsInputOf most_bytes left now input → report ≡ told job input → shown ≡ report.bytes → Appended {E = Failed} written after shown (Ok done)
     → IsTold job left now written after report.status
 told_by job left now written after input shown report done came is_told is_shown h =
@@ -33,7 +33,7 @@ told_by job left now written after input shown report done came is_told is_shown
     }
 
 -- a report that is cut
-pub cut_by : (job : Job) (left now written after : Option (List ℕ)) (input shown : List ℕ) (report : Told) (fault : Failed)
+pub cut_by : (job : TextJob) (left now written after : Option (List ℕ)) (input shown : List ℕ) (report : Told) (fault : Failed)
     → IsInputOf most_bytes left now input → report ≡ told job input → shown ≡ report.bytes → Appended {E = Failed} written after shown (Err fault)
     → IsCut job left now written after
 cut_by job left now written after input shown report fault came is_told is_shown h =

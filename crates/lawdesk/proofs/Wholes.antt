@@ -5,8 +5,7 @@ use Rattle.akn_json.specs.Reading.Bytes.{most_bytes}
 use Rattle.akn_json.specs.Reading.Dossiers.{dossier_of}
 use Rattle.akn_json.specs.Reading.Reads.{broken}
 use Rattle.akn_json.specs.declared.fault.FormRule.TheVariants.{TooLong}
-use Rattle.lawdesk.specs.declared.job.Job.{Job}
-use Rattle.lawdesk.specs.declared.job.Job.TheVariants.{Text}
+use Rattle.lawdesk.specs.declared.job.TextJob.{TextJob}
 use Rattle.lawdesk.specs.Input.{IsInputOf}
 use Rattle.lawdesk.specs.Reports.{told, told_of}
 use Rattle.lawdesk.specs.Runs.{IsRead}
@@ -20,15 +19,15 @@ unfolding dossier_of
 dossier_of-long bytes long = rw (past (length bytes) most_bytes long) refl
 
 -- of all inputs past the limit the same is told
-told-long : (job : Job) (a b : List ℕ) → most_bytes < length a → most_bytes < length b → told job a ≡ told job b
+told-long : (job : TextJob) (a b : List ℕ) → most_bytes < length a → most_bytes < length b → told job a ≡ told job b
 unfolding told
-told-long (Text day reading) a b p q = ap (told_of day reading) (dossier_of-long a p ∙ sym (dossier_of-long b q))
+told-long job a b p q = ap (told_of job.day job.reading) (dossier_of-long a p ∙ sym (dossier_of-long b q))
 
 -- an input that was read, and of which the same is told as of the bytes
 pub record IsWhole (left now : Option (List ℕ)) (bytes : List ℕ) : Type 0 where
   pub input : List ℕ
   pub read : IsRead left now input
-  pub same : (job : Job) → told job input ≡ told job bytes
+  pub same : (job : TextJob) → told job input ≡ told job bytes
 
 pub whole : (left now : Option (List ℕ)) (bytes : List ℕ) → IsInputOf most_bytes left now bytes → IsWhole left now bytes
 whole None now bytes h = record { input = bytes; read = tt; same = λ job. refl }

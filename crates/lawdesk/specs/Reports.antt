@@ -1,4 +1,4 @@
--- What the program tells of its input: a status, and the bytes that are written.
+-- What the program tells of a dossier: a status, and the bytes that are written.
 use Rattle.std.specs.Prelude.{ℕ, List, [], ◌∷◌, ◌++◌, Result, Ok, Err}
 use Rattle.serde_json.specs.Data.{Data}
 use Rattle.serde_json.specs.Written.{compact_text}
@@ -17,8 +17,7 @@ use Rattle.law_register.specs.declared.answer.queries.QueryRule.{QueryRule}
 use Rattle.law_register.specs.declared.register.rules.Rule.{Rule}
 use Rattle.lawdesk.specs.Asking.{question_of}
 use Rattle.lawdesk.specs.Entering.{entries_of}
-use Rattle.lawdesk.specs.declared.job.Job.{Job}
-use Rattle.lawdesk.specs.declared.job.Job.TheVariants.{Text}
+use Rattle.lawdesk.specs.declared.job.TextJob.{TextJob}
 
 -- a status, and the bytes that are written
 pub record Told : Type 0 where
@@ -60,6 +59,6 @@ abbrev pub told_of : ℕ → Reading → Result Dossier FormFault → Told
 told_of day reading (Ok dossier) = told_on day reading dossier
 told_of day reading (Err fault) = told_fault fault
 
--- what a job tells of the bytes that it reads
-unfoldable pub told : Job → List ℕ → Told
-told (Text day reading) input = told_of day reading (dossier_of input)
+-- what is told of the bytes that are read, where the text on a day is asked for
+unfoldable pub told : TextJob → List ℕ → Told
+told job input = told_of job.day job.reading (dossier_of input)

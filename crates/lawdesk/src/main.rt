@@ -1,20 +1,24 @@
 //! The program of the desk.
 #![tactic(auto)]
 
+mod checking;
 mod entering;
 mod input;
 mod job;
+mod line;
 mod report;
 mod reporting;
 mod run;
 mod stop;
+mod texting;
 
 ghost use Rattle.std.specs.Prelude.{◌≡◌, ◌↔◌, ◌≢◌, None, map, string_bytes};
 ghost use Rattle.std.specs.declared.io.ErrorKind.TheVariants.{OutOfMemory};
 ghost use Rattle.lawdesk.specs.Jobs.{job_of};
-ghost use Rattle.lawdesk.specs.Runs.{IsStatus};
+ghost use Rattle.lawdesk.specs.Statuses.{IsStatus};
 
-use desk_base::{Reading, Steps, Writing};
+use desk_base::{Memory, Reading, Steps, UtcClock, Writing};
+use law_keeper::MapKeeper;
 use run::run;
 use std::alloc::Global;
 use std::env;
@@ -23,9 +27,11 @@ use std::marker::Brand;
 use std::process::ExitCode;
 use std::sync::ledger::{Blank, Ledger};
 use std::thread::Threads;
+use std::time::Clock;
 
 const USAGE: &str =
-    "usage: lawdesk text DATE [force|efficacy] (DATE as 2011-01-01; the dossier on standard input)";
+    "usage: lawdesk text DATE [force|efficacy], with DATE as 2011-01-01 and the dossier on standard input; \
+    or lawdesk check";
 
 // The words of the command line, without the program's name.
 fn words(rt: &HostRuntime) -> io::Result<Vec<String>> {
@@ -36,13 +42,14 @@ fn words(rt: &HostRuntime) -> io::Result<Vec<String>> {
     Ok(words)
 }
 
-// Runs the words over a reader and a writer, with a count of steps that begins here.
-fn run_over<L: Ledger, H: Threads, R: Read + Drop, W: Write + Drop>(
+// Runs the words over a reader, a writer, a keeper and the machine's clock, with a count of steps that begins here.
+fn run_over<L: Ledger, H: Threads + Clock, R: Read + Drop, W: Write + Drop>(
     rt: &H,
     alloc: Global,
     words: &[String],
     reader: R,
     writer: W,
+    mut keeper: MapKeeper,
     blank: Blank,
 ) -> u8
     requires name { blank.name ≡ L.name }
@@ -54,7 +61,16 @@ fn run_over<L: Ledger, H: Threads, R: Read + Drop, W: Write + Drop>(
     let mut steps = Steps::<L>::start(rt, blank);
     let mut source = Reading::new(reader);
     let mut sink = Writing::new(writer);
-    run(alloc, words, &mut source, &mut sink, &mut steps)
+    let mut clock = UtcClock::new(rt);
+    run(
+        alloc,
+        words,
+        &mut source,
+        &mut sink,
+        &mut keeper,
+        &mut clock,
+        &mut steps,
+    )
 }
 
 // The status of words that could not be had: they are no text, or there was not enough memory.
@@ -69,16 +85,18 @@ fn refused(kind: ErrorKind) -> u8
 }
 
 fn main(rt: HostRuntime) -> ExitCode {
-    let status = match words(&rt) {
-        Ok(words) => run_over::<Brand, _, _, _>(
+    let status = match (words(&rt), MapKeeper::new(rt.alloc(), &[])) {
+        (Ok(words), Ok(keeper)) => run_over::<Brand, _, _, _>(
             &rt,
             rt.alloc(),
             words.as_slice(),
             rt.stdin(),
             rt.stdout(),
+            keeper,
             Blank::new(1),
         ),
-        Err(error) => refused(error.kind()),
+        (Err(error), _) => refused(error.kind()),
+        (_, Err(Memory)) => refused(ErrorKind::OutOfMemory),
     };
     if status == 2 {
         let _ = eprintln!(rt; "{USAGE}");

@@ -10,7 +10,8 @@ ghost use Rattle.lawdesk.specs.Reports.{told, told_answer, told_on, told_rule, t
 ghost use Rattle.lawdesk.specs.Views.{report_view};
 
 use crate::entering::register_of;
-use crate::job::Job;
+use crate::job::TextJob;
+use crate::line::line;
 use crate::report::Report;
 use akn_json::{
     Dossier, FormFault, ReadFail, put_answer, put_form_fault, put_query_rule, put_rule,
@@ -21,14 +22,6 @@ use law_register::{Answer, AskFault, EnterFault, Question, Reading, Register, Re
 use std::alloc::Global;
 use std::sync::ledger::Ledger;
 use viewpoints::Past;
-
-// A line of these bytes.
-fn line(mut bytes: Vec<u8>) -> Result<Vec<u8>, Memory>
-    ensures { IfOk result (λ line. line.items ≡ bytes.items ++ 10 ∷ []) }
-{
-    bytes.push(b'\n')?;
-    Ok(bytes)
-}
 
 // The report of an answer, or of the rule that a question breaks.
 fn report_answer(alloc: Global, told: Result<Answer, AskFault>) -> Result<Report, Memory>
@@ -116,18 +109,18 @@ fn report_fault(alloc: Global, fault: FormFault) -> Result<Report, Memory>
     })
 }
 
-/// What a job tells of the bytes that it has read, which are let go as soon as they are understood.
+/// What the text of an act on a day tells of the bytes that were read, which are let go as soon as they are understood.
 #[tactic(auto, unfolding(crate::specs::Reports::told))]
 pub fn report<L: Ledger, P: Replayer>(
     alloc: Global,
     replayer: &P,
-    job: Job,
+    job: TextJob,
     input: Vec<u8>,
     steps: &mut Steps<L>,
 ) -> Result<Report, Memory>
     ensures { IfOk result (λ report. report_view report ≡ told job input.items) }
 {
-    let Job::Text(day, reading) = job;
+    let TextJob { day, reading } = job;
     let read = read_dossier(alloc, input.as_slice());
     drop(input);
     match read {

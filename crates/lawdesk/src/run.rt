@@ -1,82 +1,52 @@
-//! The call that the program is: a job of the command line, over a source and a sink.
+//! The call that the program is: what the words of the command line ask for, over a source, a sink, a keeper and a clock.
 
-ghost use Rattle.std.specs.Prelude.{◌≡◌, ◌↔◌, ◌⊎◌, None, Some, Err, IfOk, IfErr, ◌≢◌, map, string_bytes};
-ghost use Rattle.desk_base.specs.Streams.{Rose};
+ghost use Rattle.std.specs.Prelude.{◌≡◌, ◌↔◌, None, Some, map, string_bytes};
 ghost use Rattle.lawdesk.specs.Jobs.{job_of};
-ghost use Rattle.lawdesk.specs.Runs.{IsStatus, IsDone, IsTold, IsCut, TakesWithinLimit};
-ghost use Rattle.lawdesk.specs.declared.job.Job.{Job};
+ghost use Rattle.lawdesk.specs.Checking.{RanCheck};
+ghost use Rattle.lawdesk.specs.Runs.{RanText};
+ghost use Rattle.lawdesk.specs.Statuses.{IsStatus};
+ghost use Rattle.lawdesk.specs.declared.job.Job.TheVariants.{Check, Text};
+ghost use Rattle.lawdesk.specs.declared.job.TextJob.{TextJob};
 
-use crate::input::read_input;
+use crate::checking::check;
 use crate::job::Job;
-use crate::reporting::report;
-use crate::stop::Stop;
-use akn_json::MAX_DOSSIER_BYTES;
-use desk_base::{Sink, Source, Steps};
-use replay_core::FromEnacted;
+use crate::texting::text;
+use desk_base::{Clock, Sink, Source, Steps};
+use law_keeper::Keeper;
 use std::alloc::Global;
 use std::sync::ledger::Ledger;
 
-// Does a job: reads the source, and writes what the job tells of it.
-fn perform<S: Source, W: Sink, L: Ledger>(
-    alloc: Global,
-    job: Job,
-    source: &mut S,
-    sink: &mut W,
-    steps: &mut Steps<L>,
-) -> Result<u8, Stop>
-    ensures told { IfOk result
-        (IsTold job (S.left source.old) (S.left source.new) (W.written sink.old) (W.written sink.new)) }
-    ensures source { result ≡ Err Stop.Source → Rose (S.faults source.old) (S.faults source.new) }
-    ensures sink { result ≡ Err Stop.Sink → Rose (W.faults sink.old) (W.faults sink.new) }
-    ensures cut { result ≡ Err Stop.Sink
-        → IsCut job (S.left source.old) (S.left source.new) (W.written sink.old) (W.written sink.new) }
-    ensures unwritten { IfErr result (λ stop. stop ≢ Stop.Sink → sink.new ≡ sink.old) }
-    ensures source_stays { result ≢ Err Stop.Source → S.faults source.new ≡ S.faults source.old }
-    ensures sink_stays { result ≢ Err Stop.Sink → W.faults sink.new ≡ W.faults sink.old }
-    ensures taken { TakesWithinLimit (S.room source.old) (S.room source.new) }
-{
-    let input = read_input(alloc, source, MAX_DOSSIER_BYTES)?;
-    let report = report(alloc, &FromEnacted, job, input, steps)?;
-    match sink.write_all(report.bytes.as_slice()) {
-        Ok(()) => Ok(report.status),
-        Err(_) => Err(Stop::Sink),
-    }
-}
-
 /// Does what the words of the command line ask for, and gives the status to end with.
-pub fn run<S: Source, W: Sink, L: Ledger>(
+pub fn run<S: Source, W: Sink, K: Keeper, C: Clock, L: Ledger>(
     alloc: Global,
     words: &[String],
     source: &mut S,
     sink: &mut W,
+    keeper: &mut K,
+    clock: &mut C,
     steps: &mut Steps<L>,
 ) -> u8
-    // Which statuses there are, and when the words are no form of the command line.
+    // Which statuses there are, and when the words are no form of the command line: then nothing is asked of any device.
     ensures status { IsStatus result }
     ensures words { (result ≡ 2) ↔ (job_of (map string_bytes words.now) ≡ None) }
     ensures idle { result ≡ 2 → (source.new ≡ source.old) × (sink.new ≡ sink.old) }
+    ensures idle_register { result ≡ 2 → (keeper.new ≡ keeper.old) × (clock.new ≡ clock.old) }
 
-    // A job that was done: the input was read, and what the job tells of it is the status and all that was written.
-    ensures told { (job : Job) → job_of (map string_bytes words.now) ≡ Some job → IsDone result
-        → IsTold job (S.left source.old) (S.left source.new) (W.written sink.old) (W.written sink.new) result }
+    // The text of an act, which leaves the register alone.
+    ensures text { (job : TextJob) → job_of (map string_bytes words.now) ≡ Some (Text job)
+        → RanText S.left S.room S.faults W.written W.faults job source.old source.new sink.old sink.new result }
+    ensures text_alone { (job : TextJob) → job_of (map string_bytes words.now) ≡ Some (Text job)
+        → (keeper.new ≡ keeper.old) × (clock.new ≡ clock.old) }
 
-    // A job that was not done, and its cause. Want of memory has none.
-    ensures source { result ≡ 3 → Rose (S.faults source.old) (S.faults source.new) }
-    ensures sink { result ≡ 4 → Rose (W.faults sink.old) (W.faults sink.new) }
-    ensures cut { (job : Job) → job_of (map string_bytes words.now) ≡ Some job → result ≡ 4
-        → IsCut job (S.left source.old) (S.left source.new) (W.written sink.old) (W.written sink.new) }
-    ensures unwritten { (result ≡ 3) ⊎ (result ≡ 7) → sink.new ≡ sink.old }
-
-    // No count rose but that of the stream which the status names, and so in a job that was done none did.
-    ensures source_stays { result ≢ 3 → S.faults source.new ≡ S.faults source.old }
-    ensures sink_stays { result ≢ 4 → W.faults sink.new ≡ W.faults sink.old }
-    ensures taken { TakesWithinLimit (S.room source.old) (S.room source.new) }
+    // What the keeper has, which leaves the source and the clock alone.
+    ensures check { job_of (map string_bytes words.now) ≡ Some Check
+        → RanCheck K.holding K.faults W.written W.faults keeper.old keeper.new sink.old sink.new result }
+    ensures check_alone { job_of (map string_bytes words.now) ≡ Some Check
+        → (source.new ≡ source.old) × (clock.new ≡ clock.old) }
 {
     match Job::from_words(words) {
         None => 2,
-        Some(job) => match perform(alloc, job, source, sink, steps) {
-            Ok(status) => status,
-            Err(stop) => stop.status(),
-        },
+        Some(Job::Text(job)) => text(alloc, job, source, sink, steps),
+        Some(Job::Check) => check(alloc, sink, keeper),
     }
 }

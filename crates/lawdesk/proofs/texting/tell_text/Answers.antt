@@ -1,5 +1,5 @@
 use Rattle.lawdesk.proofs.Telling.{told_by, cut_by}
-use Rattle.lawdesk.proofs.run.perform.Goals as goal
+use Rattle.lawdesk.proofs.texting.tell_text.Goals as goal
 
 pub returns-in-Ok-clause-told : goal.returns-in-Ok-clause-told
 returns-in-Ok-clause-told g c =

@@ -1,0 +1,92 @@
+//! Checking: whether what is kept is a register, and where not, what first shows it.
+
+ghost use Rattle.std.specs.Prelude.{◌≡◌, ◌≢◌, ◌⊎◌, ℕ, IfOk, Result, List};
+ghost use Rattle.desk_base.specs.Streams.{Rose};
+ghost use Rattle.law_keeper.specs.Keepers.{Keeps};
+ghost use Rattle.law_office.specs.Opening.{HasOpenCause, Opens};
+ghost use Rattle.law_register.specs.declared.desk.damage.Damage.{Damage};
+ghost use Rattle.law_register.specs.declared.register.entry.Entry.{Entry};
+ghost use Rattle.lawdesk.specs.Checking.{HasCheckCause, IsCheckCut, IsCheckDone, IsCheckStatus, IsChecked, checked, told_damage, told_opened, told_register};
+ghost use Rattle.lawdesk.specs.Views.{report_view};
+
+use crate::line::line;
+use crate::report::Report;
+use akn_json::put_damage;
+use desk_base::{Memory, Sink};
+use law_keeper::Keeper;
+use law_office::Book;
+use law_register::{Damage, OpenFault, Register};
+use std::alloc::Global;
+
+// The report of a register: how many entries and how many law entries it has.
+fn report_register(alloc: Global, register: &Register) -> Result<Report, Memory>
+    ensures { IfOk result (λ report. report_view report ≡ told_register register.now.entries) }
+{
+    let (entries, law) = (register.len(), register.front());
+    Ok(Report {
+        status: 0,
+        bytes: line(format!(in alloc; "entries {entries} law {law}")?.into_bytes())?,
+    })
+}
+
+// The report of what keeps a register from being opened.
+fn report_damage(alloc: Global, damage: Damage) -> Result<Report, Memory>
+    ensures { IfOk result (λ report. report_view report ≡ told_damage damage) }
+{
+    Ok(Report {
+        status: 6,
+        bytes: line(put_damage(alloc, damage)?)?,
+    })
+}
+
+// The report of an opening: a register, or what is damaged. It is refused where the keeper failed, or for want of memory.
+fn report_opened(alloc: Global, opened: &Result<Book, OpenFault>) -> Result<Report, OpenFault>
+    ensures told { (told : Result (List Entry) Damage) → Opens (λ book. book.register.entries) opened.now told
+        → IfOk result (λ report. report_view report ≡ told_opened told) }
+    ensures cause { (before now : ℕ) → HasOpenCause before now opened.now → HasCheckCause before now result }
+{
+    match opened {
+        Ok(book) => Ok(report_register(alloc, &book.register)?),
+        Err(OpenFault::Damaged(damage)) => Ok(report_damage(alloc, *damage)?),
+        Err(OpenFault::Failed) => Err(OpenFault::Failed),
+        Err(OpenFault::Memory) => Err(OpenFault::Memory),
+    }
+}
+
+// The report of what a keeper has. Its payloads stay.
+#[tactic(auto, unfolding(crate::specs::Checking::checked))]
+fn report_kept<K: Keeper>(alloc: Global, keeper: &mut K) -> Result<Report, OpenFault>
+    ensures told { (K.holding keeper.old).tells
+        → IfOk result (λ report. report_view report ≡ checked (K.holding keeper.old).list) }
+    ensures cause { HasCheckCause (K.faults keeper.old) (K.faults keeper.new) result }
+    ensures same { Keeps (K.holding keeper.old) (K.holding keeper.new) }
+{
+    let opened = Book::open(alloc, keeper);
+    let report = report_opened(alloc, &opened);
+    drop(opened);
+    report
+}
+
+/// Opens the register that is kept, writes how many entries it has or what is damaged, and gives the status to end with.
+pub fn check<W: Sink, K: Keeper>(alloc: Global, sink: &mut W, keeper: &mut K) -> u8
+    ensures status { IsCheckStatus result }
+    ensures told { IsCheckDone result → (K.holding keeper.old).tells
+        → IsChecked (K.holding keeper.old).list (W.written sink.old) (W.written sink.new) result }
+    ensures keeper { result ≡ 5 → Rose (K.faults keeper.old) (K.faults keeper.new) }
+    ensures sink { result ≡ 4 → Rose (W.faults sink.old) (W.faults sink.new) }
+    ensures cut { result ≡ 4 → (K.holding keeper.old).tells
+        → IsCheckCut (K.holding keeper.old).list (W.written sink.old) (W.written sink.new) }
+    ensures unwritten { (result ≡ 5) ⊎ (result ≡ 7) → sink.new ≡ sink.old }
+    ensures keeper_stays { result ≡ 0 → K.faults keeper.new ≡ K.faults keeper.old }
+    ensures sink_stays { result ≢ 4 → W.faults sink.new ≡ W.faults sink.old }
+    ensures same { Keeps (K.holding keeper.old) (K.holding keeper.new) }
+{
+    match report_kept(alloc, keeper) {
+        Ok(report) => match sink.write_all(report.bytes.as_slice()) {
+            Ok(()) => report.status,
+            Err(_) => 4,
+        },
+        Err(OpenFault::Failed) => 5,
+        Err(_) => 7,
+    }
+}
