@@ -94,3 +94,7 @@ HasOpenCause before now (Ok value) = now ≡ before
 HasOpenCause before now (Err fails.Failed) = Rose before now
 HasOpenCause before now (Err (fails.Damaged broken)) = HasDamageCause before now broken
 HasOpenCause before now (Err fails.Memory) = now ≡ before
+
+-- the same of an opening that is refused
+abbrev pub HasRefusalCause : ℕ → ℕ → OpenFault → Type 0
+HasRefusalCause before now fault = HasOpenCause {A = Unit {0}} before now (Err fault)

@@ -12,4 +12,4 @@ mod tests;
 mod writing;
 
 pub use book::{Book, Pending};
-pub use office::Office;
+pub use office::{Office, OpenRefused};

@@ -1,10 +1,10 @@
 //! Office: a desk over a keeper and a clock that it is lent. A clause sees both as they are, its entries, the one
 //! that is pending, its marks, and the names of what it was lent.
 
-ghost use Rattle.std.specs.Prelude.{◌≡◌, ◌≢◌, ◌↔◌, [], None, IfOk, IsTrue};
+ghost use Rattle.std.specs.Prelude.{◌≡◌, ◌≢◌, ◌↔◌, [], None, Ok, IfOk, IfErr, IsTrue};
 ghost use Rattle.law_keeper.specs.Keepers.{Keeps};
 ghost use Rattle.law_office.specs.Offices.{HoldsBook, IsNamed, IsRight, names_of, pending_of};
-ghost use Rattle.law_office.specs.Opening.{Opens, opened_of};
+ghost use Rattle.law_office.specs.Opening.{HasRefusalCause, Refuses, opened_of};
 
 use crate::acting::command as do_command;
 use crate::book::Book;
@@ -20,6 +20,15 @@ use std::alloc::Global;
 use std::marker::Model;
 use std::sync::ledger::Ledger;
 use viewpoints::Past;
+
+/// A keeper of which no office could be opened, and why.
+#[derive(Drop)]
+pub struct OpenRefused<'a, K: Keeper> {
+    /// The keeper.
+    pub keeper: &'a mut K,
+    /// Why.
+    pub fault: OpenFault,
+}
 
 /// A desk whose entries a keeper keeps.
 #[derive(Drop)]
@@ -53,15 +62,20 @@ impl<'a, K: Keeper, C: Clock> Model for Office<'a, K, C> {
 }
 
 impl<'a, K: Keeper, C: Clock> Office<'a, K, C> {
-    /// Opens a keeper, and the office of what it has. `Book::open` and `new` are the two parts of it: the first says
-    /// also what is left of the keeper where it is refused.
+    /// Opens a keeper, and the office of what it has. A refusal gives the keeper back. No payload changes.
     pub fn open(
         alloc: Global,
         keeper: &'a mut K,
         clock: &'a mut C,
-    ) -> Result<Office<'a, K, C>, OpenFault>
+    ) -> Result<Office<'a, K, C>, OpenRefused<'a, K>>
         ensures opened { (K.holding keeper.old).tells
-            → Opens (λ office. office.entries) result (opened_of (K.holding keeper.old).list) }
+            → IfOk result (λ office. opened_of (K.holding keeper.old).list ≡ Ok office.entries) }
+        ensures refused { (K.holding keeper.old).tells
+            → IfErr result (λ refused. Refuses refused.fault (opened_of (K.holding keeper.old).list)) }
+        ensures same_refused { IfErr result (λ refused. Keeps (K.holding keeper.old) (K.holding refused.keeper.now)) }
+        ensures cause_refused { IfErr result (λ refused.
+            HasRefusalCause (K.faults keeper.old) (K.faults refused.keeper.now) refused.fault) }
+        ensures name_refused { IfErr result (λ refused. refused.keeper.ghost_name ≡ keeper.entry.ghost_name) }
         ensures pending { IfOk result (λ office. office.pending ≡ None) }
         ensures marks { IfOk result (λ office. office.marks ≡ []) }
         ensures same { IfOk result (λ office. Keeps (K.holding keeper.old) (K.holding office.keeper)) }
@@ -70,8 +84,10 @@ impl<'a, K: Keeper, C: Clock> Office<'a, K, C> {
         ensures origin { IfOk result (λ office. office.origin
             ≡ names_of keeper.entry.ghost_name clock.entry.ghost_name) }
     {
-        let book = Book::open(alloc, keeper)?;
-        Ok(Office::new(keeper, clock, book))
+        match Book::open(alloc, keeper) {
+            Ok(book) => Ok(Office::new(keeper, clock, book)),
+            Err(fault) => Err(OpenRefused { keeper, fault }),
+        }
     }
 
     /// The office of a book that the keeper holds. It takes no memory.
