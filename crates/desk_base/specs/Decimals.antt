@@ -6,7 +6,8 @@ use Rattle.std.specs.Str.Parse.{digits_value}
 
 -- a whole number in decimal: digits alone, at least one, and the first is no zero but in `0` itself
 abbrev pub is_decimal : List ℕ → Bool
-is_decimal text = nat_le 1 (length text) && list_all is_ascii_digit text && (length text == 1 || not (get_or text 0 0 == 48))
+is_decimal text =
+    nat_le 1 (length text) && list_all is_ascii_digit text && (length text == 1 || not (get_or text 0 0 == 48))
 
 -- a number, if it is not beyond a limit
 abbrev pub up_to : ℕ → ℕ → Option ℕ

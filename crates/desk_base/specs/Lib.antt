@@ -1,4 +1,5 @@
 pub mod Clocks
+pub mod Crashes
 pub mod Days
 pub mod Decimals
 pub mod Ids

@@ -28,7 +28,8 @@ pub record HeldSource : Type 0 where
 
 -- a source of these bytes, before the first read
 abbrev pub new_source : List ℕ → ℕ → List ℕ → HeldSource
-new_source bytes piece failing = record { left = bytes; piece = piece; plan = record { failing = failing; made = 0 }; faults = 0 }
+new_source bytes piece failing =
+    record { left = bytes; piece = piece; plan = record { failing = failing; made = 0 }; faults = 0 }
 
 -- how many bytes a read of so many gives, where it does not fail
 abbrev pub given_count : HeldSource → ℕ → ℕ
@@ -43,7 +44,8 @@ pub record HeldSink : Type 0 where
 
 -- a sink of this capacity, before the first write
 abbrev pub new_sink : ℕ → List ℕ → HeldSink
-new_sink capacity failing = record { written = []; capacity = capacity; plan = record { failing = failing; made = 0 }; faults = 0 }
+new_sink capacity failing =
+    record { written = []; capacity = capacity; plan = record { failing = failing; made = 0 }; faults = 0 }
 
 -- the write that comes next fails: it is listed, or the capacity would be passed
 abbrev pub write_fails : HeldSink → List ℕ → Bool

@@ -18,7 +18,8 @@ LowersRoom before now (Err fault) = now ≡ before
 -- what is written is what was written before, and a front part of the bytes, where the sink tells it
 abbrev pub AppendsFront : Option (List ℕ) → Option (List ℕ) → List ℕ → Type 0
 AppendsFront None now bytes = Unit {0}
-AppendsFront (Some before) now bytes = (front : List ℕ) × ((rest : List ℕ) × ((now ≡ Some (before ++ front)) × (front ++ rest ≡ bytes)))
+AppendsFront (Some before) now bytes =
+    (front : List ℕ) × ((rest : List ℕ) × ((now ≡ Some (before ++ front)) × (front ++ rest ≡ bytes)))
 
 -- a write appends all its bytes, or after a failure a front part of them, where the sink tells what is written
 abbrev pub Appended : {E : Type 0} → Option (List ℕ) → Option (List ℕ) → List ℕ → Result Unit E → Type 0

@@ -7,7 +7,12 @@ ghost use Rattle.desk_base.specs.Days.{IsDay, number_of, day_of, day_text};
 ghost use Rattle.desk_base.specs.declared.id.Id.{Id as IdValue};
 ghost use Rattle.desk_base.specs.declared.period.Period.{Period as PeriodValue};
 
-use crate::{Id, Period, Text};
+use crate::{Day, Id, Period, Text};
+
+/// A day has a number from 1 to 3652059.
+pub fn day_is_numbered(_day: Day)
+    ensures { IsDay _day }
+{}
 
 /// What a day spells is read as that day.
 pub fn spelled_day_is_read(_number: u32)

@@ -2,6 +2,7 @@
 
 mod answer;
 mod answer_node;
+mod dated;
 mod due;
 mod ids;
 mod queries;
@@ -12,6 +13,7 @@ mod version;
 
 pub use answer::Answer;
 pub use answer_node::{AnswerNode, AnswerNodes};
+pub use dated::Dated;
 pub use due::Due;
 pub use ids::{Days, Ids, Unapplied};
 pub use queries::{AskFault, QueryRule};

@@ -10,7 +10,7 @@ pub mod replay_laws;
 mod series;
 
 pub use answer::{
-    Answer, AnswerNode, AnswerNodes, AskFault, Days, Due, Ids, QueryRule, Question, Reading,
+    Answer, AnswerNode, AnswerNodes, AskFault, Dated, Days, Due, Ids, QueryRule, Question, Reading,
     Replayer, Unapplied, Version, continue_replay, enact,
 };
 pub use desk::{CommandFault, Damage, Desk, FaultMark, OpenFault};

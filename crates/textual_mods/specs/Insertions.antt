@@ -13,10 +13,11 @@ use Rattle.act_tree.specs.declared.build_fault.BuildFault.TheVariants.{EidTwice,
 use Rattle.act_tree.specs.declared.tree.Tree.{Tree}
 use Rattle.act_tree.specs.Branches.{Branch, Branches, branch, no_branches, more_branches, heights, counts}
 use Rattle.act_tree.specs.Changes.{root_wid}
-use Rattle.act_tree.specs.EidLevels.{all_beginning, all_going_on}
+use Rattle.act_tree.specs.EidLevels.{all_beginning, all_going_on, levels_begun}
 use Rattle.act_tree.specs.Faults.{all_owns}
 use Rattle.act_tree.specs.Provisions.{Own, Provision}
 use Rattle.act_tree.specs.Seen.{tree_view, provision_at, below_at}
+use Rattle.act_tree.specs.Trees.{TreeValue}
 use Rattle.act_tree.specs.Wids.{is_among, one_twice}
 
 -- one of these texts is among others
@@ -50,6 +51,10 @@ abbrev mutual
   all_begun_among levels numbering top no_branches = false
   all_begun_among levels numbering top (more_branches b bs) =
       begun_among levels numbering top b || all_begun_among levels numbering top bs
+
+-- the same of the levels that begin an eId in a text
+abbrev pub begun_in : TreeValue → Bool → Branches Own → Bool
+begun_in tree top new = all_begun_among (levels_begun tree) tree.numbering top new
 
 -- and one of the levels that begin none, of provisions that are no children of the root, is
 abbrev pub on_among : List (List ℕ) → Numbering → Branches Own → Bool

@@ -6,7 +6,7 @@ ghost use Rattle.act_tree.specs.EidLevels.{levels_begun, levels_on};
 ghost use Rattle.act_tree.specs.Seen.{tree_view, has_node, below_at};
 ghost use Rattle.act_tree.specs.Specs.{own_of, spec_view};
 ghost use Rattle.eid_paths.specs.Nums.{is_num};
-ghost use Rattle.textual_mods.specs.Insertions.{all_begun_among, begun_among, have_nums, on_among};
+ghost use Rattle.textual_mods.specs.Insertions.{begun_among, begun_in, have_nums, on_among};
 
 use act_tree::{NodeId, NodeSpec, Nodes, Tree};
 
@@ -87,8 +87,7 @@ fn begins_again(tree: &Tree, top: bool, node: &NodeSpec) -> bool
 /// `top` says that they come to stand right below the root.
 #[cycle(begins)]
 pub fn begin_again(tree: &Tree, top: bool, nodes: &Nodes) -> bool
-    ensures { result
-        ≡ all_begun_among (levels_begun (tree_view tree.now)) (tree_view tree.now).numbering top (branches_of nodes.now) }
+    ensures { result ≡ begun_in (tree_view tree.now) top (branches_of nodes.now) }
 {
     for node in &nodes.items {
         if begins_again(tree, top, node) {

@@ -1,6 +1,7 @@
 -- What a command does to a desk: a pending entry is settled, the clock gives a day, and then the command is judged.
 use Rattle.std.specs.Prelude.{ℕ, ◌≡◌, ◌⊎◌, List, [], ◌∷◌, ◌++◌, length, Option, Some, None, IsSome, Result, Ok, Err}
 use Rattle.desk_base.specs.Clocks.{GivesDay}
+use Rattle.desk_base.specs.Crashes.{Crashes, LeavesOnly}
 use Rattle.desk_base.specs.Streams.{Rose}
 use Rattle.law_register.specs.declared.desk.command_fault.CommandFault.{CommandFault}
 use Rattle.law_register.specs.declared.desk.command_fault.CommandFault.TheVariants as fails
@@ -10,7 +11,7 @@ use Rattle.law_register.specs.declared.register.entry.Entry.{Entry}
 use Rattle.law_register.specs.declared.register.rules.Rule.{Rule}
 use Rattle.law_register.specs.declared.register.verdict.Reply.{Reply}
 use Rattle.law_register.specs.declared.register.verdict.Verdict.TheVariants.{Accepted}
-use Rattle.law_register.specs.Desk.States.{Standing}
+use Rattle.law_register.specs.Desk.States.{DeskState, Found, IsFoundOf, Standing}
 use Rattle.law_register.specs.Register.Entering.{entered, entry_of}
 use Rattle.law_register.specs.Register.Verdicts.{verdict}
 
@@ -87,3 +88,16 @@ HasCommandCause before now (Ok value) = now ≡ before
 HasCommandCause before now (Err (fails.Rule rule)) = now ≡ before
 HasCommandCause before now (Err fails.KeeperFault) = Rose before now
 HasCommandCause before now (Err fails.Memory) = now ≡ before
+
+-- what is found after a crash in the midst of a command: what a desk had before it, or what it has behind it, in both
+-- cases with the entry that is pending or without it
+abbrev pub IsFoundBetween : DeskState → DeskState → Found → Type 0
+IsFoundBetween old new found = IsFoundOf old.entries old.pending found ⊎ IsFoundOf new.entries new.pending found
+
+-- where a desk tells it: a crash at any moment of a command leaves that
+abbrev pub LeavesBetween : DeskState → DeskState → Crashes Found → Crashes Found → Type 0
+LeavesBetween old new before now = before.tells → LeavesOnly (IsFoundBetween old new) before now
+
+-- where a desk tells it: a crash at any moment of a call leaves what it could leave before
+abbrev pub LeavesNoMore : Crashes Found → Crashes Found → Type 0
+LeavesNoMore before now = before.tells → LeavesOnly before.may_leave before now

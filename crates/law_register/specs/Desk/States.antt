@@ -1,9 +1,15 @@
 -- What contracts alone see of a desk.
-use Rattle.std.specs.Prelude.{ℕ, ◌≡◌, ◌≤◌, true, List, length, All, Option, IfSome}
+use Rattle.std.specs.Prelude.{ℕ, ◌≡◌, ◌⊎◌, ◌≤◌, true, List, [], ◌∷◌, ◌++◌, length, All, Option, None, Some, IfSome, Result, Ok}
+use Rattle.desk_base.specs.Crashes.{Crashes}
+use Rattle.law_register.specs.declared.desk.damage.Damage.{Damage}
 use Rattle.law_register.specs.declared.desk.fault_mark.FaultMark.{FaultMark}
 use Rattle.law_register.specs.declared.register.entry.Entry.{Entry}
 use Rattle.law_register.specs.Law.Spelling.{is_well_spelled}
 use Rattle.law_register.specs.Register.Verdicts.{is_accepted, verdict}
+
+-- what an opening finds in what was kept: the entries of a register, or damage
+abbrev pub Found : Type 0
+Found = Result (List Entry) Damage
 
 -- what a desk has, and what it was told
 pub record DeskState : Type 0 where
@@ -34,8 +40,18 @@ pub record MayFollow (entries : List Entry) (entry : Entry) : Type 0 where
   pub accepted : is_accepted entry.law (verdict entries entry.drafter entry.request entry.command) ≡ true
   pub spelled : is_well_spelled entry.command ≡ true
 
+-- these entries are found, and the one that is pending behind them, or not
+abbrev pub IsFoundOf : List Entry → Option Entry → Found → Type 0
+IsFoundOf entries None found = found ≡ Ok entries
+IsFoundOf entries (Some entry) found = (found ≡ Ok entries) ⊎ (found ≡ Ok (entries ++ entry ∷ []))
+
 -- an entry that is pending may stand behind the others, and each mark was made when so many entries stood as there
 -- are, or fewer
 pub record IsSound (state : DeskState) : Type 0 where
   pub pending : IfSome state.pending (MayFollow state.entries)
   pub marks : All (λ mark. mark.entries ≤ length state.entries) state.marks
+
+-- where it is told: after a crash the entries are found, with the one that is pending or without it
+abbrev pub IsDurable : DeskState → Crashes Found → Type 0
+IsDurable state crashes =
+    crashes.tells → (found : Found) → crashes.may_leave found → IsFoundOf state.entries state.pending found

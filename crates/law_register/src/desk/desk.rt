@@ -1,12 +1,14 @@
 //! Desk: who takes commands and answers questions. A clause sees its entries, the one that is pending, the marks of
-//! faults, its keeper's count of faults, the days that its clock tells, and the names of what it was lent.
+//! faults, its keeper's count of faults, the days that its clock tells, the names of what it was lent, and what a crash
+//! leaves of it.
 
 ghost use Rattle.std.specs.Prelude.{◌≡◌, ◌+◌, ◌<◌, ◌≤◌, true};
+ghost use Rattle.desk_base.specs.Crashes.{AreCrashes, Crashes};
 ghost use Rattle.law_register.specs.Answer.Answers.{Answers};
 ghost use Rattle.law_register.specs.Answer.Asking.{answer_at};
 ghost use Rattle.law_register.specs.Answer.Costs.{bearing_at};
-ghost use Rattle.law_register.specs.Desk.Commands.{Ends, HasCommandCause, mark_of, marks_after};
-ghost use Rattle.law_register.specs.Desk.States.{DeskState, IsSound, standing};
+ghost use Rattle.law_register.specs.Desk.Commands.{Ends, HasCommandCause, LeavesBetween, LeavesNoMore, mark_of, marks_after};
+ghost use Rattle.law_register.specs.Desk.States.{DeskState, Found, IsDurable, IsSound, standing};
 ghost use Rattle.law_register.specs.Law.Spelling.{is_well_spelled};
 ghost use Rattle.law_register.specs.Register.LawList.{front};
 
@@ -20,6 +22,9 @@ use std::sync::ledger::Ledger;
 pub trait Desk {
     /// What contracts alone see of it.
     ghost state: { Self → DeskState };
+
+    /// What is found after a crash, where its keeper tells it.
+    ghost crashes: { Self → Crashes Found };
 
     /// Does a well-spelled command of a drafter's request. First a pending entry is settled, then the clock is asked
     /// once for the day, then the command is judged: a repeat gets the first reply, and one that is accepted becomes
@@ -39,6 +44,9 @@ pub trait Desk {
         ensures marks { (state self.new).marks ≡ marks_after (state self.old).marks
             (mark_of drafter.now request (state self.new).entries) result }
         ensures cause { HasCommandCause (state self.old).faults (state self.new).faults result }
+        ensures crash { LeavesBetween (state self.old) (state self.new) (crashes self.old) (crashes self.new) }
+        ensures sound { IsSound (state self.new) }
+        ensures durable { IsDurable (state self.new) (crashes self.new) }
         ensures origin { (state self.new).origin ≡ (state self.old).origin }
         ensures steps { steps.new ≡ steps.old };
 
@@ -65,6 +73,7 @@ pub trait Desk {
         requires { question.now.viewpoint < front (state self.old).entries }
         ensures answer { Answers result (answer_at (state self.old).entries question.now) }
         ensures same { state self.new ≡ state self.old }
+        ensures crash { LeavesNoMore (crashes self.old) (crashes self.new) }
         ensures steps { steps.new ≤ steps.old + bearing_at (state self.old).entries question.now };
 
     /// How many law entries there are.
@@ -74,5 +83,9 @@ pub trait Desk {
     /// The register, without an entry that is pending.
     fn register(&self) -> &Register
         ensures entries { result.now.entries ≡ (state self.now).entries }
-        ensures sound { IsSound (state self.now) };
+        ensures sound { IsSound (state self.now) }
+        ensures durable { IsDurable (state self.now) (crashes self.now) };
+
+    /// What holds of each: this moment is one of those since an earlier one.
+    ghost are_crashes: { (desk : Self) → AreCrashes (crashes desk) };
 }
