@@ -1,13 +1,8 @@
 -- A file at rest is left alone when it is opened.
-use Rattle.std.proofs.Common.{◌≡◌, ℕ, ◌+◌, ◌≤◌, Bool, true, false, not, ◌&&◌, ◌==◌, is_none, get_or, List, [], ◌∷◌, ◌++◌, length, take, drop, Option, Some, None, Ok, refl, sym, ◌∙◌, ap, subst, arith, take-append-drop}
-use Rattle.std.proofs.lemmas.List.{take_all}
-use Rattle.std.proofs.lemmas.Bool.Decides.{nat_tests}
-use Rattle.law_journal.specs.Disks.{Outlook, IsOutlook, Idles, Gives}
-use Rattle.law_journal.specs.Grammar.{magic, magic_fault, records_size, end_of}
-use Rattle.law_journal.specs.Journals.{HasEnd, is_started}
-use Rattle.law_journal.specs.States.{EndsAt, IsAtRest, LeavesAlone}
-use Rattle.law_journal.proofs.Moments.{idle_both}
-use Rattle.law_journal.proofs.Records.{short_list}
+use Rattle.std.proofs.Common.{◌≡◌, ℕ, ◌+◌, List, length, Some, Ok, sym, ◌∙◌, ap, arith}
+use Rattle.law_journal.specs.Grammar.{records_size, end_of}
+use Rattle.law_journal.specs.Journals.{HasEnd}
+use Rattle.law_journal.specs.States.{IsAtRest}
 use Rattle.law_journal.proofs.Crash.{shut_list}
 
 -- where a file is at rest, the gate that ends its list is its last byte

@@ -1,6 +1,7 @@
 -- What a window holds of a disk.
-use Rattle.std.proofs.Common.{◌≡◌, ℕ, ◌+◌, ◌-◌, ◌≤◌, List, length, take, drop, sym, ◌∙◌, ap, subst, arith, length-take, length-drop}
-use Rattle.std.proofs.lemmas.List.{take-take, drop-take, drop-drop}
+use Rattle.std.proofs.Common.{◌≡◌, ℕ, ◌+◌, ◌-◌, ◌≤◌, List, length, take, drop, sym, ◌∙◌, ap, subst, arith, ◌++◌, length-append, length-take, length-drop}
+use Rattle.std.proofs.lemmas.List.{take_all, take-take, drop-take, drop-drop}
+use Rattle.std.proofs.Math.Seq.{take-add, take-append-add}
 use Rattle.law_journal.specs.Disks.{Outlook, Idles, Gives}
 use Rattle.law_journal.specs.Windows.{IsWindow}
 use Rattle.law_journal.specs.declared.window.Window.{Window}
@@ -28,6 +29,19 @@ module _ (bytes seen : List ℕ) (start held : ℕ) (same : take held bytes ≡ 
         bytes = ap (λ n. take n into) long ∙ ap (λ (l : List ℕ). take count l) are ∙ take-take count count (drop at bytes) (omega arith)
             ∙ piece_same at (held - at) count (omega (arith, le)) (omega (arith, le)) ∙ ap (λ p. take count (drop p seen)) (sym is) ∙ ap (λ n. take n (drop place seen)) (sym long);
       }
+
+-- what the piece gives, and what is read behind it, are what a read gives
+pub joined : (seen front rest : List ℕ) (place m n : ℕ) → m ≡ length front → Gives seen place (length front) front → Gives seen (place + m) n rest
+    → Gives seen place (m + n) (front ++ rest)
+joined seen front rest place m n long before behind =
+    let front_is : front ≡ take m (drop place seen) =
+    sym (take_all (length front) front (omega arith)) ∙ before.bytes ∙ ap (λ k. take k (drop place seen)) (sym long) in
+    let rest_is : take n rest ≡ take n (drop m (drop place seen)) = behind.bytes ∙ ap (λ (l : List ℕ). take n l) (sym (drop-drop m place seen)) in
+    record {
+      count = omega (arith, long, before.count, behind.count, length-append front rest);
+      bytes = ap (λ k. take (k + n) (front ++ rest)) long ∙ take-append-add front rest n ∙ ap (λ (l : List ℕ). l ++ take n rest) front_is
+          ∙ ap (λ (l : List ℕ). take m (drop place seen) ++ l) rest_is ∙ sym (take-add m n (drop place seen));
+    }
 
 -- a window stays one while the disk idles
 pub idle_window : (o n : Outlook) (w : Window) → Idles o n → IsWindow o w → IsWindow n w

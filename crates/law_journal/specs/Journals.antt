@@ -192,3 +192,10 @@ LeavesOldOrSame old new = old.tells → LeavesOnly (IsOldOrSame old) old new
 
 abbrev pub LeavesOneOfTwo : List ℕ → Outlook → Outlook → Type 0
 LeavesOneOfTwo payload old new = old.tells → LeavesOnly (IsBeforeOrAfter old.seen payload) old new
+
+-- the payload of a frame is added; a crash at any moment leaves the list without it, or with it
+abbrev pub AddsFrame : List ℕ → Outlook → Outlook → Type 0
+AddsFrame framed old new = AddsPayload (payload_of framed) old new
+
+abbrev pub LeavesFrameOrNot : List ℕ → Outlook → Outlook → Type 0
+LeavesFrameOrNot framed old new = LeavesOneOfTwo (payload_of framed) old new

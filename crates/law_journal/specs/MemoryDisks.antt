@@ -1,5 +1,6 @@
 -- What a disk in memory holds, and what a crash may leave of it.
-use Rattle.std.specs.Prelude.{ℕ, zero, suc, ◌≡◌, ◌⊎◌, ◌≤◌, ◌+◌, ◌-◌, ◌==◌, Bool, true, ◌&&◌, nat_le, List, [], ◌∷◌, length, take, drop, ◌++◌, if◌then◌else◌}
+use Rattle.std.specs.Prelude.{ℕ, zero, suc, ◌≡◌, ◌⊎◌, ◌≤◌, ◌+◌, ◌-◌, ◌==◌, Bool, true, ◌&&◌, ◌||◌, nat_le, nat_lt, Result, Ok, Err, List, [], ◌∷◌, length, take, drop, ◌++◌, if◌then◌else◌}
+use Rattle.desk_base.specs.MemoryStreams.{CallPlan, next_fails}
 use Rattle.law_journal.specs.Disks.{Outlook, Torn, Cut, overwritten}
 use Rattle.law_journal.specs.declared.history.Change.{Change}
 use Rattle.law_journal.specs.declared.history.Change.TheVariants as change
@@ -168,6 +169,19 @@ outlook_of bytes pasts = record {
   left_since = λ t c. (c ≡ bytes) ⊎ ((k : ℕ) × (t ≤ k) × (k ≤ length pasts) × images_at pasts k c);
 }
 
+abbrev pub known : HeldBytes → Outlook
+known h = outlook_of h.bytes h.pasts
+
 -- an image that a crash may leave of a disk in memory
 abbrev pub MayLeave : HeldBytes → List ℕ → Type 0
-MayLeave h file = (outlook_of h.bytes h.pasts).may_leave file
+MayLeave h file = (known h).may_leave file
+
+-- the change that comes next, which writes so many bytes, fails: its call is listed, no more changes may be made, or
+-- there is no room for the bytes
+abbrev pub change_fails : ℕ → CallPlan → HeldBytes → Bool
+change_fails n plan h = next_fails plan || (h.left == 0 || nat_lt h.room n)
+
+-- what is held after a step, and as before after a failure
+abbrev pub Becomes : {T E : Type 0} → (HeldBytes → HeldBytes) → HeldBytes → HeldBytes → Result T E → Type 0
+Becomes step old new (Ok value) = new ≡ step old
+Becomes step old new (Err fault) = new ≡ old

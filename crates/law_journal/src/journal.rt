@@ -5,9 +5,9 @@ ghost use Rattle.std.specs.Prelude.{◌≡◌, ◌+◌, ◌≤◌, true, false, 
 ghost use Rattle.desk_base.specs.Streams.{HasCause};
 ghost use Rattle.law_journal.specs.Disks.{Idles};
 ghost use Rattle.law_journal.specs.Grammar.{is_size, frame_of, payload_of};
-ghost use Rattle.law_journal.specs.Journals.{AddsPayload, GatesStay, HasLoadCause, IsFrame, IsLater, IsListed, ListStays};
-ghost use Rattle.law_journal.specs.Journals.{GivesListed, LeavesOldOrSame, LeavesOneOfTwo, MayAddPayload, ReadsEntry};
-ghost use Rattle.law_journal.specs.Journals.{TellsDamage, stays_ready};
+ghost use Rattle.law_journal.specs.Journals.{AddsFrame, GatesStay, GivesListed, HasLoadCause, IsFrame, IsLater};
+ghost use Rattle.law_journal.specs.Journals.{IsListed, LeavesFrameOrNot, LeavesOldOrSame, ListStays, MayAddPayload};
+ghost use Rattle.law_journal.specs.Journals.{ReadsEntry, TellsDamage, stays_ready};
 ghost use Rattle.law_journal.specs.States.{HasFault, IsKnown, LeavesAlone};
 
 use crate::Disk;
@@ -76,14 +76,14 @@ impl<D: Disk> Journal<D> {
         ensures opened { IfOk result (λ journal. journal.ready ≡ true) }
         ensures listed { IfOk result (λ journal. IsListed (D.outlook journal.disk) journal.gate) }
         ensures same { IfOk result (λ journal. ListStays (D.outlook disk) (D.outlook journal.disk)) }
-        ensures kept { IfErr result (λ refused. ListStays (D.outlook disk) (D.outlook refused.disk)) }
-        ensures damaged { IfErr result (λ refused. TellsDamage (D.outlook disk) refused.fault) }
+        ensures kept { IfErr result (λ r. ListStays (D.outlook disk) (D.outlook r.disk)) }
+        ensures damaged { IfErr result (λ r. TellsDamage (D.outlook disk) r.fault) }
         ensures any_moment { IfOk result (λ journal. LeavesOldOrSame (D.outlook disk) (D.outlook journal.disk)) }
-        ensures any_moment_refused { IfErr result (λ refused. LeavesOldOrSame (D.outlook disk) (D.outlook refused.disk)) }
+        ensures any_moment_refused { IfErr result (λ r. LeavesOldOrSame (D.outlook disk) (D.outlook r.disk)) }
         ensures alone { IfOk result (λ journal. LeavesAlone (D.outlook disk) (D.outlook journal.disk)) }
-        ensures alone_refused { IfErr result (λ refused. LeavesAlone (D.outlook disk) (D.outlook refused.disk)) }
+        ensures alone_refused { IfErr result (λ r. LeavesAlone (D.outlook disk) (D.outlook r.disk)) }
         ensures cause { IfOk result (λ journal. D.faults journal.disk ≡ D.faults disk) }
-        ensures cause_refused { IfErr result (λ refused. HasFault (D.faults disk) (D.faults refused.disk) refused.fault) }
+        ensures cause_refused { IfErr result (λ r. HasFault (D.faults disk) (D.faults r.disk) r.fault) }
     {
         let mut journal = Journal::new(alloc, disk);
         match journal.reopen() {
@@ -169,10 +169,10 @@ impl<D: Disk> Journal<D> {
         ensures place { IfOk result (λ place. place ≡ self.new.gate) }
         ensures first { IfOk result (λ place. 8 ≤ place) }
         ensures gate { OnOk result (self.new.gate ≡ self.old.gate + length framed.now) }
-        ensures added { OnOk result (AddsPayload (payload_of framed.now) (D.outlook self.old.disk) (D.outlook self.new.disk)) }
+        ensures added { OnOk result (AddsFrame framed.now (D.outlook self.old.disk) (D.outlook self.new.disk)) }
         ensures left { MayAddPayload (payload_of framed.now) (D.outlook self.old.disk) (D.outlook self.new.disk) }
         ensures gates { GatesStay (D.outlook self.old.disk) (D.outlook self.new.disk) }
-        ensures any_moment { LeavesOneOfTwo (payload_of framed.now) (D.outlook self.old.disk) (D.outlook self.new.disk) }
+        ensures any_moment { LeavesFrameOrNot framed.now (D.outlook self.old.disk) (D.outlook self.new.disk) }
         ensures tells { (D.outlook self.new.disk).tells → (D.outlook self.old.disk).tells }
         ensures cause { HasCause (D.faults self.old.disk) (D.faults self.new.disk) result }
     {

@@ -3,10 +3,15 @@
 
 mod disk;
 mod file_disk;
+#[cfg(test)]
+mod file_tests;
 mod handle;
 mod history;
 mod journal;
 mod memory_disk;
+mod named_file;
+#[cfg(test)]
+mod noted_file;
 mod reading;
 mod recovering;
 mod scanning;
@@ -21,3 +26,5 @@ pub use disk::Disk;
 pub use file_disk::FileDisk;
 pub use journal::{Journal, JournalRefused, frame};
 pub use memory_disk::MemoryDisk;
+pub use named_file::NamedFile;
+pub use system_file::SystemFile;

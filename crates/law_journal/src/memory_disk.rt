@@ -1,8 +1,11 @@
 //! MemoryDisk: a disk in memory. It keeps each change with the bytes from before it, and some of its calls fail.
 
-ghost use Rattle.std.specs.Prelude.{◌≡◌, ◌≤◌, IfOk, OnOk};
+ghost use Rattle.std.specs.Prelude.{◌≡◌, ◌↔◌, ◌+◌, ◌^◌, ◌<◌, ◌≤◌, length, IfOk, IsErr, IsTrue, OnOk};
+ghost use Rattle.desk_base.specs.MemoryStreams.{after_call, next_fails};
 ghost use Rattle.desk_base.specs.Streams.{HasCause};
+ghost use Rattle.law_journal.specs.Disks.{Changes, Cut, CutsTo, Idles, IsLengthOf, IsSynced, Reads, Torn, Writes};
 ghost use Rattle.law_journal.specs.MemoryDisks as spec;
+ghost use Rattle.law_journal.specs.MemoryDisks.{Becomes, known};
 
 use crate::Disk;
 use crate::history::History;
@@ -58,6 +61,8 @@ impl MemoryDisk {
     // Counts a call, which fails if it is listed.
     fn count_call(&mut self) -> Result<(), Failed>
         ensures history { self.new.history ≡ self.old.history }
+        ensures fails { IsErr result ↔ IsTrue (next_fails self.old.plan) }
+        ensures counted { self.new.plan ≡ after_call self.old.plan }
         ensures cause { HasCause self.old.faults self.new.faults result }
     {
         if self.plan.count_call() {
@@ -71,6 +76,8 @@ impl MemoryDisk {
         ensures history { self.new.history ≡ self.old.history }
         ensures room { OnOk result (written ≤ self.old.history.room) }
         ensures left { OnOk result (1 ≤ self.old.history.left) }
+        ensures fails { IsErr result ↔ IsTrue (spec.change_fails written self.old.plan self.old.history) }
+        ensures counted { self.new.plan ≡ after_call self.old.plan }
         ensures cause { HasCause self.old.faults self.new.faults result }
     {
         self.count_call()?;
@@ -89,12 +96,28 @@ impl Disk for MemoryDisk {
 
     ghost faults = { λ d. d.faults };
 
-    fn len(&mut self) -> Result<u64, Failed> {
+    fn len(&mut self) -> Result<u64, Failed>
+        ensures length { IfOk result (IsLengthOf (known self.old.history)) }
+        ensures bound { IfOk result (λ n. n < 2 ^ 63) }
+        ensures idle { Idles (known self.old.history) (known self.new.history) }
+        ensures cause { HasCause self.old.faults self.new.faults result }
+        ensures fails { IsErr result ↔ IsTrue (next_fails self.old.plan) }
+        ensures history { self.new.history ≡ self.old.history }
+        ensures counted { self.new.plan ≡ after_call self.old.plan }
+    {
         self.count_call()?;
         Ok(self.bytes().len() as u64)
     }
 
-    fn read(&mut self, place: u64, into: &mut [u8]) -> Result<usize, Failed> {
+    fn read(&mut self, place: u64, into: &mut [u8]) -> Result<usize, Failed>
+        ensures given { Reads (known self.old.history) place result into.new }
+        ensures fits { IfOk result (λ n. n ≤ length into.new) }
+        ensures idle { Idles (known self.old.history) (known self.new.history) }
+        ensures cause { HasCause self.old.faults self.new.faults result }
+        ensures fails { IsErr result ↔ IsTrue (next_fails self.old.plan) }
+        ensures history { self.new.history ≡ self.old.history }
+        ensures counted { self.new.plan ≡ after_call self.old.plan }
+    {
         self.count_call()?;
         let bytes = self.history.bytes();
         if place >= bytes.len() as u64 {
@@ -106,19 +129,42 @@ impl Disk for MemoryDisk {
         Ok(count)
     }
 
-    fn write_at(&mut self, place: u64, bytes: &[u8]) -> Result<(), Failed> {
+    fn write_at(&mut self, place: u64, bytes: &[u8]) -> Result<(), Failed>
+        requires { (known self.old.history).tells → place ≤ length (known self.old.history).seen }
+        ensures written { OnOk result (Writes place bytes.now (known self.old.history) (known self.new.history)) }
+        ensures bound { OnOk result (place + length bytes.now < 2 ^ 63) }
+        ensures change { Changes (Torn place (length bytes.now)) (known self.old.history) (known self.new.history) }
+        ensures cause { HasCause self.old.faults self.new.faults result }
+        ensures fails { IsErr result ↔ IsTrue (spec.change_fails (length bytes.now) self.old.plan self.old.history) }
+        ensures history { Becomes (spec.after_write place bytes.now) self.old.history self.new.history result }
+        ensures counted { self.new.plan ≡ after_call self.old.plan }
+    {
         self.count_change(bytes.len())?;
         self.history.write(place as usize, bytes);
         Ok(())
     }
 
-    fn cut(&mut self, len: u64) -> Result<(), Failed> {
+    fn cut(&mut self, len: u64) -> Result<(), Failed>
+        ensures cut { OnOk result (CutsTo len (known self.old.history) (known self.new.history)) }
+        ensures change { Changes (Cut len) (known self.old.history) (known self.new.history) }
+        ensures cause { HasCause self.old.faults self.new.faults result }
+        ensures fails { IsErr result ↔ IsTrue (spec.change_fails 0 self.old.plan self.old.history) }
+        ensures history { Becomes (spec.after_cut len) self.old.history self.new.history result }
+        ensures counted { self.new.plan ≡ after_call self.old.plan }
+    {
         self.count_change(0)?;
         self.history.cut(len as usize);
         Ok(())
     }
 
-    fn sync(&mut self) -> Result<(), Failed> {
+    fn sync(&mut self) -> Result<(), Failed>
+        ensures durable { OnOk result (IsSynced (known self.old.history) (known self.new.history)) }
+        ensures idle { Idles (known self.old.history) (known self.new.history) }
+        ensures cause { HasCause self.old.faults self.new.faults result }
+        ensures fails { IsErr result ↔ IsTrue (spec.change_fails 0 self.old.plan self.old.history) }
+        ensures history { Becomes spec.after_sync self.old.history self.new.history result }
+        ensures counted { self.new.plan ≡ after_call self.old.plan }
+    {
         self.count_change(0)?;
         self.history.sync();
         Ok(())

@@ -70,7 +70,8 @@ pub fn step<D: Disk>(
     ensures cause { HasCause (D.faults disk.old) (D.faults disk.new) result }
 {
     let mut header = [0; 5];
-    let count = window.read(disk, place, &mut header)?;
+    let wanted = (len - place).min(5) as usize;
+    let count = window.read(disk, place, &mut header[..wanted])?;
     Ok(found_at(&header[..count], place, len))
 }
 

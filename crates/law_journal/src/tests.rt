@@ -1,14 +1,9 @@
-//! The journal over a disk in memory and over a file, held against bytes that were worked by hand.
+//! The journal over a disk in memory, held against bytes that were worked by hand.
 
-ghost use Rattle.std.specs.Prelude.{◌≡◌, true, IfOk};
-
-use crate::handle::Handle;
-use crate::system_file::SystemFile;
-use crate::{Disk, FileDisk, Journal, MemoryDisk, frame};
-use desk_base::{Failed, LoadFault};
+use crate::{Journal, MemoryDisk, frame};
+use desk_base::LoadFault;
 use std::alloc::AllocGlobal;
 use std::test::Fail;
-use std::{fs, io};
 
 // The spelling of an entry, 28 bytes.
 const PAYLOAD: [u8; 28] = [
@@ -68,8 +63,8 @@ fn payload_is_appended(rt: HostRuntime) -> Result<(), Fail> {
 
 #[test]
 fn failed_append_is_settled_by_opening_again(rt: HostRuntime) -> Result<(), Fail> {
-    // Opening makes four calls, an append four more: the write and the sync of the record, and those of its gate.
-    for (call, payloads) in [(5, 42), (6, 42), (7, 42), (8, 75)] {
+    // Opening makes three calls, an append four more: the write and the sync of the record, and those of its gate.
+    for (call, payloads) in [(4, 42), (5, 42), (6, 42), (7, 75)] {
         let framed = frame(rt.alloc(), &PAYLOAD)?;
         let disk = disk_of(&rt, one_payload(&rt)?, &[call])?;
         let Ok(mut journal) = Journal::open(rt.alloc(), disk) else {
@@ -100,7 +95,7 @@ fn has_one_payload<R: AllocGlobal>(rt: &R, bytes: Vec<u8>) -> Result<bool, Fail>
 #[test]
 fn images_of_unsynced_record_have_one_payload(rt: HostRuntime) -> Result<(), Fail> {
     let framed = frame(rt.alloc(), &PAYLOAD)?;
-    let disk = disk_of(&rt, one_payload(&rt)?, &[6])?;
+    let disk = disk_of(&rt, one_payload(&rt)?, &[5])?;
     let Ok(mut journal) = Journal::open(rt.alloc(), disk) else {
         return Err(Fail::from("refused"));
     };
@@ -145,211 +140,51 @@ fn short_file_becomes_empty_journal(rt: HostRuntime) -> Result<(), Fail> {
     Ok(())
 }
 
+// Whether a file of these bytes is refused as damaged at a place, by that byte.
+fn is_damaged<R: AllocGlobal>(
+    rt: &R,
+    bytes: Vec<u8>,
+    place: u64,
+    byte: Option<u8>,
+) -> Result<bool, Fail> {
+    Ok(refusal(rt, bytes)? == Some(LoadFault::Damaged { place, byte }))
+}
+
 #[test]
-fn damage_is_refused(rt: HostRuntime) -> Result<(), Fail> {
+fn record_cut_at_any_byte_is_damage(rt: HostRuntime) -> Result<(), Fail> {
     for len in 10..42 {
         let mut bytes = one_payload(&rt)?;
         bytes.truncate(len);
-        let damage = LoadFault::Damaged {
-            place: len as u64,
-            byte: None,
-        };
-        assert_eq!(rt; refusal(&rt, bytes)?, Some(damage), "cut to {len}");
+        assert!(rt; is_damaged(&rt, bytes, len as u64, None)?, "cut to {len}");
     }
+    Ok(())
+}
+
+#[test]
+fn magic_changed_at_any_byte_is_damage(rt: HostRuntime) -> Result<(), Fail> {
     for place in 0..8 {
         let mut bytes = one_payload(&rt)?;
         bytes.truncate(place);
         bytes.extend_from_slice(&[50; 10])?;
-        let damage = LoadFault::Damaged {
-            place: place as u64,
-            byte: Some(50),
-        };
-        assert_eq!(rt; refusal(&rt, bytes)?, Some(damage), "at {place}");
+        assert!(rt;
+            is_damaged(&rt, bytes, place as u64, Some(50))?,
+            "at {place}"
+        );
     }
-    let magic = LoadFault::Damaged {
-        place: 7,
-        byte: Some(50),
-    };
-    assert_eq!(rt;
-        refusal(&rt, b"AKNLAW02\0\0".to_vec(rt.alloc())?)?,
-        Some(magic)
-    );
-    let none = LoadFault::Damaged {
-        place: 9,
-        byte: Some(0),
-    };
-    assert_eq!(rt;
-        refusal(&rt, b"AKNLAW01\x01\0\0\0\0\0".to_vec(rt.alloc())?)?,
-        Some(none)
-    );
-    let many = LoadFault::Damaged {
-        place: 9,
-        byte: Some(1),
-    };
-    assert_eq!(rt;
-        refusal(&rt, b"AKNLAW01\x01\x01\0\0\x01\0".to_vec(rt.alloc())?)?,
-        Some(many)
-    );
     Ok(())
 }
 
 #[test]
-fn file_is_a_disk(rt: HostRuntime) -> Result<(), Fail> {
-    let path = "law_journal_test.jnl";
-    let framed = frame(rt.alloc(), &PAYLOAD)?;
-    let Ok(mut journal) = Journal::open(rt.alloc(), FileDisk::new(&rt, path)) else {
-        return Err(Fail::from("refused"));
-    };
-    let appended = journal.append(&framed);
-    let bytes = fs::read(&rt, path)?;
-    fs::remove_file(&rt, path)?;
-    assert_eq!(rt; appended, Ok(41));
-    assert_eq!(rt; bytes.as_slice(), one_payload(&rt)?.as_slice());
-    Ok(())
-}
-
-// What changes a file, or waits for it.
-#[derive(Clone, Copy, Debug, PartialEq, Eq)]
-enum Change {
-    Write(u64),
-    Cut,
-    Sync,
-}
-
-// A file that reads as so many of the bytes of the magic and a closed gate. It notes its changes, of which one fails.
-#[derive(Drop)]
-struct NotedFile {
-    size: usize,
-    changes: Vec<Change>,
-    failing: usize,
-}
-
-impl NotedFile {
-    fn note(&mut self, change: Change) -> io::Result<()> {
-        if self.changes.push(change).is_err() || self.changes.len() == self.failing {
-            return Err(io::Error::from(io::ErrorKind::Other));
-        }
-        Ok(())
+fn length_out_of_range_is_damage(rt: HostRuntime) -> Result<(), Fail> {
+    let rows: [(&[u8], u8); 2] = [
+        (b"AKNLAW01\x01\0\0\0\0\0", 0),
+        (b"AKNLAW01\x01\x01\0\0\x01\0", 1),
+    ];
+    for (bytes, first) in rows {
+        assert!(rt;
+            is_damaged(&rt, bytes.to_vec(rt.alloc())?, 9, Some(first))?,
+            "{first}"
+        );
     }
-}
-
-impl SystemFile for NotedFile {
-    fn len(&mut self) -> io::Result<u64> {
-        Ok(self.size.min(9) as u64)
-    }
-
-    fn read_at(&mut self, _place: u64, into: &mut [u8]) -> io::Result<usize> {
-        let count = into.len().min(self.size).min(9);
-        into[..count].copy_from_slice(&b"AKNLAW01\0"[..count]);
-        Ok(count)
-    }
-
-    fn write_at(&mut self, place: u64, _bytes: &[u8]) -> io::Result<()> {
-        self.note(Change::Write(place))
-    }
-
-    fn set_len(&mut self, _len: u64) -> io::Result<()> {
-        self.note(Change::Cut)
-    }
-
-    fn sync_all(&mut self) -> io::Result<()> {
-        self.note(Change::Sync)
-    }
-}
-
-// A disk over that file.
-#[derive(Drop)]
-struct NotedDisk {
-    handle: Handle<NotedFile>,
-    faults: u64,
-}
-
-impl Disk for NotedDisk {
-    ghost use Rattle.law_journal.specs.Unknown.{unknown, unknown_is};
-
-    ghost outlook = { λ d. unknown };
-
-    ghost faults = { λ d. d.faults };
-
-    fn len(&mut self) -> Result<u64, Failed> {
-        self.handle.len(&mut self.faults)
-    }
-
-    fn read(&mut self, place: u64, into: &mut [u8]) -> Result<usize, Failed> {
-        self.handle.read(place, into, &mut self.faults)
-    }
-
-    fn write_at(&mut self, place: u64, bytes: &[u8]) -> Result<(), Failed> {
-        self.handle.write(place, bytes, &mut self.faults)
-    }
-
-    fn cut(&mut self, len: u64) -> Result<(), Failed> {
-        self.handle.cut(len, &mut self.faults)
-    }
-
-    fn sync(&mut self) -> Result<(), Failed> {
-        self.handle.sync(&mut self.faults)
-    }
-
-    ghost is_outlook = { λ d. unknown_is };
-}
-
-// A journal on that disk, with a file of a size, one of whose changes fails.
-fn noted<R: AllocGlobal>(rt: &R, size: usize, failing: usize) -> Result<Journal<NotedDisk>, Fail>
-    ensures { IfOk result (λ journal. journal.ready ≡ true) }
-{
-    let file = NotedFile {
-        size,
-        changes: Vec::new(rt.alloc()),
-        failing,
-    };
-    let disk = NotedDisk {
-        handle: Handle::new(file),
-        faults: 0,
-    };
-    match Journal::open(rt.alloc(), disk) {
-        Ok(journal) => Ok(journal),
-        Err(_) => Err(Fail::from("refused")),
-    }
-}
-
-#[test]
-fn short_file_is_cut_before_it_is_written(rt: HostRuntime) -> Result<(), Fail> {
-    let journal = noted(&rt, 5, 0)?;
-    assert_eq!(rt;
-        journal.disk().handle.file().changes.as_slice(),
-        [Change::Sync, Change::Cut, Change::Write(0), Change::Sync].as_slice()
-    );
-    Ok(())
-}
-
-#[test]
-fn record_is_synced_before_its_gate_is_opened(rt: HostRuntime) -> Result<(), Fail> {
-    let framed = frame(rt.alloc(), &PAYLOAD)?;
-    let mut journal = noted(&rt, 9, 0)?;
-    assert_eq!(rt; journal.append(&framed), Ok(41));
-    assert_eq!(rt;
-        journal.disk().handle.file().changes.as_slice(),
-        [
-            Change::Sync,
-            Change::Write(9),
-            Change::Sync,
-            Change::Write(8),
-            Change::Sync
-        ]
-        .as_slice()
-    );
-    Ok(())
-}
-
-#[test]
-fn nothing_is_asked_once_a_sync_has_failed(rt: HostRuntime) -> Result<(), Fail> {
-    let framed = frame(rt.alloc(), &PAYLOAD)?;
-    let mut journal = noted(&rt, 9, 3)?;
-    assert!(rt; journal.append(&framed).is_err());
-    assert_eq!(rt; journal.reopen(), Err(LoadFault::Failed));
-    assert_eq!(rt; journal.reopen(), Err(LoadFault::Failed));
-    assert_eq!(rt; journal.disk().handle.file().changes.len(), 3);
-    assert_eq!(rt; journal.disk().faults, 3);
     Ok(())
 }

@@ -1,10 +1,10 @@
 //! Window: a piece of the disk that is kept in memory, so that many short reads cost one long one.
 
-ghost use Rattle.std.specs.Prelude.{◌≡◌, ◌+◌, ◌-◌, ◌≤◌, min, length, IfOk, IfSome, OnOk};
+ghost use Rattle.std.specs.Prelude.{◌≡◌, ◌+◌, ◌-◌, ◌^◌, ◌<◌, ◌≤◌, min, length, IfOk, IfSome, OnOk};
 ghost use Rattle.desk_base.specs.Streams.{HasCause};
 ghost use Rattle.law_journal.specs.Disks.{Idles, Reads};
 ghost use Rattle.law_journal.specs.Windows as spec;
-ghost use Rattle.law_journal.specs.Windows.{IsWindow};
+ghost use Rattle.law_journal.specs.Windows.{IsFilled, IsWindow};
 
 use crate::Disk;
 use desk_base::Failed;
@@ -26,7 +26,8 @@ pub struct Window {
 // The bytes of the piece from an index on.
 fn copy_from(bytes: &[u8], at: usize, into: &mut [u8])
     requires { at + length into.old ≤ length bytes.now }
-    ensures { into.new ≡ spec.piece_from at (length into.old) bytes.now }
+    ensures piece { into.new ≡ spec.piece_from at (length into.old) bytes.now }
+    ensures length { length into.new ≡ length into.old }
 {
     into.copy_from_slice(&bytes[at..at + into.len()]);
 }
@@ -70,19 +71,14 @@ impl Window {
         self.held = 0;
     }
 
-    // Where a place and so many bytes from there on stand in the piece, if all of them do.
-    fn index_of(&self, place: u64, count: usize) -> Option<usize>
-        ensures { IfSome result (λ at. (place ≡ self.now.start + at) × (at + count ≤ self.now.held)) }
+    // Where a place stands in the piece, if it does; its end is one.
+    fn index_of(&self, place: u64) -> Option<usize>
+        ensures { IfSome result (λ at. (place ≡ self.now.start + at) × (at ≤ self.now.held)) }
     {
         if place < self.start || place - self.start > self.held as u64 {
             return None;
         }
-        let at = (place - self.start) as usize;
-        if count <= self.held - at {
-            Some(at)
-        } else {
-            None
-        }
+        Some((place - self.start) as usize)
     }
 
     // Fills the piece from a place on.
@@ -91,7 +87,7 @@ impl Window {
         ensures window { IsWindow (D.outlook disk.new) self.new }
         ensures start { OnOk result (self.new.start ≡ place) }
         ensures size { length self.new.bytes.items ≡ length self.old.bytes.items }
-        ensures held { OnOk result (spec.IsFilled (D.outlook disk.old) place (length self.old.bytes.items) self.new.held) }
+        ensures held { OnOk result (IsFilled (D.outlook disk.old) place (length self.old.bytes.items) self.new.held) }
         ensures idle { Idles (D.outlook disk.old) (D.outlook disk.new) }
         ensures cause { HasCause (D.faults disk.old) (D.faults disk.new) result }
     {
@@ -101,8 +97,8 @@ impl Window {
         Ok(())
     }
 
-    /// Reads as the disk does, and mostly without asking it.
-    pub fn read<D: Disk>(
+    // Reads what the piece does not have, and keeps a piece from there on.
+    fn read_on<D: Disk>(
         &mut self,
         disk: &mut D,
         place: u64,
@@ -112,17 +108,41 @@ impl Window {
         ensures window { IsWindow (D.outlook disk.new) self.new }
         ensures given { Reads (D.outlook disk.old) place result into.new }
         ensures fits { IfOk result (λ n. n ≤ length into.new) }
+        ensures length { length into.new ≡ length into.old }
         ensures idle { Idles (D.outlook disk.old) (D.outlook disk.new) }
         ensures cause { HasCause (D.faults disk.old) (D.faults disk.new) result }
     {
-        if let Some(at) = self.index_of(place, into.len()) {
-            copy_from(&self.bytes, at, into);
-            return Ok(into.len());
+        if into.is_empty() {
+            return Ok(0);
         }
         if into.len() >= self.bytes.len() {
             return disk.read(place, into);
         }
         self.fill(disk, place)?;
         Ok(copy_front(&self.bytes[..self.held], into))
+    }
+
+    /// Reads as the disk does, and mostly without asking it. Who reads on and on is given each byte by one read.
+    pub fn read<D: Disk>(
+        &mut self,
+        disk: &mut D,
+        place: u64,
+        into: &mut [u8],
+    ) -> Result<usize, Failed>
+        requires window { IsWindow (D.outlook disk.old) self.old }
+        requires bound { place + length into.old < 2 ^ 64 }
+        ensures window { IsWindow (D.outlook disk.new) self.new }
+        ensures given { Reads (D.outlook disk.old) place result into.new }
+        ensures fits { IfOk result (λ n. n ≤ length into.new) }
+        ensures idle { Idles (D.outlook disk.old) (D.outlook disk.new) }
+        ensures cause { HasCause (D.faults disk.old) (D.faults disk.new) result }
+    {
+        let Some(at) = self.index_of(place) else {
+            return self.read_on(disk, place, into);
+        };
+        let count = into.len().min(self.held - at);
+        let (front, rest) = into.split_at_mut(count);
+        copy_from(&self.bytes, at, front);
+        Ok(count + self.read_on(disk, place + count as u64, rest)?)
     }
 }

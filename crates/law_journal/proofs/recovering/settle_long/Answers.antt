@@ -1,4 +1,4 @@
-use Rattle.std.proofs.Common.{◌≡◌, ◌∙◌, ◌+◌, List, ℕ, ap, sym, subst, length}
+use Rattle.std.proofs.Common.{List, ℕ, subst}
 use Rattle.law_journal.specs.Journals.{HasEnd}
 use Rattle.law_journal.proofs.Alone.{last_gate_there}
 use Rattle.law_journal.proofs.Moments.{idle_both}
