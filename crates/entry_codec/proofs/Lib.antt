@@ -7,3 +7,5 @@ pub mod Numberings
 pub mod Formats
 pub mod Decoding
 pub mod Rules
+pub mod TypedParts
+pub mod KeptRules

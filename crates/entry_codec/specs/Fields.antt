@@ -31,7 +31,8 @@ abbrev pub tested_read : {V : Type 0} → (V → Bool) → (List ℕ → Read V)
 tested_read rule read bytes = read bytes >>= λ v. if rule v.0 then Ok v else Err (length bytes)
 
 abbrev pub tested : {V : Type 0} → (V → Bool) → Field V → Field V
-tested rule field = record { spell = field.spell; read = tested_read rule field.read; fits = λ v. rule v && field.fits v }
+tested rule field =
+    record { spell = field.spell; read = tested_read rule field.read; fits = λ v. rule v && field.fits v }
 
 -- a field, and behind it one that depends on what the first says
 abbrev pub given_read : {A B : Type 0} → (List ℕ → Read A) → (A → List ℕ → Read B) → List ℕ → Read (A × B)
@@ -74,7 +75,8 @@ made make parts field = made_where (λ _. true) make parts field
 -- a number of more bytes, the highest of them first
 abbrev pub number : Width → Field ℕ
 number w =
-    made_where (λ n. nat_lt n (2 ^ (8 * byte_len w))) (from_be_bytes w) (λ n. Some (to_be_bytes w n)) (chunk (byte_len w))
+    made_where (λ n. nat_lt n (2 ^ (8 * byte_len w))) (from_be_bytes w)
+    (λ n. Some (to_be_bytes w n)) (chunk (byte_len w))
 
 -- a value that takes no bytes
 abbrev pub nothing : Field Unit
@@ -87,7 +89,8 @@ chosen_spell (row ∷ rows) kind v = if kind == row.0 then row.1.spell v else ch
 
 abbrev pub chosen_read : {V : Type 0} → List (ℕ × Field V) → ℕ → ℕ → List ℕ → Read V
 chosen_read [] kind start bytes = Err start
-chosen_read (row ∷ rows) kind start bytes = if kind == row.0 then row.1.read bytes else chosen_read rows kind start bytes
+chosen_read (row ∷ rows) kind start bytes =
+    if kind == row.0 then row.1.read bytes else chosen_read rows kind start bytes
 
 abbrev pub chosen_fits : {V : Type 0} → List (ℕ × Field V) → ℕ → V → Bool
 chosen_fits [] kind v = false

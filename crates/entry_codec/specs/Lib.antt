@@ -1,5 +1,6 @@
 pub mod Reads
 pub mod Fields
+pub mod Typed
 pub mod Values
 pub mod Nodes
 pub mod Modifications

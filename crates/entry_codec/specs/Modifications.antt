@@ -100,7 +100,8 @@ cut_child (cuts.Child wid) = Some wid
 
 unfoldable pub split_at : Field SplitAt
 split_at =
-    one_of split_at_kind ((0, made (λ s. cuts.Text s) cut_spot spot) ∷ (1, made (λ w. cuts.Child w) cut_child text) ∷ [])
+    one_of split_at_kind
+    ((0, made (λ s. cuts.Text s) cut_spot spot) ∷ (1, made (λ w. cuts.Child w) cut_child text) ∷ [])
 
 -- a provision by its wId, with the num that it gets
 unfoldable pub num_pair : Field (List ℕ × List ℕ)
@@ -293,7 +294,11 @@ efficacy_effect =
     (
     (1, made (λ d. (d.0, efficacy.Entry d.1)) (λ p. entry_efficacy p.0 p.1) dates)
     ∷ (2, made (λ d. (d.0, efficacy.Ended d.1)) (λ p. ended_efficacy p.0 p.1) dates)
-    ∷ (3, made_where (λ p. is_spelled_effect p.0 p.1) (λ d. (d, efficacy.Retroactive d)) (λ p. retroactive_date p.1) one_day)
+    ∷ (
+      3,
+      made_where (λ p. is_spelled_effect p.0 p.1) (λ d. (d, efficacy.Retroactive d))
+          (λ p. retroactive_date p.1) one_day,
+    )
     ∷ (4, made (λ d. (d.0, efficacy.Postponed d.1)) (λ p. postponed_efficacy p.0 p.1) dates)
     ∷ (5, made (λ d. (d.0, efficacy.Prorogued d.1)) (λ p. prorogued_efficacy p.0 p.1) dates)
     ∷ (6, made (λ d. (d, efficacy.Extra)) (λ p. extra_on p.0 p.1) one_day)
@@ -326,7 +331,8 @@ efficacy_parts (Efficacy from target on effect) = Some (from, (target, (on, effe
 efficacy_parts _ = None
 
 unfoldable pub effective : Field Modification
-effective = made (λ p. Efficacy p.0 p.1.0 p.1.1.0 p.1.1.1) efficacy_parts (pair source (pair destination efficacy_effect))
+effective =
+    made (λ p. Efficacy p.0 p.1.0 p.1.1.0 p.1.1.1) efficacy_parts (pair source (pair destination efficacy_effect))
 
 unfoldable pub modification : Field Modification
 modification = one_of modification_kind ((1, textual) ∷ (2, forced) ∷ (3, effective) ∷ [])

@@ -137,7 +137,8 @@ unfoldable pub numbering_number : Numbering → ℕ
 numbering_number n =
     bit_of n element.Article 1 + bit_of n element.Section 2 + bit_of n element.Chapter 4 + bit_of n element.Paragraph 8
     + bit_of n element.Subparagraph 16 + bit_of n element.Subsection 32 + bit_of n element.Clause 64
-    + bit_of n element.Subclause 128 + bit_of n element.Alinea 256 + bit_of n element.Part 512 + bit_of n element.Title 1024
+    + bit_of n element.Subclause 128 + bit_of n element.Alinea 256 + bit_of n element.Part 512
+    + bit_of n element.Title 1024
     + bit_of n element.Book 2048 + bit_of n element.Point 4096 + bit_of n element.Indent 8192
 
 -- which elements are numbered throughout: a bit for each, and the two highest are clear
@@ -168,7 +169,8 @@ destination_wid (to.Node wid) = Some wid
 
 unfoldable pub destination : Field Destination
 destination =
-    one_of destination_kind ((0, made (λ i. to.Modification i) destination_id id) ∷ (1, made (λ w. to.Node w) destination_wid text) ∷ [])
+    one_of destination_kind
+    ((0, made (λ i. to.Modification i) destination_id id) ∷ (1, made (λ w. to.Node w) destination_wid text) ∷ [])
 
 -- an occurrence of a text
 abbrev pub spot_from : List ℕ × ℕ → Spot

@@ -4,7 +4,7 @@ ghost use Rattle.std.specs.Prelude.{◌≡◌, true, length, IfOk};
 ghost use Rattle.law_register.specs.Law.Sizes.{entry_size as size_of_entry};
 ghost use Rattle.law_register.specs.Law.Spellable.{can_be_spelled};
 ghost use Rattle.law_register.specs.Law.Spelling.{is_well_spelled};
-ghost use Rattle.entry_codec.specs.Entries.{spelling};
+ghost use Rattle.entry_codec.specs.Entries.{keeps_rules, spelling};
 
 mod commands;
 mod edits;
@@ -30,6 +30,7 @@ pub fn encode(alloc: Global, entry: &Entry) -> Result<Vec<u8>, Memory>
     requires able { can_be_spelled entry.now ≡ true }
     requires well { is_well_spelled entry.now.command ≡ true }
     ensures bytes { IfOk result (λ v. v.items ≡ spelling entry.now) }
+    ensures kept { IfOk result (λ v. keeps_rules entry.now ≡ true) }
     ensures length { IfOk result (λ v. length v.items ≡ size_of_entry entry.now) }
 {
     let mut bytes = Vec::with_capacity(alloc, entry_size(entry) as usize)?;

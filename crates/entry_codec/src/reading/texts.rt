@@ -7,6 +7,7 @@ ghost use Rattle.law_register.specs.Register.Drafters.{is_drafter};
 ghost use Rattle.entry_codec.specs.Reads.{Reads};
 ghost use Rattle.entry_codec.specs.Fields.{each};
 ghost use Rattle.entry_codec.specs.Values as spec;
+ghost use Rattle.entry_codec.specs.Values.{ruled_text};
 
 use super::reader::{Reader, Stop};
 use act_tree::Refs;
@@ -98,7 +99,7 @@ impl<'a> Reader<'a> {
     }
 
     fn expression_of(&mut self, alloc: Global, len: usize) -> Result<Text, Stop>
-        ensures { Reads (λ t. t) result self.new.left.now ((spec.ruled_text is_expression_text len).read self.old.left.now) }
+        ensures { Reads (λ t. t) result self.new.left.now ((ruled_text is_expression_text len).read self.old.left.now) }
     {
         let start = self.left.len();
         let text = self.text_of(len)?;

@@ -2,6 +2,9 @@
 
 ghost use Rattle.std.specs.Prelude.{◌≡◌, ◌++◌, OnOk};
 ghost use Rattle.entry_codec.specs.Commands as spec;
+ghost use Rattle.entry_codec.specs.Typed as typed;
+ghost use Rattle.entry_codec.specs.Values as spec_values;
+ghost use Rattle.desk_base.specs.Days.{IsDay};
 
 use super::modifications::{put_modification, put_modifications};
 use super::nodes::put_payload;
@@ -14,8 +17,10 @@ use law_register::{Act, Command};
 // The day of an act, and what stands behind it.
 #[tactic(auto, unfolding(crate::specs::Commands::act_rest, crate::specs::Values::act_day))]
 fn put_act_rest(out: &mut Vec<u8>, act: &Act) -> Result<(), Memory>
-    ensures { OnOk result (out.new.items ≡ out.old.items
+    ensures bytes { OnOk result (out.new.items ≡ out.old.items
         ++ (spec.act_rest act.now.work).spell (act.now.day, (act.now.numbering, (act.now.force, act.now.body)))) }
+    ensures typed { OnOk result (IsDay act.now.day × typed.IsNumbering act.now.numbering
+        × typed.IsPeriod act.now.force × typed.IsPayload act.now.body) }
 {
     put_day(out, act.day)?;
     put_numbering(out, &act.numbering)?;
@@ -24,19 +29,30 @@ fn put_act_rest(out: &mut Vec<u8>, act: &Act) -> Result<(), Memory>
     Ok(())
 }
 
-#[tactic(auto, unfolding(crate::specs::Commands::act, crate::specs::Values::language))]
+#[tactic(auto, unfolding(crate::specs::Values::language))]
+fn put_language(out: &mut Vec<u8>, language: &[u8; 3]) -> Result<(), Memory>
+    ensures bytes { OnOk result (out.new.items ≡ out.old.items ++ spec_values.language.spell language.now) }
+    ensures typed { OnOk result (typed.IsLanguageBytes language.now) }
+{
+    out.extend_from_slice(language)?;
+    Ok(())
+}
+
+#[tactic(auto, unfolding(crate::specs::Commands::act))]
 fn put_act(out: &mut Vec<u8>, act: &Act) -> Result<(), Memory>
-    ensures { OnOk result (out.new.items ≡ out.old.items ++ spec.act.spell act.now) }
+    ensures bytes { OnOk result (out.new.items ≡ out.old.items ++ spec.act.spell act.now) }
+    ensures typed { OnOk result (typed.IsAct act.now) }
 {
     put_work(out, &act.work)?;
-    out.extend_from_slice(&act.language)?;
+    put_language(out, &act.language)?;
     put_act_rest(out, act)?;
     Ok(())
 }
 
 #[tactic(auto, unfolding(crate::specs::Commands::command, crate::specs::Commands::enact, crate::specs::Commands::recorded, crate::specs::Commands::correct, crate::specs::Commands::withdraw, crate::specs::Commands::restore, crate::specs::Commands::draft_add, crate::specs::Commands::draft_drop, crate::specs::Commands::file))]
 pub(super) fn put_command(out: &mut Vec<u8>, command: &Command) -> Result<(), Memory>
-    ensures { OnOk result (out.new.items ≡ out.old.items ++ spec.command.spell command.now) }
+    ensures bytes { OnOk result (out.new.items ≡ out.old.items ++ spec.command.spell command.now) }
+    ensures typed { OnOk result (typed.IsCommand command.now) }
 {
     match command {
         Command::Enact { act } => {

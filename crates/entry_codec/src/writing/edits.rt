@@ -1,8 +1,10 @@
 //! The edits of textual modifications.
 
-ghost use Rattle.std.specs.Prelude.{◌≡◌, ◌++◌, ◌∷◌, OnOk};
+ghost use Rattle.std.specs.Prelude.{◌≡◌, ◌++◌, ◌∷◌, OnOk, All};
 ghost use Rattle.std.specs.List.{flat_map};
 ghost use Rattle.entry_codec.specs.Modifications as spec;
+ghost use Rattle.entry_codec.specs.Typed as typed;
+ghost use Rattle.textual_mods.specs.declared.edit.TextualMod.TheVariants.{InsertNodes, InsertText, Join, Split, SubstituteText};
 
 use super::nodes::put_payload;
 use super::numbers::put_count;
@@ -28,7 +30,8 @@ fn put_pos(out: &mut Vec<u8>, pos: Pos) -> Result<(), Memory>
 
 #[tactic(auto, unfolding(crate::specs::Modifications::text_pos))]
 fn put_text_pos(out: &mut Vec<u8>, at: &TextPos) -> Result<(), Memory>
-    ensures { OnOk result (out.new.items ≡ out.old.items ++ spec.text_pos.spell at.now) }
+    ensures bytes { OnOk result (out.new.items ≡ out.old.items ++ spec.text_pos.spell at.now) }
+    ensures typed { OnOk result (typed.IsTextPos at.now) }
 {
     match at {
         TextPos::Before(spot) => {
@@ -47,7 +50,8 @@ fn put_text_pos(out: &mut Vec<u8>, at: &TextPos) -> Result<(), Memory>
 
 #[tactic(auto, unfolding(crate::specs::Modifications::split_at))]
 fn put_split_at(out: &mut Vec<u8>, at: &SplitAt) -> Result<(), Memory>
-    ensures { OnOk result (out.new.items ≡ out.old.items ++ spec.split_at.spell at.now) }
+    ensures bytes { OnOk result (out.new.items ≡ out.old.items ++ spec.split_at.spell at.now) }
+    ensures typed { OnOk result (typed.IsSplitAt at.now) }
 {
     match at {
         SplitAt::Text(spot) => {
@@ -65,7 +69,8 @@ fn put_split_at(out: &mut Vec<u8>, at: &SplitAt) -> Result<(), Memory>
 // A provision by its wId, with the num that it gets.
 #[tactic(auto, unfolding(crate::specs::Modifications::num_pair))]
 fn put_pair(out: &mut Vec<u8>, pair: &(Text, Num)) -> Result<(), Memory>
-    ensures { OnOk result (out.new.items ≡ out.old.items ++ spec.num_pair.spell pair.now) }
+    ensures bytes { OnOk result (out.new.items ≡ out.old.items ++ spec.num_pair.spell pair.now) }
+    ensures typed { OnOk result (typed.IsNumPair pair.now) }
 {
     put_text(out, pair.0.as_str())?;
     put_num(out, &pair.1)?;
@@ -73,7 +78,8 @@ fn put_pair(out: &mut Vec<u8>, pair: &(Text, Num)) -> Result<(), Memory>
 }
 
 fn put_each_pair(out: &mut Vec<u8>, pairs: &[(Text, Num)]) -> Result<(), Memory>
-    ensures { OnOk result (out.new.items ≡ out.old.items ++ flat_map spec.num_pair.spell pairs.now) }
+    ensures bytes { OnOk result (out.new.items ≡ out.old.items ++ flat_map spec.num_pair.spell pairs.now) }
+    ensures typed { OnOk result (All typed.IsNumPair pairs.now) }
 {
     for pair in pairs {
         put_pair(out, pair)?;
@@ -83,7 +89,8 @@ fn put_each_pair(out: &mut Vec<u8>, pairs: &[(Text, Num)]) -> Result<(), Memory>
 
 #[tactic(auto, unfolding(crate::specs::Modifications::num_pairs))]
 fn put_pairs(out: &mut Vec<u8>, pairs: &Pairs) -> Result<(), Memory>
-    ensures { OnOk result (out.new.items ≡ out.old.items ++ spec.num_pairs.spell pairs.now) }
+    ensures bytes { OnOk result (out.new.items ≡ out.old.items ++ spec.num_pairs.spell pairs.now) }
+    ensures typed { OnOk result (All typed.IsNumPair pairs.now) }
 {
     let pairs = pairs.as_slice();
     put_count(out, pairs.len())?;
@@ -93,7 +100,8 @@ fn put_pairs(out: &mut Vec<u8>, pairs: &Pairs) -> Result<(), Memory>
 
 // A text in the place of an occurrence of another.
 fn put_substitution(out: &mut Vec<u8>, wid: &Text, spot: &Spot, new: &Text) -> Result<(), Memory>
-    ensures { OnOk result (out.new.items ≡ out.old.items ++ spec.substituted.spell (wid.now, (spot.now, new.now))) }
+    ensures bytes { OnOk result (out.new.items ≡ out.old.items ++ spec.substituted.spell (wid.now, (spot.now, new.now))) }
+    ensures typed { OnOk result (typed.IsEdit (SubstituteText wid.now spot.now new.now)) }
 {
     put_text(out, wid.as_str())?;
     put_spot(out, spot)?;
@@ -103,7 +111,8 @@ fn put_substitution(out: &mut Vec<u8>, wid: &Text, spot: &Spot, new: &Text) -> R
 
 // Nodes beside or beneath a provision.
 fn put_insertion(out: &mut Vec<u8>, wid: &Text, pos: Pos, new: &Nodes) -> Result<(), Memory>
-    ensures { OnOk result (out.new.items ≡ out.old.items ++ spec.inserted.spell (wid.now, (pos, new.now))) }
+    ensures bytes { OnOk result (out.new.items ≡ out.old.items ++ spec.inserted.spell (wid.now, (pos, new.now))) }
+    ensures typed { OnOk result (typed.IsEdit (InsertNodes wid.now pos new.now)) }
 {
     put_text(out, wid.as_str())?;
     put_pos(out, pos)?;
@@ -113,7 +122,8 @@ fn put_insertion(out: &mut Vec<u8>, wid: &Text, pos: Pos, new: &Nodes) -> Result
 
 // A text within that of a provision.
 fn put_inserted_text(out: &mut Vec<u8>, wid: &Text, at: &TextPos, new: &Text) -> Result<(), Memory>
-    ensures { OnOk result (out.new.items ≡ out.old.items ++ spec.inserted_text.spell (wid.now, (at.now, new.now))) }
+    ensures bytes { OnOk result (out.new.items ≡ out.old.items ++ spec.inserted_text.spell (wid.now, (at.now, new.now))) }
+    ensures typed { OnOk result (typed.IsEdit (InsertText wid.now at.now new.now)) }
 {
     put_text(out, wid.as_str())?;
     put_text_pos(out, at)?;
@@ -129,8 +139,9 @@ fn put_split(
     num: &Num,
     heading: &Text,
 ) -> Result<(), Memory>
-    ensures { OnOk result (out.new.items
+    ensures bytes { OnOk result (out.new.items
         ≡ out.old.items ++ spec.cut.spell (wid.now, (at.now, (num.now, heading.now)))) }
+    ensures typed { OnOk result (typed.IsEdit (Split wid.now at.now num.now heading.now)) }
 {
     put_text(out, wid.as_str())?;
     put_split_at(out, at)?;
@@ -141,7 +152,8 @@ fn put_split(
 
 // Two provisions as one.
 fn put_join(out: &mut Vec<u8>, wid: &Text, second: &Text, separator: &Text) -> Result<(), Memory>
-    ensures { OnOk result (out.new.items ≡ out.old.items ++ spec.joined.spell (wid.now, (second.now, separator.now))) }
+    ensures bytes { OnOk result (out.new.items ≡ out.old.items ++ spec.joined.spell (wid.now, (second.now, separator.now))) }
+    ensures typed { OnOk result (typed.IsEdit (Join wid.now second.now separator.now)) }
 {
     put_text(out, wid.as_str())?;
     put_text(out, second.as_str())?;
@@ -151,7 +163,8 @@ fn put_join(out: &mut Vec<u8>, wid: &Text, second: &Text, separator: &Text) -> R
 
 #[tactic(auto, unfolding(crate::specs::Modifications::edit, crate::specs::Modifications::repeal, crate::specs::Modifications::substitute_nodes, crate::specs::Modifications::substitute_text, crate::specs::Modifications::insert_nodes, crate::specs::Modifications::insert_text, crate::specs::Modifications::renumber, crate::specs::Modifications::split, crate::specs::Modifications::join))]
 pub(super) fn put_edit(out: &mut Vec<u8>, edit: &TextualMod) -> Result<(), Memory>
-    ensures { OnOk result (out.new.items ≡ out.old.items ++ spec.edit.spell edit.now) }
+    ensures bytes { OnOk result (out.new.items ≡ out.old.items ++ spec.edit.spell edit.now) }
+    ensures typed { OnOk result (typed.IsEdit edit.now) }
 {
     match edit {
         TextualMod::Repeal { wid } => {

@@ -2,6 +2,8 @@
 
 ghost use Rattle.std.specs.Prelude.{◌≡◌, ◌++◌, ◌∷◌, OnOk};
 ghost use Rattle.entry_codec.specs.Modifications as spec;
+ghost use Rattle.entry_codec.specs.Typed as typed;
+ghost use Rattle.desk_base.specs.Days.{IsDay};
 
 use super::values::{put_day, put_period};
 use bearing_mods::{EfficacyEffect, ForceEffect};
@@ -9,7 +11,8 @@ use desk_base::{Day, Memory, Period};
 
 // An effect with a date, by the byte for its kind.
 fn put_dates(out: &mut Vec<u8>, kind: u8, on: Day, date: Day) -> Result<(), Memory>
-    ensures { OnOk result (out.new.items ≡ out.old.items ++ kind ∷ spec.dates.spell (on, date)) }
+    ensures bytes { OnOk result (out.new.items ≡ out.old.items ++ kind ∷ spec.dates.spell (on, date)) }
+    ensures typed { OnOk result (IsDay on × IsDay date) }
 {
     out.push(kind)?;
     put_day(out, on)?;
@@ -19,7 +22,8 @@ fn put_dates(out: &mut Vec<u8>, kind: u8, on: Day, date: Day) -> Result<(), Memo
 
 // An effect with one day, by the byte for its kind.
 fn put_one_day(out: &mut Vec<u8>, kind: u8, day: Day) -> Result<(), Memory>
-    ensures { OnOk result (out.new.items ≡ out.old.items ++ kind ∷ spec.one_day.spell day) }
+    ensures bytes { OnOk result (out.new.items ≡ out.old.items ++ kind ∷ spec.one_day.spell day) }
+    ensures typed { OnOk result (IsDay day) }
 {
     out.push(kind)?;
     put_day(out, day)?;
@@ -28,7 +32,8 @@ fn put_one_day(out: &mut Vec<u8>, kind: u8, day: Day) -> Result<(), Memory>
 
 // An inapplication: the day from which it is counted, and its days.
 fn put_inapplied(out: &mut Vec<u8>, on: Day, days: Period) -> Result<(), Memory>
-    ensures { OnOk result (out.new.items ≡ out.old.items ++ 7 ∷ spec.inapplied.spell (on, days)) }
+    ensures bytes { OnOk result (out.new.items ≡ out.old.items ++ 7 ∷ spec.inapplied.spell (on, days)) }
+    ensures typed { OnOk result (IsDay on × typed.IsPeriod days) }
 {
     out.push(7)?;
     put_day(out, on)?;
@@ -42,7 +47,8 @@ pub(super) fn put_force_effect(
     on: Day,
     effect: ForceEffect,
 ) -> Result<(), Memory>
-    ensures { OnOk result (out.new.items ≡ out.old.items ++ spec.force_effect.spell (on, effect)) }
+    ensures bytes { OnOk result (out.new.items ≡ out.old.items ++ spec.force_effect.spell (on, effect)) }
+    ensures typed { OnOk result (typed.IsForceEffect on effect) }
 {
     match effect {
         ForceEffect::Entry(date) => put_dates(out, 1, on, date),
@@ -60,7 +66,8 @@ pub(super) fn put_efficacy_effect(
     on: Day,
     effect: EfficacyEffect,
 ) -> Result<(), Memory>
-    ensures { OnOk result (out.new.items ≡ out.old.items ++ spec.efficacy_effect.spell (on, effect)) }
+    ensures bytes { OnOk result (out.new.items ≡ out.old.items ++ spec.efficacy_effect.spell (on, effect)) }
+    ensures typed { OnOk result (typed.IsEfficacyEffect on effect) }
 {
     match effect {
         EfficacyEffect::Entry(date) => put_dates(out, 1, on, date),

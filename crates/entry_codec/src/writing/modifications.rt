@@ -1,8 +1,9 @@
 //! Modifications: textual ones, and those of force and efficacy.
 
-ghost use Rattle.std.specs.Prelude.{◌≡◌, ◌++◌, OnOk};
+ghost use Rattle.std.specs.Prelude.{◌≡◌, ◌++◌, OnOk, All};
 ghost use Rattle.std.specs.List.{flat_map};
 ghost use Rattle.entry_codec.specs.Modifications as spec;
+ghost use Rattle.entry_codec.specs.Typed as typed;
 
 use super::edits::put_edit;
 use super::effects::{put_efficacy_effect, put_force_effect};
@@ -13,7 +14,8 @@ use law_register::{Modification, Mods};
 
 #[tactic(auto, unfolding(crate::specs::Modifications::modification, crate::specs::Modifications::textual, crate::specs::Modifications::forced, crate::specs::Modifications::effective))]
 pub(super) fn put_modification(out: &mut Vec<u8>, modification: &Modification) -> Result<(), Memory>
-    ensures { OnOk result (out.new.items ≡ out.old.items ++ spec.modification.spell modification.now) }
+    ensures bytes { OnOk result (out.new.items ≡ out.old.items ++ spec.modification.spell modification.now) }
+    ensures typed { OnOk result (typed.IsModification modification.now) }
 {
     match modification {
         Modification::Textual {
@@ -53,7 +55,8 @@ pub(super) fn put_modification(out: &mut Vec<u8>, modification: &Modification) -
 }
 
 fn put_each_modification(out: &mut Vec<u8>, mods: &[Modification]) -> Result<(), Memory>
-    ensures { OnOk result (out.new.items ≡ out.old.items ++ flat_map spec.modification.spell mods.now) }
+    ensures bytes { OnOk result (out.new.items ≡ out.old.items ++ flat_map spec.modification.spell mods.now) }
+    ensures typed { OnOk result (All typed.IsModification mods.now) }
 {
     for modification in mods {
         put_modification(out, modification)?;
@@ -63,7 +66,8 @@ fn put_each_modification(out: &mut Vec<u8>, mods: &[Modification]) -> Result<(),
 
 #[tactic(auto, unfolding(crate::specs::Modifications::modifications))]
 pub(super) fn put_modifications(out: &mut Vec<u8>, mods: &Mods) -> Result<(), Memory>
-    ensures { OnOk result (out.new.items ≡ out.old.items ++ spec.modifications.spell mods.now) }
+    ensures bytes { OnOk result (out.new.items ≡ out.old.items ++ spec.modifications.spell mods.now) }
+    ensures typed { OnOk result (All typed.IsModification mods.now) }
 {
     let mods = mods.as_slice();
     put_count(out, mods.len())?;

@@ -1,10 +1,11 @@
 //! Nodes, which nest at most 12 deep.
 
-ghost use Rattle.std.specs.Prelude.{◌≡◌, ◌++◌, map, OnOk};
+ghost use Rattle.std.specs.Prelude.{◌≡◌, ◌++◌, map, OnOk, All};
 ghost use Rattle.std.specs.List.{flat_map};
 ghost use Rattle.act_tree.specs.Specs.{own_of, spec_view, specs_view};
 ghost use Rattle.entry_codec.specs.Nodes as spec;
 ghost use Rattle.entry_codec.specs.Modifications.{payload};
+ghost use Rattle.entry_codec.specs.Typed as typed;
 
 use super::numbers::{put_count, put_number16};
 use super::texts::{put_num, put_refs, put_text};
@@ -14,7 +15,8 @@ use desk_base::Memory;
 // What a node says of itself.
 #[tactic(auto, unfolding(crate::specs::Nodes::own, crate::specs::Nodes::element))]
 fn put_own(out: &mut Vec<u8>, node: &NodeSpec) -> Result<(), Memory>
-    ensures { OnOk result (out.new.items ≡ out.old.items ++ spec.own.spell (own_of node.now)) }
+    ensures bytes { OnOk result (out.new.items ≡ out.old.items ++ spec.own.spell (own_of node.now)) }
+    ensures typed { OnOk result (typed.IsOwn (own_of node.now)) }
 {
     out.push(node.element.place() as u8)?;
     put_num(out, &node.num)?;
@@ -27,7 +29,8 @@ fn put_own(out: &mut Vec<u8>, node: &NodeSpec) -> Result<(), Memory>
 // A node, beneath which nodes nest so deep at most.
 #[cycle(putting)]
 fn put_node(out: &mut Vec<u8>, depth: u8, node: &NodeSpec) -> Result<(), Memory>
-    ensures { OnOk result (out.new.items ≡ out.old.items ++ (spec.node depth).spell (spec_view node.now)) }
+    ensures bytes { OnOk result (out.new.items ≡ out.old.items ++ (spec.node depth).spell (spec_view node.now)) }
+    ensures typed { OnOk result (typed.IsNodeTo depth (spec_view node.now)) }
 {
     put_own(out, node)?;
     put_nodes(out, depth, &node.children)?;
@@ -36,7 +39,8 @@ fn put_node(out: &mut Vec<u8>, depth: u8, node: &NodeSpec) -> Result<(), Memory>
 
 #[cycle(putting)]
 fn put_each_node(out: &mut Vec<u8>, depth: u8, nodes: &[NodeSpec]) -> Result<(), Memory>
-    ensures { OnOk result (out.new.items ≡ out.old.items ++ flat_map (spec.node depth).spell (specs_view nodes.now)) }
+    ensures bytes { OnOk result (out.new.items ≡ out.old.items ++ flat_map (spec.node depth).spell (specs_view nodes.now)) }
+    ensures typed { OnOk result (All (λ n. typed.IsNodeTo depth (spec_view n)) nodes.now) }
 {
     for node in nodes {
         put_node(out, depth, node)?;
@@ -47,7 +51,8 @@ fn put_each_node(out: &mut Vec<u8>, depth: u8, nodes: &[NodeSpec]) -> Result<(),
 // Nodes that nest so deep at most. No others have an entry that can be spelled.
 #[cycle(putting)]
 fn put_nodes(out: &mut Vec<u8>, depth: u8, nodes: &Nodes) -> Result<(), Memory>
-    ensures { OnOk result (out.new.items ≡ out.old.items ++ (spec.nodes depth).spell nodes.now) }
+    ensures bytes { OnOk result (out.new.items ≡ out.old.items ++ (spec.nodes depth).spell nodes.now) }
+    ensures typed { OnOk result (typed.AreNodesTo depth nodes.now) }
 {
     if depth == 0 {
         return put_number16(out, 0);
@@ -60,7 +65,8 @@ fn put_nodes(out: &mut Vec<u8>, depth: u8, nodes: &Nodes) -> Result<(), Memory>
 /// The nodes that an act or an edit brings.
 #[tactic(auto, unfolding(crate::specs::Modifications::payload))]
 pub(super) fn put_payload(out: &mut Vec<u8>, nodes: &Nodes) -> Result<(), Memory>
-    ensures { OnOk result (out.new.items ≡ out.old.items ++ payload.spell nodes.now) }
+    ensures bytes { OnOk result (out.new.items ≡ out.old.items ++ payload.spell nodes.now) }
+    ensures typed { OnOk result (typed.IsPayload nodes.now) }
 {
     put_nodes(out, 12, nodes)
 }

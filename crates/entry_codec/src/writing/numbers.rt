@@ -2,12 +2,14 @@
 
 ghost use Rattle.std.specs.Prelude.{◌≡◌, ◌++◌, min, OnOk};
 ghost use Rattle.entry_codec.specs.Values as spec;
+ghost use Rattle.entry_codec.specs.Typed as typed;
 
 use desk_base::Memory;
 
 #[tactic(auto, unfolding(crate::specs::Values::number16))]
 pub(super) fn put_number16(out: &mut Vec<u8>, number: u16) -> Result<(), Memory>
-    ensures { OnOk result (out.new.items ≡ out.old.items ++ spec.number16.spell number) }
+    ensures bytes { OnOk result (out.new.items ≡ out.old.items ++ spec.number16.spell number) }
+    ensures typed { OnOk result (typed.IsNumber16 number) }
 {
     out.extend_from_slice(&number.to_be_bytes())?;
     Ok(())
@@ -15,7 +17,8 @@ pub(super) fn put_number16(out: &mut Vec<u8>, number: u16) -> Result<(), Memory>
 
 #[tactic(auto, unfolding(crate::specs::Values::number32))]
 pub(super) fn put_number32(out: &mut Vec<u8>, number: u32) -> Result<(), Memory>
-    ensures { OnOk result (out.new.items ≡ out.old.items ++ spec.number32.spell number) }
+    ensures bytes { OnOk result (out.new.items ≡ out.old.items ++ spec.number32.spell number) }
+    ensures typed { OnOk result (typed.IsNumber32 number) }
 {
     out.extend_from_slice(&number.to_be_bytes())?;
     Ok(())
@@ -23,7 +26,8 @@ pub(super) fn put_number32(out: &mut Vec<u8>, number: u32) -> Result<(), Memory>
 
 #[tactic(auto, unfolding(crate::specs::Values::number64))]
 pub(super) fn put_number64(out: &mut Vec<u8>, number: u64) -> Result<(), Memory>
-    ensures { OnOk result (out.new.items ≡ out.old.items ++ spec.number64.spell number) }
+    ensures bytes { OnOk result (out.new.items ≡ out.old.items ++ spec.number64.spell number) }
+    ensures typed { OnOk result (typed.IsNumber64 number) }
 {
     out.extend_from_slice(&number.to_be_bytes())?;
     Ok(())

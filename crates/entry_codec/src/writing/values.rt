@@ -1,10 +1,13 @@
 //! The small values of an entry: days, periods, ids, numberings, sources, destinations and occurrences.
 
-ghost use Rattle.std.specs.Prelude.{◌≡◌, ◌≤◌, ◌++◌, OnOk};
+ghost use Rattle.std.specs.Prelude.{◌≡◌, ◌≤◌, ◌++◌, OnOk, IfSome, length};
 ghost use Rattle.entry_codec.specs.Values as spec;
+ghost use Rattle.entry_codec.specs.Typed as typed;
+ghost use Rattle.desk_base.specs.Days.{IsDay};
 
 use super::numbers::{put_number16, put_number32};
 use super::texts::{put_text, put_work};
+use desk_base::laws::day_is_numbered;
 use desk_base::{Day, Id, Memory, Period};
 use eid_paths::{Element, Numbering};
 use law_register::{Destination, ModSource};
@@ -18,17 +21,20 @@ fn number_of(day: Day) -> u32
 
 #[tactic(auto, unfolding(crate::specs::Values::day))]
 pub(super) fn put_day(out: &mut Vec<u8>, day: Day) -> Result<(), Memory>
-    ensures { OnOk result (out.new.items ≡ out.old.items ++ spec.day.spell day) }
+    ensures bytes { OnOk result (out.new.items ≡ out.old.items ++ spec.day.spell day) }
+    ensures typed { OnOk result (IsDay day) }
 {
+    day_is_numbered(day);
     put_number32(out, number_of(day))
 }
 
-#[tactic(auto, unfolding(crate::specs::Values::day_or_none))]
+#[tactic(auto, unfolding(crate::specs::Values::day_or_none, crate::specs::Values::day))]
 fn put_day_or_none(out: &mut Vec<u8>, day: Option<Day>) -> Result<(), Memory>
-    ensures { OnOk result (out.new.items ≡ out.old.items ++ spec.day_or_none.spell day) }
+    ensures bytes { OnOk result (out.new.items ≡ out.old.items ++ spec.day_or_none.spell day) }
+    ensures typed { OnOk result (IfSome day IsDay) }
 {
     match day {
-        Some(day) => put_number32(out, number_of(day)),
+        Some(day) => put_day(out, day),
         None => put_number32(out, 0),
     }
 }
@@ -36,7 +42,8 @@ fn put_day_or_none(out: &mut Vec<u8>, day: Option<Day>) -> Result<(), Memory>
 /// The number of a law entry, or none.
 #[tactic(auto, unfolding(crate::specs::Values::law))]
 pub(super) fn put_law(out: &mut Vec<u8>, law: Option<u32>) -> Result<(), Memory>
-    ensures { OnOk result (out.new.items ≡ out.old.items ++ spec.law.spell law) }
+    ensures bytes { OnOk result (out.new.items ≡ out.old.items ++ spec.law.spell law) }
+    ensures typed { OnOk result (IfSome law typed.IsNumber32) }
 {
     match law {
         Some(number) => put_number32(out, number),
@@ -46,7 +53,8 @@ pub(super) fn put_law(out: &mut Vec<u8>, law: Option<u32>) -> Result<(), Memory>
 
 #[tactic(auto, unfolding(crate::specs::Values::period))]
 pub(super) fn put_period(out: &mut Vec<u8>, period: Period) -> Result<(), Memory>
-    ensures { OnOk result (out.new.items ≡ out.old.items ++ spec.period.spell period) }
+    ensures bytes { OnOk result (out.new.items ≡ out.old.items ++ spec.period.spell period) }
+    ensures typed { OnOk result (typed.IsPeriod period) }
 {
     let Period { start, end } = period;
     put_day(out, start)?;
@@ -56,7 +64,8 @@ pub(super) fn put_period(out: &mut Vec<u8>, period: Period) -> Result<(), Memory
 
 #[tactic(auto, unfolding(crate::specs::Values::id))]
 pub(super) fn put_id(out: &mut Vec<u8>, id: Id) -> Result<(), Memory>
-    ensures { OnOk result (out.new.items ≡ out.old.items ++ spec.id.spell id) }
+    ensures bytes { OnOk result (out.new.items ≡ out.old.items ++ spec.id.spell id) }
+    ensures typed { OnOk result (typed.IsId id) }
 {
     put_number32(out, id.law)?;
     put_number16(out, id.item)?;
@@ -91,16 +100,24 @@ fn numbering_number(n: &Numbering) -> u16
         + bit_of(n, Element::Indent, 8192)
 }
 
+// Each element has its place.
+fn places_are_all(_throughout: &[bool; 14])
+    ensures { length _throughout.now ≡ 14 }
+{}
+
 #[tactic(auto, unfolding(crate::specs::Values::numbering))]
 pub(super) fn put_numbering(out: &mut Vec<u8>, numbering: &Numbering) -> Result<(), Memory>
-    ensures { OnOk result (out.new.items ≡ out.old.items ++ spec.numbering.spell numbering.now) }
+    ensures bytes { OnOk result (out.new.items ≡ out.old.items ++ spec.numbering.spell numbering.now) }
+    ensures typed { OnOk result (typed.IsNumbering numbering.now) }
 {
+    places_are_all(&numbering.throughout);
     put_number16(out, numbering_number(numbering))
 }
 
 #[tactic(auto, unfolding(crate::specs::Values::source))]
 pub(super) fn put_source(out: &mut Vec<u8>, source: &ModSource) -> Result<(), Memory>
-    ensures { OnOk result (out.new.items ≡ out.old.items ++ spec.source.spell source.now) }
+    ensures bytes { OnOk result (out.new.items ≡ out.old.items ++ spec.source.spell source.now) }
+    ensures typed { OnOk result (typed.IsSource source.now) }
 {
     put_work(out, &source.href)?;
     put_number16(out, source.place)?;
@@ -109,7 +126,8 @@ pub(super) fn put_source(out: &mut Vec<u8>, source: &ModSource) -> Result<(), Me
 
 #[tactic(auto, unfolding(crate::specs::Values::destination))]
 pub(super) fn put_destination(out: &mut Vec<u8>, destination: &Destination) -> Result<(), Memory>
-    ensures { OnOk result (out.new.items ≡ out.old.items ++ spec.destination.spell destination.now) }
+    ensures bytes { OnOk result (out.new.items ≡ out.old.items ++ spec.destination.spell destination.now) }
+    ensures typed { OnOk result (typed.IsDestination destination.now) }
 {
     match destination {
         Destination::Modification(id) => {
@@ -127,7 +145,8 @@ pub(super) fn put_destination(out: &mut Vec<u8>, destination: &Destination) -> R
 /// An occurrence of a text.
 #[tactic(auto, unfolding(crate::specs::Values::spot))]
 pub(super) fn put_spot(out: &mut Vec<u8>, spot: &Spot) -> Result<(), Memory>
-    ensures { OnOk result (out.new.items ≡ out.old.items ++ spec.spot.spell spot.now) }
+    ensures bytes { OnOk result (out.new.items ≡ out.old.items ++ spec.spot.spell spot.now) }
+    ensures typed { OnOk result (typed.IsSpot spot.now) }
 {
     put_text(out, spot.old.as_str())?;
     put_number16(out, spot.occurrence)?;
