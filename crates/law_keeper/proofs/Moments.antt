@@ -1,7 +1,7 @@
 -- How a run of a keeper's calls goes on.
 use Rattle.std.proofs.Common.{inl, inr, ⊎_elim, arith, ◌∙◌}
 use Rattle.law_journal.specs.Grammar.{Listing}
-use Rattle.law_keeper.specs.Keepers.{Holding, Keeps, LeavesOnly}
+use Rattle.law_keeper.specs.Keepers.{Holding, IsHolding, Keeps, LeavesOnly}
 
 -- a run behind a run
 pub then_runs : (P : Listing → Type 0) (o m n : Holding) → LeavesOnly P o m → LeavesOnly P m n → LeavesOnly P o n
@@ -38,10 +38,24 @@ weaker P Q o n leads run = record {
 pub idles_on : (P : Listing → Type 0) (o m n : Holding) → LeavesOnly P o m → LeavesOnly m.may_leave m n → LeavesOnly P o n
 idles_on P o m n first second = then_runs P o m n first (weaker m.may_leave P m n first.now second)
 
+-- no call at all
+pub rests : (h : Holding) → IsHolding h → h.tells_crash → LeavesOnly h.may_leave h h
+rests h is crash = record {
+  tells = crash;
+  now = λ list may. may;
+  any_moment = λ moments. record {
+    tells = moments;
+    later = omega arith;
+    since = λ list left. is.only_now moments list left;
+    before = λ t list le left. inl left;
+  };
+}
+
 -- calls that change no payload
 pub keeps_both : (o m n : Holding) → Keeps o m → Keeps m n → Keeps o n
 keeps_both o m n first second = record {
   tells = (λ t. second.tells.0 (first.tells.0 t), λ t. first.tells.1 (second.tells.1 t));
+  tells_crash = (λ t. second.tells_crash.0 (first.tells_crash.0 t), λ t. first.tells_crash.1 (second.tells_crash.1 t));
   list = λ t. second.list (first.tells.0 t) ∙ first.list t;
   places = λ t cursor n at. second.places (first.tells.0 t) cursor n (first.places t cursor n at);
 }

@@ -82,6 +82,7 @@ new_end o gate h =
 pub failed : (o n : Outlook) (payload : List ℕ) → (o.tells ↔ n.tells) → (o.tells → IsBeforeOrAfter o.seen payload n.seen) → (o.tells → KeepsGates (list_of o.seen) (list_of n.seen)) → Appends payload (holding_of o) (holding_of n) (Err keep.Failed)
 failed o n payload tells left gates = record {
   tells = tells;
+  tells_crash = tells;
   list = left;
   places = λ t cursor k at. gates t (cursor + 8) k at;
   end = λ t. tt;
@@ -91,6 +92,7 @@ pub done : (o n : Outlook) (payload : List ℕ) (gate : ℕ) → (o.tells ↔ n.
     → Appends payload (holding_of o) (holding_of n) (Ok (gate - 8))
 done o n payload gate tells added gates lists = record {
   tells = tells;
+  tells_crash = tells;
   list = added;
   places = λ t cursor k at. gates t (cursor + 8) k at;
   end = λ t. new_end n gate (lists (tells.0 t));

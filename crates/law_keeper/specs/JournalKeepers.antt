@@ -6,7 +6,7 @@ use Rattle.desk_base.specs.declared.load_fault.LoadFault.{LoadFault}
 use Rattle.desk_base.specs.declared.load_fault.LoadFault.TheVariants.{Failed, Damaged, Memory}
 use Rattle.law_journal.specs.Disks.{Outlook, IsOutlook}
 use Rattle.law_journal.specs.Grammar.{Listing, gate_in, list_of}
-use Rattle.law_keeper.specs.Keepers.{Holding, IsHolding, Gives, Appends, LeavesOneOfTwo}
+use Rattle.law_keeper.specs.Keepers.{Holding, IsHolding, Gives, Appends, LeavesNoMore, LeavesOneOfTwo}
 use Rattle.law_keeper.specs.declared.keep_fault.KeepFault.{KeepFault}
 use Rattle.law_keeper.specs.declared.readiness.Readiness.{Readiness}
 use Rattle.law_keeper.specs.declared.readiness.Readiness.TheVariants.{Unopened, Ready, Stopped}
@@ -45,6 +45,9 @@ Adds payload old new result = Appends payload (holding_of old) (holding_of new) 
 
 abbrev pub LeavesEither : List ℕ → Outlook → Outlook → Type 0
 LeavesEither payload old new = LeavesOneOfTwo payload (holding_of old) (holding_of new)
+
+abbrev pub LeavesAsMuch : Outlook → Outlook → Type 0
+LeavesAsMuch old new = LeavesNoMore (holding_of old) (holding_of new)
 
 -- a keeper that was opened is ready while its journal is
 abbrev pub readiness_of : Bool → Bool → Readiness

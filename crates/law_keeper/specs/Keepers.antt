@@ -55,6 +55,7 @@ KeepsPlaces old new = (cursor n : ℕ) → old cursor ≡ Some n → new cursor 
 -- a call that changes no payload
 pub record Keeps (old new : Holding) : Type 0 where
   pub tells : old.tells ↔ new.tells
+  pub tells_crash : old.tells_crash ↔ new.tells_crash
   pub list : old.tells → new.list ≡ old.list
   pub places : old.tells → KeepsPlaces old.place_of new.place_of
 
@@ -77,6 +78,7 @@ size_of (Err damage) = None
 -- an append, which gives a cursor of the end of the list
 pub record Appends (payload : List ℕ) (old new : Holding) (result : Result ℕ KeepFault) : Type 0 where
   pub tells : old.tells ↔ new.tells
+  pub tells_crash : old.tells_crash ↔ new.tells_crash
   pub list : old.tells → Becomes old.list payload result new.list
   pub places : old.tells → KeepsPlaces old.place_of new.place_of
   pub end : old.tells → IfOk result (λ end. new.place_of end ≡ size_of new.list)

@@ -1,11 +1,12 @@
 //! JournalKeeper: a keeper over a journal. A clause sees the journal, whether it was opened, and how much damage was
 //! found after that.
 
-ghost use Rattle.std.specs.Prelude.{◌≡◌, true, false, IsOk, IsTrue, IfOk, length};
+ghost use Rattle.std.specs.Prelude.{◌≡◌, true, false, Err, IsOk, IsTrue, IfOk, length};
 ghost use Rattle.desk_base.specs.Streams.{HasCause};
 ghost use Rattle.law_journal.specs.Disks.{Idles};
 ghost use Rattle.law_journal.specs.Grammar.{is_size, list_of};
 ghost use Rattle.law_journal.specs.Journals.{HasLoadCause, IsListed, stays_ready};
+ghost use Rattle.law_keeper.specs.declared.keep_fault.KeepFault.TheVariants as fault;
 ghost use Rattle.law_keeper.specs.JournalKeepers as over;
 ghost use Rattle.law_keeper.specs.Keepers as spec;
 
@@ -56,6 +57,8 @@ fn append_to<D: Disk>(
     requires size { IsTrue (is_size (length payload.now)) }
     ensures appended { over.Adds payload.now (D.outlook journal.old.disk) (D.outlook journal.new.disk) result }
     ensures crash { over.LeavesEither payload.now (D.outlook journal.old.disk) (D.outlook journal.new.disk) }
+    ensures untouched { result ≡ Err fault.Memory
+        → over.LeavesAsMuch (D.outlook journal.old.disk) (D.outlook journal.new.disk) }
     ensures ready { over.readiness_of true journal.new.ready ≡ spec.after_append result }
     ensures listed { IsTrue journal.new.ready → IsListed (D.outlook journal.new.disk) journal.new.gate }
     ensures cause { spec.HasAppendCause (D.faults journal.old.disk) (D.faults journal.new.disk) result }

@@ -1,8 +1,9 @@
 //! Keeper: where payloads are kept. A clause sees what is known of it, its holding, whether it is ready, and a count of
 //! faults.
 
-ghost use Rattle.std.specs.Prelude.{◌≡◌, ℕ, length, IfOk, IsTrue};
+ghost use Rattle.std.specs.Prelude.{◌≡◌, ℕ, length, Err, IfOk, IsTrue};
 ghost use Rattle.law_journal.specs.Grammar.{is_size};
+ghost use Rattle.law_keeper.specs.declared.keep_fault.KeepFault.TheVariants as fault;
 ghost use Rattle.law_keeper.specs.declared.readiness.Readiness.{Readiness};
 ghost use Rattle.law_keeper.specs.declared.readiness.Readiness.TheVariants.{Ready};
 ghost use Rattle.law_keeper.specs.Keepers as spec;
@@ -36,12 +37,13 @@ pub trait Keeper {
         ensures cause { spec.HasReadCause (readiness self.old) (faults self.old) (faults self.new) result };
 
     /// Adds a payload at the end of the list, and gives the cursor of the new end. After a failure the keeper has to be
-    /// opened again, and then has the payload or has not.
+    /// opened again, and then has the payload or has not. Where memory is wanting nothing was done.
     fn append(&mut self, alloc: Global, payload: &[u8]) -> Result<u64, KeepFault>
         requires ready { readiness self.old ≡ Ready }
         requires size { IsTrue (is_size (length payload.now)) }
         ensures appended { spec.Appends payload.now (holding self.old) (holding self.new) result }
         ensures crash { spec.LeavesOneOfTwo payload.now (holding self.old) (holding self.new) }
+        ensures untouched { result ≡ Err fault.Memory → spec.LeavesNoMore (holding self.old) (holding self.new) }
         ensures settled { readiness self.new ≡ Ready → IsSettled (holding self.new) }
         ensures ready { readiness self.new ≡ spec.after_append result }
         ensures cause { spec.HasAppendCause (faults self.old) (faults self.new) result };

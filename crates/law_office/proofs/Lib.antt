@@ -1,2 +1,4 @@
 mod Opened
+mod Openings
+mod Images
 mod Keeping

@@ -49,7 +49,7 @@ drop_all (first ∷ payloads) = drop_all payloads
 
 -- a keeper that calls leave as it is
 pub keeps_self : (h : Holding) → Keeps h h
-keeps_self h = record { tells = (λ t. t, λ t. t); list = λ t. refl; places = λ t cursor n at. at }
+keeps_self h = record { tells = (λ t. t, λ t. t); tells_crash = (λ t. t, λ t. t); list = λ t. refl; places = λ t cursor n at. at }
 
 idle : (h : Holding) → IsHolding h → h.tells_crash → LeavesOnly h.may_leave h h
 idle h is crash = record {

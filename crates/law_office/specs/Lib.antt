@@ -1,3 +1,4 @@
 pub mod Acting
+pub mod Crashing
 pub mod Offices
 pub mod Opening

@@ -1,5 +1,5 @@
 -- What an office has, and how it stands to its keeper.
-use Rattle.std.specs.Prelude.{ℕ, ◌≡◌, ◌≢◌, ◌≤◌, List, [], ◌∷◌, length, All, Option, Some, None, IfSome, Ok}
+use Rattle.std.specs.Prelude.{ℕ, true, ◌≡◌, ◌≢◌, ◌≤◌, List, [], ◌∷◌, length, All, Option, Some, None, IfSome, Ok}
 use Rattle.std.specs.Option.{option_map}
 use Rattle.law_journal.specs.Grammar.{Listing}
 use Rattle.law_keeper.specs.Keepers.{Holding, IsSettled, IsWithOrWithout}
@@ -8,8 +8,8 @@ use Rattle.law_keeper.specs.declared.readiness.Readiness.TheVariants.{Unopened, 
 use Rattle.law_register.specs.declared.desk.fault_mark.FaultMark.{FaultMark}
 use Rattle.law_register.specs.declared.register.entry.Entry.{Entry}
 use Rattle.law_register.specs.Desk.States.{DeskState, MayFollow, Standing}
-use Rattle.entry_codec.specs.Entries.{spelling}
-use Rattle.law_office.specs.Opening.{spellings}
+use Rattle.entry_codec.specs.Entries.{keeps_rules, spelling}
+use Rattle.law_office.specs.Opening.{opened, spellings}
 use Rattle.law_office.specs.declared.book.Book.{Book}
 use Rattle.law_office.specs.declared.book.Pending.{Pending}
 
@@ -36,15 +36,18 @@ IsNamed (keeper ∷ others) name = name ≡ keeper
 abbrev pub pending_of : Option Pending → Option Entry
 pending_of pending = option_map (λ p. p.entry) pending
 
--- an entry that is pending may stand behind the others, there is room for it, and its bytes are those that spell it
+-- an entry that is pending may stand behind the others, there is room for it, its bytes are those that spell it, and
+-- it keeps the rules of the format
 pub record IsPendingOn (entries : List Entry) (spare : ℕ) (p : Pending) : Type 0 where
   pub follows : MayFollow entries p.entry
   pub room : 1 ≤ spare
   pub bytes : p.bytes.items ≡ spelling p.entry
+  pub kept : keeps_rules p.entry ≡ true
 
--- the book of an office is right in itself: what is pending, and its marks, which were made when so many entries
--- stood as there are, or fewer
+-- the book of an office is right in itself: its entries are those that an opening finds in what spells them, and so are
+-- what is pending, and its marks, which were made when so many entries stood as there are, or fewer
 pub record IsRight (book : Book) : Type 0 where
+  pub opens : opened (spellings book.register.entries) ≡ Ok book.register.entries
   pub pending : IfSome book.pending (IsPendingOn book.register.entries book.register.spare)
   pub marks : All (λ mark. mark.entries ≤ length book.register.entries) book.marks.items
 
@@ -53,8 +56,13 @@ abbrev pub Spells : List Entry → Option Entry → Listing → Type 0
 Spells entries None list = list ≡ Ok (spellings entries)
 Spells entries (Some entry) list = IsWithOrWithout (Ok (spellings entries)) (spelling entry) list
 
+-- where a keeper tells it, a crash leaves one of these lists
+abbrev pub MayLeave : Holding → (Listing → Type 0) → Type 0
+MayLeave h lists = h.tells → h.tells_crash → (list : Listing) → h.may_leave list → lists list
+
 -- a keeper holds entries and the one that is pending: it was opened, is ready unless one is pending, and where it
--- tells its list, that spells them, and the cursor stands behind the entries
+-- tells its list, that spells them, the cursor stands behind the entries, and where one is pending, a crash leaves a list
+-- that spells them, too
 pub record Holds (h : Holding) (readiness : Readiness) (entries : List Entry) (pending : Option Entry) (cursor : ℕ)
     : Type 0 where
   pub opened : readiness ≢ Unopened
@@ -62,6 +70,7 @@ pub record Holds (h : Holding) (readiness : Readiness) (entries : List Entry) (p
   pub settled : readiness ≡ Ready → IsSettled h
   pub list : h.tells → Spells entries pending h.list
   pub end : h.tells → h.place_of cursor ≡ Some (length entries)
+  pub durable : IfSome pending (λ entry. MayLeave h (IsWithOrWithout (Ok (spellings entries)) (spelling entry)))
 
 -- a keeper holds what the book of an office says
 abbrev pub HoldsBook : Holding → Readiness → Book → Type 0

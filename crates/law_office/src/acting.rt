@@ -8,6 +8,7 @@ ghost use Rattle.law_register.specs.Register.Verdicts.{verdict};
 ghost use Rattle.law_register.specs.declared.register.verdict.Verdict.TheVariants.{Accepted};
 ghost use Rattle.entry_codec.specs.Entries.{spelling};
 ghost use Rattle.law_office.specs.Acting.{Acts, Settles};
+ghost use Rattle.law_office.specs.Crashing.{LeavesLists, SpellsBook, SpellsEither};
 ghost use Rattle.law_office.specs.Offices.{HoldsBook, IsPendingOn, IsRight, standing_of};
 
 use crate::book::{Book, Pending};
@@ -35,6 +36,7 @@ pub(crate) fn command<K: Keeper, C: Clock>(
         (mark_of sent.drafter sent.request book.new.register.entries) result }
     ensures right { IsRight book.new }
     ensures held { HoldsBook (K.holding keeper.new) (K.readiness keeper.new) book.new }
+    ensures crash { LeavesLists (SpellsEither book.old book.new) (K.holding keeper.old) (K.holding keeper.new) }
     ensures cause { HasCommandCause (K.faults keeper.old) (K.faults keeper.new) result }
 {
     match book.reserve_mark(&sent.drafter, sent.request) {
@@ -68,6 +70,7 @@ fn settle_and_act<K: Keeper, C: Clock>(
     ensures marks { book.new.marks ≡ book.old.marks }
     ensures right { IsRight book.new }
     ensures held { HoldsBook (K.holding keeper.new) (K.readiness keeper.new) book.new }
+    ensures crash { LeavesLists (SpellsEither book.old book.new) (K.holding keeper.old) (K.holding keeper.new) }
     ensures cause { HasCommandCause (K.faults keeper.old) (K.faults keeper.new) result }
 {
     match settle_pending(alloc, keeper, book) {
@@ -94,6 +97,7 @@ fn settle_pending<K: Keeper>(
     ensures marks { book.new.marks ≡ book.old.marks }
     ensures right { IsRight book.new }
     ensures held { HoldsBook (K.holding keeper.new) (K.readiness keeper.new) book.new }
+    ensures crash { LeavesLists (SpellsBook book.old) (K.holding keeper.old) (K.holding keeper.new) }
     ensures cause { HasCommandCause (K.faults keeper.old) (K.faults keeper.new) result }
 {
     let found = match &book.pending {
@@ -126,6 +130,7 @@ fn act<K: Keeper>(
     ensures marks { book.new.marks ≡ book.old.marks }
     ensures right { IsRight book.new }
     ensures held { HoldsBook (K.holding keeper.new) (K.readiness keeper.new) book.new }
+    ensures crash { LeavesLists (SpellsEither book.old book.new) (K.holding keeper.old) (K.holding keeper.new) }
     ensures cause { HasCommandCause (K.faults keeper.old) (K.faults keeper.new) result }
 {
     match book
@@ -187,6 +192,7 @@ fn keep<K: Keeper>(
     ensures marks { book.new.marks ≡ book.old.marks }
     ensures right { IsRight book.new }
     ensures held { HoldsBook (K.holding keeper.new) (K.readiness keeper.new) book.new }
+    ensures crash { LeavesLists (SpellsEither book.old book.new) (K.holding keeper.old) (K.holding keeper.new) }
     ensures cause { HasCommandCause (K.faults keeper.old) (K.faults keeper.new) result }
 {
     match prepare(alloc, &mut book.register, &entry) {
@@ -226,6 +232,7 @@ fn append<K: Keeper>(
     ensures marks { book.new.marks ≡ book.old.marks }
     ensures right { IsRight book.new }
     ensures held { HoldsBook (K.holding keeper.new) (K.readiness keeper.new) book.new }
+    ensures crash { LeavesLists (SpellsEither book.old book.new) (K.holding keeper.old) (K.holding keeper.new) }
     ensures cause { HasCommandCause (K.faults keeper.old) (K.faults keeper.new) result }
 {
     match keeper.append(alloc, pending.bytes.as_slice()) {

@@ -4,6 +4,7 @@
 
 mod acting;
 mod book;
+pub mod laws;
 mod office;
 mod opening;
 mod sent;

@@ -3,6 +3,8 @@
 
 ghost use Rattle.std.specs.Prelude.{◌≡◌, ◌≢◌, ◌↔◌, [], None, Ok, IfOk, IfErr, IsTrue};
 ghost use Rattle.law_keeper.specs.Keepers.{Keeps};
+ghost use Rattle.law_register.specs.Desk.States.{Found, IsFoundOf};
+ghost use Rattle.law_office.specs.Crashing.{crashes_of};
 ghost use Rattle.law_office.specs.Offices.{HoldsBook, IsNamed, IsRight, names_of, pending_of};
 ghost use Rattle.law_office.specs.Opening.{HasRefusalCause, Refuses, opened_of};
 
@@ -108,10 +110,16 @@ impl<'a, K: Keeper, C: Clock> Office<'a, K, C> {
         }
     }
 
-    /// Gives the keeper back.
+    /// Gives the keeper back. What it has, and what a crash leaves of it, is opened as the entries, with the one that is
+    /// pending behind them or not.
     pub fn close(self) -> &'a mut K
         ensures keeper { result.now ≡ self.entry.keeper }
         ensures name { IsNamed self.entry.origin result.ghost_name }
+        ensures found { (K.holding result.now).tells → IsFoundOf self.entry.entries self.entry.pending
+            (opened_of (K.holding result.now).list) }
+        ensures durable { let crashes = crashes_of (K.holding result.now) in
+            crashes.tells → (found : Found) → crashes.may_leave found
+            → IsFoundOf self.entry.entries self.entry.pending found }
     {
         let Office {
             keeper,
@@ -138,9 +146,12 @@ impl<'a, K: Keeper, C: Clock> Office<'a, K, C> {
 }
 
 impl<'a, K: Keeper, C: Clock> Desk for Office<'a, K, C> {
+    ghost use Rattle.law_office.specs.Crashing.{crashes_are, crashes_of};
     ghost use Rattle.law_office.specs.Offices.{desk_of};
 
     ghost state = { λ office. desk_of K.faults C.days office };
+
+    ghost crashes = { λ office. crashes_of (K.holding office.keeper) };
 
     fn command<L: Ledger>(
         &mut self,
@@ -194,4 +205,6 @@ impl<'a, K: Keeper, C: Clock> Desk for Office<'a, K, C> {
     fn register(&self) -> &Register {
         &self.book.register
     }
+
+    ghost are_crashes = { λ office. crashes_are (K.holding office.keeper) (K.is_holding office.keeper) };
 }

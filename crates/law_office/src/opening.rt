@@ -1,6 +1,6 @@
 //! Opening: what a keeper has is decoded, and each entry is judged behind those before it.
 
-ghost use Rattle.std.specs.Prelude.{◌≡◌, ◌≤◌, ◌∷◌, ◌++◌, [], true, None, IfErr, IfOk, OnOk};
+ghost use Rattle.std.specs.Prelude.{◌≡◌, ◌≤◌, ◌∷◌, ◌++◌, [], true, None, Ok, IfErr, IfOk, OnOk};
 ghost use Rattle.law_keeper.specs.Keepers.{IsSettled, Keeps};
 ghost use Rattle.law_keeper.specs.declared.readiness.Readiness.TheVariants.{Ready};
 ghost use Rattle.law_register.specs.Law.Spelling.{is_well_spelled};
@@ -110,6 +110,7 @@ fn load_entries<K: Keeper>(
     requires settled { IsSettled (K.holding keeper.old) }
     ensures opened { (K.holding keeper.old).tells
         → Opens (λ _. register.new.entries) result (opened_of (K.holding keeper.old).list) }
+    ensures opens { OnOk result (spec.opened (spec.spellings register.new.entries) ≡ Ok register.new.entries) }
     ensures held { IfOk result (Holds (K.holding keeper.new) (K.readiness keeper.new) register.new.entries None) }
     ensures same { Keeps (K.holding keeper.old) (K.holding keeper.new) }
     ensures cause { HasOpenCause (K.faults keeper.old) (K.faults keeper.new) result }

@@ -1,8 +1,9 @@
 //! What is written into a book. None of it takes memory but the room for a mark.
 
-ghost use Rattle.std.specs.Prelude.{◌≡◌, ◌≤◌, ◌<◌, ◌∷◌, ◌++◌, [], None, IfOk, OnOk, length, vec_len, vec_capacity};
+ghost use Rattle.std.specs.Prelude.{◌≡◌, ◌≤◌, ◌<◌, ◌∷◌, ◌++◌, [], None, Ok, IfOk, OnOk, length, vec_len, vec_capacity};
 ghost use Rattle.law_register.specs.Desk.Commands.{mark_of};
 ghost use Rattle.law_office.specs.Acting.{resolved, resolved_end};
+ghost use Rattle.law_office.specs.Opening.{opened, spellings};
 ghost use Rattle.law_office.specs.Offices.{IsPendingOn, IsRight, pending_of};
 
 use crate::book::{Book, Pending};
@@ -62,6 +63,7 @@ impl Book {
         requires right { IsRight self.old }
         requires follows { IsPendingOn self.old.register.entries self.old.register.spare pending }
         ensures entries { self.new.register.entries ≡ self.old.register.entries ++ pending.entry ∷ [] }
+        ensures opens { opened (spellings self.new.register.entries) ≡ Ok self.new.register.entries }
         ensures end { self.new.end ≡ end }
         ensures marks { self.new.marks ≡ self.old.marks }
         ensures pending { self.new.pending ≡ self.old.pending }

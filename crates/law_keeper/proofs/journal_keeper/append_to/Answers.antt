@@ -3,6 +3,8 @@ use Rattle.std.proofs.lemmas.Result.{err_from_is_err_and}
 use Rattle.law_journal.specs.Grammar.{payload_of, list_of, with_last}
 use Rattle.law_journal.specs.Journals.{IsBeforeOrAfter}
 use Rattle.law_journal.proofs.Resting.{listed}
+use Rattle.law_keeper.specs.JournalKeepers.{holding_of, holding_is}
+use Rattle.law_keeper.proofs.Moments.{rests}
 use Rattle.law_keeper.proofs.OverJournals.{failed, done}
 use Rattle.law_keeper.proofs.journal_keeper.append_to.Goals as goal
 
@@ -28,3 +30,8 @@ returns-clause-appended g c =
     let j = c.append.new.self in
     rw c.in_ok-gate.ensures.place (done o n c.args.payload.now j.gate (λ t. (c.append.ensures.any_moment t).tells, c.append.ensures.tells)
     (λ t. subst (λ (l : List ℕ). list_of n.seen ≡ with_last l (list_of o.seen)) same (c.in_ok-gate.ensures.added t)) c.append.ensures.gates (c.append.ensures.listed c.in_ok-gate.ensures.ready))
+
+pub returns-in_err-framed-clause-untouched : goal.returns-in_err-framed-clause-untouched
+returns-in_err-framed-clause-untouched g c = λ memory t.
+    let disk = c.args.journal.now.disk in
+    rests (holding_of (g.D.Disk.outlook disk)) (holding_is (g.D.Disk.outlook disk) (g.met.D.Disk.is_outlook disk)) t

@@ -1,9 +1,10 @@
-use Rattle.std.proofs.Common.{rules, ◌≡◌, ◌∙◌, sym, ap, subst, List, [], ◌∷◌, ◌++◌, ℕ, Option, Some, Ok, Err, Vec}
+use Rattle.std.proofs.Common.{rules, ◌≡◌, ◌∙◌, sym, ap, subst, List, [], ◌∷◌, ◌++◌, ℕ, Option, Some, Ok, Err, Vec, refl}
 use Rattle.std.proofs.lemmas.Result.{err_from_is_err_and}
 use Rattle.std.specs.declared.alloc.Global.{Global}
 use Rattle.law_keeper.specs.Keepers.{Gives}
 use Rattle.law_register.specs.declared.register.entry.Entry.{Entry}
-use Rattle.law_office.specs.Opening.{spellings, with_payload, Refuses}
+use Rattle.law_office.specs.Opening.{opened, spellings, with_payload, Refuses}
+use Rattle.law_office.proofs.Openings.{opened_behind_them}
 use Rattle.law_office.proofs.Opened.{HasOpened, opened_none, keeps_then, opens_more, opens_all, spells_all, ends_there, opens_refused, opens_fault, payload_cause}
 use Rattle.law_office.proofs.opening.load_entries.Goals as goal
 
@@ -12,6 +13,7 @@ walk-init g c =
     let h = g.K.Keeper.holding c.args.keeper.now in
     record {
       opened = subst (λ (entries : List Entry). HasOpened h h 0 entries) (sym c.requires.none) (opened_none h (g.met.K.Keeper.is_holding c.args.keeper.now) c.requires.settled);
+      opens = subst (λ (entries : List Entry). opened (spellings entries) ≡ Ok entries) (sym c.requires.none) refl;
       settled = search rules;
       ready = search rules;
       same_count = search rules;
@@ -50,11 +52,13 @@ walk-preserved g c =
     let holding = g.K.Keeper.holding in
     let entry : Vec ℕ Global × ℕ = (c.in-Some.payload, c.in-Some.next) in
     let given = subst (λ (o : Option (Vec ℕ Global × ℕ)). Gives (holding c.walk.keeper) c.walk.end (holding c.load.new.self) (Ok o)) c.in-Some.is c.in_ok-payload.ensures.given in
+    let adds = ap (with_payload c.walk.register.entries) (sym c.as_slice.ensures.value) ∙ c.in_ok-add_payload.ensures.adds in
+    let spelled = subst (λ (bytes : List ℕ). spellings c.add_payload.new.register.entries ≡ spellings c.walk.register.entries ++ bytes ∷ []) c.as_slice.ensures.value c.in_ok-add_payload.ensures.spelled in
     record {
       opened = opens_more (holding c.args.keeper.now) (holding c.walk.keeper) (holding c.load.new.self) c.walk.end c.walk.register.entries c.walk.invariant.opened
           entry c.add_payload.new.register.entries c.walk.invariant.settled c.in_ok-payload.ensures.same given c.in_ok-payload.ensures.crash
-          (ap (with_payload c.walk.register.entries) (sym c.as_slice.ensures.value) ∙ c.in_ok-add_payload.ensures.adds)
-          (subst (λ (bytes : List ℕ). spellings c.add_payload.new.register.entries ≡ spellings c.walk.register.entries ++ bytes ∷ []) c.as_slice.ensures.value c.in_ok-add_payload.ensures.spelled);
+          adds spelled;
+      opens = opened_behind_them c.walk.register.entries c.add_payload.new.register.entries entry.0.items c.walk.invariant.opens adds spelled;
       settled = search rules;
       ready = search rules;
       same_count = search rules;
@@ -81,5 +85,6 @@ returns-clause-held g c =
       ready = λ none. c.in_ok-payload.ensures.ready;
       settled = c.in_ok-payload.ensures.settled;
       list = spells_all (holding c.args.keeper.now) (holding c.walk.keeper) (holding c.load.new.self) c.walk.end c.walk.register.entries c.walk.invariant.opened c.walk.invariant.settled c.in_ok-payload.ensures.same given;
+      durable = tt;
       end = ends_there (holding c.args.keeper.now) (holding c.walk.keeper) (holding c.load.new.self) c.walk.end c.walk.register.entries c.walk.invariant.opened c.in_ok-payload.ensures.same;
     }

@@ -1,0 +1,31 @@
+use Rattle.std.proofs.Common.{sym}
+use Rattle.law_office.proofs.Images.{rests_on, found_after, found_between}
+use Rattle.law_office.proofs.office.OfficeDesk.command.Goals as goal
+
+pub returns-in-Ok-clause-crash : goal.returns-in-Ok-clause-crash
+returns-in-Ok-clause-crash g c =
+    let office = c.self.inside in
+    let holding = g.K.Keeper.holding in
+    rw (sym c.self.view_is)
+    (found_between (holding office.keeper.now) (holding c.command.new.keeper) office.book c.command.new.book
+    c.self.invariant.0 c.command.ensures.right c.command.ensures.crash)
+
+pub returns-in-Ok-clause-durable : goal.returns-in-Ok-clause-durable
+returns-in-Ok-clause-durable g c =
+    let keeper = c.command.new.keeper in
+    found_after c.command.new.book c.command.ensures.right (g.K.Keeper.holding keeper) (g.K.Keeper.readiness keeper) c.command.ensures.held
+
+pub returns-in-Err-clause-crash : goal.returns-in-Err-clause-crash
+returns-in-Err-clause-crash g c =
+    let office = c.self.inside in
+    let keeper = office.keeper.now in
+    let h = g.K.Keeper.holding keeper in
+    rw (sym c.self.view_is)
+    (found_between h h office.book office.book c.self.invariant.0 c.self.invariant.0
+    (rests_on h (g.K.Keeper.readiness keeper) office.book office.book (g.met.K.Keeper.is_holding keeper) c.self.invariant.1))
+
+pub returns-in-Err-clause-durable : goal.returns-in-Err-clause-durable
+returns-in-Err-clause-durable g c =
+    let office = c.self.inside in
+    rw (sym c.self.view_is)
+    (found_after office.book c.self.invariant.0 (g.K.Keeper.holding office.keeper.now) (g.K.Keeper.readiness office.keeper.now) c.self.invariant.1)
