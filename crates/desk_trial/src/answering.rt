@@ -20,7 +20,7 @@ fn answer_line(alloc: Global, told: Result<Answer, AskFault>) -> Result<Vec<u8>,
 {
     match told {
         Ok(answer) => put_answer(alloc, &answer),
-        Err(AskFault::Query(rule)) => put_query_rule(alloc, rule),
+        Err(AskFault::Query(rule)) => put_query_rule(alloc, &rule),
         Err(AskFault::Memory) => Err(Memory),
     }
 }
@@ -57,7 +57,7 @@ pub fn told_of_question<D: Desk, L: Ledger>(
 fn value_line(alloc: Global, told: Result<Answer, AskFault>) -> Result<Vec<u8>, Memory> {
     match told {
         Ok(answer) => Ok(answer_value(alloc, &answer)?.to_vec(alloc)?),
-        Err(AskFault::Query(rule)) => put_query_rule(alloc, rule),
+        Err(AskFault::Query(rule)) => put_query_rule(alloc, &rule),
         Err(AskFault::Memory) => Err(Memory),
     }
 }

@@ -29,7 +29,7 @@ fn told_of_asked<D: Desk, L: Ledger>(
     } = asked;
     match desk.command(alloc, &drafter, request, command, steps) {
         Ok(reply) => reply_line(alloc, before < desk.register().len(), reply),
-        Err(CommandFault::Rule(rule)) => put_rule(alloc, rule),
+        Err(CommandFault::Rule(rule)) => put_rule(alloc, &rule),
         Err(CommandFault::KeeperFault) => fault_line(alloc),
         Err(CommandFault::Memory) => Err(Memory),
     }

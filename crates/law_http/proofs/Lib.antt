@@ -1,9 +1,17 @@
+pub mod Acknowledged
+pub mod Answered
 pub mod Determined
 pub mod EmptyLines
+pub mod Growing
 pub mod HeadEnds
 pub mod Kept
+pub mod LastHeard
 pub mod Lengths
 pub mod Members
 pub mod Pieces
 pub mod PutResponses
+pub mod Repeating
+pub mod Rising
+pub mod Said
 pub mod SaidHeads
+pub mod Turning

@@ -1,3 +1,4 @@
+pub mod Asking
 pub mod Cutting
 pub mod Framing
 pub mod Heads
@@ -8,3 +9,7 @@ pub mod Responses
 pub mod Rests
 pub mod Routes
 pub mod Streams
+pub mod Serving
+pub mod Streaming
+pub mod Turns
+pub mod Lasting

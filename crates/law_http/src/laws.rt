@@ -1,9 +1,19 @@
-//! Laws of what is heard and what is put, each as the contract of a function with an empty body.
+//! Laws of what is heard, what is put and what is served, each as the contract of a function with an empty body.
 
-ghost use Rattle.std.specs.Prelude.{◌≡◌, ◌<◌, ◌^◌, ℕ, List, length};
+ghost use Rattle.std.specs.Prelude.{◌≡◌, ◌≤◌, ◌<◌, ◌^◌, ℕ, List, length};
+ghost use Rattle.law_register.specs.Desk.States.{Found};
+ghost use Rattle.law_register.specs.Register.Entering.{entered};
+ghost use Rattle.law_register.specs.Register.Verdicts.{request_of};
+ghost use Rattle.law_register.specs.declared.law.command.Command.{Command};
+ghost use Rattle.law_register.specs.declared.register.entry.Entry.{Entry};
+ghost use Rattle.law_register.specs.declared.register.verdict.Reply.{Reply as Outcome};
 ghost use Rattle.law_http.specs.Hearing.{AreHeard, IsFirstHeard};
+ghost use Rattle.law_http.specs.Lasting as lasting;
 ghost use Rattle.law_http.specs.Responses.{ReadsBack, Reply};
+ghost use Rattle.law_http.specs.Streaming.{AreServed, Exchange, RoseBy, faults_told};
 ghost use Rattle.law_http.specs.declared.heard.Heard.{Heard};
+
+use law_register::Desk;
 
 /// The bytes of a stream determine what is heard first, and what bytes are left behind it.
 pub fn first_heard_is_determined()
@@ -20,4 +30,67 @@ pub fn all_heard_is_determined()
 /// What is put is a response of HTTP/1.1 as httparse reads one, with its status, its fields and its body.
 pub fn response_is_read_back()
     ensures { (reply : Reply) → length reply.body < 2 ^ 64 → ReadsBack reply }
+{}
+
+/// The entries of a desk only grow while requests are answered: those from before stand in front.
+pub fn entries_only_grow<D: Desk>()
+    ensures { (exchanges : List Exchange) (old new : D) → AreServed D.state D.crashes exchanges old new
+        → lasting.BeginWith (D.state old).entries (D.state new).entries }
+{}
+
+/// Each response that says that the keeper failed has a fault of the keeper of its own.
+pub fn faults_are_counted<D: Desk>()
+    ensures { (exchanges : List Exchange) (old new : D) → AreServed D.state D.crashes exchanges old new
+        → RoseBy (faults_told exchanges) (D.state old).faults (D.state new).faults }
+{}
+
+/// A desk of which it is told what a crash leaves stays one while requests are answered, and its moments never fall.
+pub fn kept_stays_kept<D: Desk>()
+    ensures kept { (exchanges : List Exchange) (old new : D) → AreServed D.state D.crashes exchanges old new
+        → lasting.IsKept D.state D.crashes old → lasting.IsKept D.state D.crashes new }
+    ensures moments { (exchanges : List Exchange) (old new : D) → AreServed D.state D.crashes exchanges old new
+        → lasting.IsKept D.state D.crashes old → (D.crashes old).moment ≤ (D.crashes new).moment }
+{}
+
+/// What a desk has lasts: a crash at any moment from then on, in the midst of a request too, leaves entries that begin
+/// with those.
+pub fn entries_last<D: Desk>()
+    ensures { (after : List Exchange) (mid new : D) → AreServed D.state D.crashes after mid new
+        → lasting.IsKept D.state D.crashes mid
+        → (found : Found) → (D.crashes new).left_since (D.crashes mid).moment found
+        → lasting.FindsAfter (D.state mid).entries found }
+{}
+
+/// What a crash leaves, at any moment since a stream began, is what the desk had at some moment of it: a front part of
+/// the entries in the end, with the entry that was pending there or without it, and never damage.
+pub fn crash_leaves_a_front_part<D: Desk>()
+    ensures { (exchanges : List Exchange) (old new : D) → AreServed D.state D.crashes exchanges old new
+        → lasting.IsKept D.state D.crashes old
+        → (found : Found) → (D.crashes new).left_since (D.crashes old).moment found
+        → lasting.IsFoundAmong D.state D.crashes exchanges old new found }
+{}
+
+/// A response that says 201 has its entry among those of the desk from then on: the command that its request asked for,
+/// with the drafter and the number of the request.
+pub fn acknowledged_stand<D: Desk>()
+    ensures { (exchanges : List Exchange) (old new : D) → AreServed D.state D.crashes exchanges old new
+        → lasting.AreAcknowledged (D.state new).entries exchanges }
+{}
+
+/// What is acknowledged lasts: at the moment of each response, and at any moment from then on, a crash leaves entries,
+/// and among them those that this response and the ones before it acknowledged.
+pub fn acknowledged_last<D: Desk>()
+    ensures { (before after : List Exchange) (old mid new : D)
+        → AreServed D.state D.crashes before old mid → AreServed D.state D.crashes after mid new
+        → lasting.IsKept D.state D.crashes old
+        → (found : Found) → (D.crashes new).left_since (D.crashes mid).moment found
+        → (entries : List Entry) × (found ≡ Ok entries) × lasting.AreAcknowledged entries before }
+{}
+
+/// A repeat acts once: a command whose request was accepted before, with an equal command, gets the first reply and
+/// leaves the entries as they are.
+pub fn repeat_changes_nothing()
+    ensures { (entries : List Entry) (drafter : List ℕ) (request day : ℕ) (command : Command) (entry : Entry)
+        (reply : Outcome) → request_of entries drafter request ≡ Some (entry, reply) → entry.command ≡ command
+        → entered entries drafter request day command ≡ Ok (entries, reply) }
 {}

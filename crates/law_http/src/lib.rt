@@ -1,6 +1,8 @@
 //! HTTP/1.1 messages: the requests that are heard of a stream, however its bytes come, and the responses that are put.
 #![tactic(auto)]
 
+mod acknowledging;
+mod asking;
 mod bytes;
 mod cutting;
 mod framing;
@@ -11,19 +13,24 @@ pub mod laws;
 mod query;
 mod reading;
 mod refusal;
+mod responding;
 mod response;
 mod rest;
 mod route;
 mod status;
+mod streaming;
 #[cfg(test)]
 mod tests;
 
+pub use asking::{Asking, TextAsked};
 pub use bytes::Bytes;
 pub use heard::{HearFault, Heard, Request};
 pub use hearing::read_request;
 pub use query::Query;
 pub use refusal::{MessageRefusal, RequestRefusal};
+pub use responding::respond;
 pub use response::{Response, put_response, refused_message, refused_request};
 pub use rest::Rest;
 pub use route::Route;
 pub use status::{Allow, Status};
+pub use streaming::{Served, StreamEnd, serve_stream};

@@ -30,7 +30,7 @@ pub enum Response {
     KeeperFault { last: bool },
 }
 
-fn put_first_lines(
+pub(crate) fn put_first_lines(
     message: &mut Vec<u8>,
     status: Status,
     allow: Option<Allow>,

@@ -18,7 +18,8 @@ command_word kind.File = codes "file"
 -- the kinds of command
 abbrev pub command_kinds : List CommandKind
 command_kinds =
-    kind.Enact ∷ kind.Record ∷ kind.Correct ∷ kind.Withdraw ∷ kind.Restore ∷ kind.DraftAdd ∷ kind.DraftDrop ∷ kind.File ∷ []
+    kind.Enact ∷ kind.Record ∷ kind.Correct ∷ kind.Withdraw ∷ kind.Restore
+    ∷ kind.DraftAdd ∷ kind.DraftDrop ∷ kind.File ∷ []
 
 -- the kind of command that a word names, if it names one
 abbrev pub command_named : List ℕ → Option CommandKind

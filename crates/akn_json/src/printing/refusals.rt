@@ -69,11 +69,11 @@ pub fn put_form_fault(alloc: Global, fault: FormFault) -> Result<Vec<u8>, Memory
 
 /// The bytes of a refusal of a question: the value that it shows, and its rule by name and number.
 /// They are JSON with no space, and no line feed stands behind them.
-pub fn put_query_rule(alloc: Global, rule: QueryRule) -> Result<Vec<u8>, Memory>
-    ensures { IfOk result (λ bytes. bytes.items ≡ compact_text (query_data rule)) }
+pub fn put_query_rule(alloc: Global, rule: &QueryRule) -> Result<Vec<u8>, Memory>
+    ensures { IfOk result (λ bytes. bytes.items ≡ compact_text (query_data rule.now)) }
 {
     let mut out = Writer::new(Vec::new(alloc));
-    put_query(&mut out, alloc, &rule)?;
+    put_query(&mut out, alloc, rule)?;
     Ok(out.into_inner())
 }
 
@@ -127,10 +127,10 @@ fn put_command(out: &mut Writer, alloc: Global, rule: &Rule) -> Result<(), Memor
 
 /// The bytes of a refusal of a command: the value that it shows, and its rule by name and number.
 /// They are JSON with no space, and no line feed stands behind them.
-pub fn put_rule(alloc: Global, rule: Rule) -> Result<Vec<u8>, Memory>
-    ensures { IfOk result (λ bytes. bytes.items ≡ compact_text (rule_data rule)) }
+pub fn put_rule(alloc: Global, rule: &Rule) -> Result<Vec<u8>, Memory>
+    ensures { IfOk result (λ bytes. bytes.items ≡ compact_text (rule_data rule.now)) }
 {
     let mut out = Writer::new(Vec::new(alloc));
-    put_command(&mut out, alloc, &rule)?;
+    put_command(&mut out, alloc, rule)?;
     Ok(out.into_inner())
 }

@@ -1,0 +1,13 @@
+use Rattle.law_http.proofs.Turning.{answered_by, reads_by, writes_by}
+use Rattle.law_http.proofs.streaming.answer.Goals as goal
+
+pub returns-clause-turn : goal.returns-clause-turn
+returns-clause-turn g c = λ left rest first.
+    answered_by g.D.Desk.state g.D.Desk.crashes left rest _ _ _ _ _ _ _ _ _ c.args.request.now c.respond-response.result _ _ first c.respond-response.ensures.served
+    c.put_before-end.ensures.puts c.end_where.ensures c.is_fault-faulted.ensures c.respond-response.ensures.steps
+
+pub returns-clause-reads : goal.returns-clause-reads
+returns-clause-reads g c = reads_by _ _ _ _ _ _ _ _ _ _ c.put_before-end.ensures.puts c.end_where.ensures c.put_before-end.ensures.read_faults
+
+pub returns-clause-writes : goal.returns-clause-writes
+returns-clause-writes g c = writes_by _ _ _ _ _ _ _ _ c.put_before-end.ensures.puts c.end_where.ensures

@@ -1,0 +1,137 @@
+-- What a desk serves: what it answers to a request, and what comes of the desk.
+use Rattle.std.specs.Prelude.{◌≡◌, ◌⊎◌, ℕ, ◌+◌, Bool, true, false, List, [], ◌∷◌, ◌++◌, length, codes, Option, None, Some, Result, Ok, Err}
+use Rattle.std.specs.Fmt.{decimal}
+use Rattle.serde_json.specs.Written.{compact_text}
+use Rattle.desk_base.specs.Crashes.{Crashes}
+use Rattle.law_register.specs.Answer.Asking.{answer_at}
+use Rattle.law_register.specs.Answer.Costs.{bearing_at}
+use Rattle.law_register.specs.Desk.Commands.{Ends, HasCommandCause, LeavesBetween, LeavesNoMore, mark_of, marks_after}
+use Rattle.law_register.specs.Desk.States.{DeskState, Found, IsDurable, IsSound, standing}
+use Rattle.law_register.specs.Register.LawList.{front}
+use Rattle.law_register.specs.declared.answer.answer.Answer.{Answer}
+use Rattle.law_register.specs.declared.answer.queries.QueryRule.{QueryRule}
+use Rattle.law_register.specs.declared.answer.queries.QueryRule.TheVariants as query
+use Rattle.law_register.specs.declared.desk.command_fault.CommandFault.{CommandFault}
+use Rattle.law_register.specs.declared.desk.command_fault.CommandFault.TheVariants as fails
+use Rattle.law_register.specs.declared.register.entry.Entry.{Entry}
+use Rattle.law_register.specs.declared.register.rules.Rule.{Rule}
+use Rattle.law_register.specs.declared.register.rules.Rule.TheVariants as rules
+use Rattle.law_register.specs.declared.register.verdict.Reply.{Reply as Outcome}
+use Rattle.law_register.specs.declared.register.verdict.Reply.TheVariants as outcome
+use Rattle.akn_json.specs.Printing.Answers.{answer_data}
+use Rattle.akn_json.specs.Printing.Refusals.{query_data, rule_data}
+use Rattle.akn_json.specs.declared.asked.Asked.{Asked}
+use Rattle.law_http.specs.Asking.{asking_of, question_at}
+use Rattle.law_http.specs.Refusals.{request_reply}
+use Rattle.law_http.specs.Responses.{Reply, Says, reply, reply_bytes}
+use Rattle.law_http.specs.declared.asking.Asking.{Asking}
+use Rattle.law_http.specs.declared.asking.Asking.TheVariants as asks
+use Rattle.law_http.specs.declared.asking.TextAsked.{TextAsked}
+use Rattle.law_http.specs.declared.heard.Request.{Request}
+use Rattle.law_http.specs.declared.refusal.RequestRefusal.{RequestRefusal}
+use Rattle.law_http.specs.declared.response.Response.{Response}
+use Rattle.law_http.specs.declared.response.Response.TheVariants.{Made, MemoryFault, KeeperFault}
+use Rattle.law_http.specs.declared.status.Status.{Status}
+use Rattle.law_http.specs.declared.status.Status.TheVariants as status
+
+-- the status of a question that is refused
+abbrev pub query_status : QueryRule → Status
+query_status (query.ViewpointAhead front) = status.Conflict
+query_status rule = status.NotFound
+
+-- the status of a command that is refused
+abbrev pub rule_status : Rule → Status
+rule_status (rules.UnknownWork work) = status.NotFound
+rule_status (rules.UnknownModification law item) = status.NotFound
+rule_status (rules.BadTree fault) = status.BadRequest
+rule_status (rules.BadModification item) = status.BadRequest
+rule_status (rules.BadPeriod item) = status.BadRequest
+rule_status rule = status.Conflict
+
+-- how many law entries there are
+abbrev pub front_text : ℕ → List ℕ
+front_text n = codes "{\"front\":" ++ decimal n ++ codes "}"
+
+abbrev pub front_reply : Bool → ℕ → Reply
+front_reply last n = reply status.Ok None last (front_text n)
+
+-- an answer
+abbrev pub shown_reply : Bool → Answer → Reply
+shown_reply last answer = reply status.Ok None last (compact_text (answer_data answer))
+
+-- a question that is refused
+abbrev pub query_reply : Bool → QueryRule → Reply
+query_reply last rule = reply (query_status rule) None last (compact_text (query_data rule))
+
+-- an answer, or the rule that the question breaks
+abbrev pub answer_reply : Bool → Result Answer QueryRule → Reply
+answer_reply last (Ok answer) = shown_reply last answer
+answer_reply last (Err rule) = query_reply last rule
+
+-- the law number of a law entry, or the item number of an entry of a draft
+abbrev pub outcome_text : Outcome → List ℕ
+outcome_text (outcome.Law number) = codes "{\"law\":" ++ decimal number ++ codes "}"
+outcome_text (outcome.Draft number) = codes "{\"draft\":" ++ decimal number ++ codes "}"
+
+-- a command that is accepted, or was before
+abbrev pub accepted_reply : Bool → Outcome → Reply
+accepted_reply last outcome = reply status.Created None last (outcome_text outcome)
+
+-- a command that is refused
+abbrev pub rule_reply : Bool → Rule → Reply
+rule_reply last rule = reply (rule_status rule) None last (compact_text (rule_data rule))
+
+-- what is said of a command; of one that is accepted nothing else can be said, also for want of memory
+abbrev pub SaysOutcome : Bool → Result Outcome CommandFault → Response → Type 0
+SaysOutcome last (Ok outcome) response = response ≡ Made (reply_bytes (accepted_reply last outcome)) last
+SaysOutcome last (Err (fails.Rule rule)) response = Says (rule_reply last rule) response
+SaysOutcome last (Err fails.KeeperFault) response = response ≡ KeeperFault last
+SaysOutcome last (Err fails.Memory) response = response ≡ MemoryFault
+
+-- a desk of any kind: how it stands, and what a crash leaves of it
+module _ {D : Type 0} (state : D → DeskState) (crashes : D → Crashes Found) where
+  -- a call that changes nothing
+  pub record Stays (old new : D) : Type 0 where
+    pub same : state new ≡ state old
+    pub crash : LeavesNoMore (crashes old) (crashes new)
+
+  -- a command that was asked for is done, with this outcome
+  pub record Does (asked : Asked) (old new : D) (result : Result Outcome CommandFault) : Type 0 where
+    pub outcome : Ends asked.drafter asked.request asked.command (standing (state old)) (standing (state new)) result
+    pub marks : (state new).marks
+        ≡ marks_after (state old).marks (mark_of asked.drafter asked.request (state new).entries) result
+    pub cause : HasCommandCause (state old).faults (state new).faults result
+    pub crash : LeavesBetween (state old) (state new) (crashes old) (crashes new)
+    pub sound : IsSound (state new)
+    pub durable : IsDurable (state new) (crashes new)
+    pub origin : (state new).origin ≡ (state old).origin
+
+  -- a command is done and its outcome said, or there was no memory for it before anything was done
+  abbrev pub ServesCommand : Bool → Asked → D → D → Response → Type 0
+  ServesCommand last asked old new response =
+      (Stays old new × (response ≡ MemoryFault))
+      ⊎ ((result : Result Outcome CommandFault) × Does asked old new result × SaysOutcome last result response)
+
+  -- what is asked is answered
+  abbrev pub ServesAsking : Bool → Result Asking RequestRefusal → D → D → Response → Type 0
+  ServesAsking last (Err refusal) old new response = Stays old new × Says (request_reply refusal last) response
+  ServesAsking last (Ok asks.Front) old new response =
+      Stays old new × Says (front_reply last (front (state old).entries)) response
+  ServesAsking last (Ok (asks.Text text)) old new response = Stays old new
+      × Says (answer_reply last (answer_at (state old).entries (question_at (front (state old).entries) text))) response
+  ServesAsking last (Ok (asks.Command asked)) old new response = ServesCommand last asked old new response
+
+  -- a request is answered by a response, and the desk goes from old to new
+  abbrev pub Serves : Request → D → D → Response → Type 0
+  Serves request old new response = ServesAsking request.last (asking_of request) old new response
+
+-- the steps that an answer may take
+abbrev pub asking_cost : List Entry → Result Asking RequestRefusal → ℕ
+asking_cost entries (Err refusal) = 0
+asking_cost entries (Ok asks.Front) = 0
+asking_cost entries (Ok (asks.Text text)) = bearing_at entries (question_at (front entries) text)
+asking_cost entries (Ok (asks.Command asked)) = 0
+
+-- the steps that the answer to a request may take
+abbrev pub serving_cost : List Entry → Request → ℕ
+serving_cost entries request = asking_cost entries (asking_of request)

@@ -1,0 +1,105 @@
+-- What a turn of a stream comes to: one request is answered and the stream goes on, or the stream ends.
+use Rattle.std.specs.Prelude.{◌≡◌, ◌≢◌, ◌⊎◌, ◌↔◌, ℕ, ◌+◌, ◌≤◌, ◌<◌, ◌||◌, Bool, true, false, IsTrue, IsFalse, List, Option, None, Some, Result, Ok, Err}
+use Rattle.desk_base.specs.Crashes.{Crashes}
+use Rattle.desk_base.specs.Streams.{AppendsFront, Rose}
+use Rattle.desk_base.specs.declared.source.Failed.{Failed}
+use Rattle.law_register.specs.Desk.States.{DeskState, Found}
+use Rattle.law_http.specs.Hearing.{IsHeardOf}
+use Rattle.law_http.specs.Refusals.{message_reply}
+use Rattle.law_http.specs.Responses.{Says, response_bytes}
+use Rattle.law_http.specs.Serving.{Serves, serving_cost}
+use Rattle.law_http.specs.Streaming.{AppendsAll, IsStreamed, fault_told}
+use Rattle.law_http.specs.declared.heard.HearFault.{HearFault}
+use Rattle.law_http.specs.declared.heard.HearFault.TheVariants as faults
+use Rattle.law_http.specs.declared.heard.Request.{Request}
+use Rattle.law_http.specs.declared.heard.Heard.TheVariants as heard
+use Rattle.law_http.specs.declared.refusal.MessageRefusal.{MessageRefusal}
+use Rattle.law_http.specs.declared.response.Response.{Response}
+use Rattle.law_http.specs.declared.response.Response.TheVariants.{Made, MemoryFault, KeeperFault}
+use Rattle.law_http.specs.declared.streaming.Served.{Served}
+use Rattle.law_http.specs.declared.streaming.StreamEnd.{StreamEnd}
+use Rattle.law_http.specs.declared.streaming.StreamEnd.TheVariants as ends
+
+-- how a stream ends behind a response that is written, where it would end so: for want of memory after the fixed 500
+abbrev pub end_behind : Response → Option StreamEnd → Option StreamEnd
+end_behind (Made message last) end = end
+end_behind MemoryFault end = Some ends.Memory
+end_behind (KeeperFault last) end = end
+
+-- the same where the write may have failed
+abbrev pub end_after : Result Unit Failed → Option StreamEnd → Option StreamEnd
+end_after (Ok done) end = end
+end_after (Err fault) end = Some ends.WriteFault
+
+-- a response is written whole
+pub record IsPut (before now : Option (List ℕ)) (response : Response) (count later : ℕ) : Type 0 where
+  pub written : AppendsAll before now (response_bytes response)
+  pub same : later ≡ count
+
+-- the write of a response failed
+pub record IsPutInPart (before now : Option (List ℕ)) (response : Response) (count later : ℕ) : Type 0 where
+  pub written : AppendsFront before now (response_bytes response)
+  pub rose : Rose count later
+
+-- what comes of writing a response behind which the stream ends so, or goes on
+abbrev pub PutsBefore : Option (List ℕ) → Option (List ℕ) → Response → ℕ → ℕ → Option StreamEnd → Option StreamEnd
+    → Type 0
+PutsBefore before now response count later end result =
+    ((result ≡ end_behind response end) × IsPut before now response count later)
+    ⊎ ((result ≡ Some ends.WriteFault) × IsPutInPart before now response count later)
+
+-- what comes of refusing what is no request
+abbrev pub Refuses : Option (List ℕ) → Option (List ℕ) → MessageRefusal → ℕ → ℕ → Option StreamEnd → Type 0
+Refuses before now refusal count later result = (response : Response) × Says (message_reply refusal) response
+    × PutsBefore before now response count later (Some (ends.Refused refusal)) result
+
+-- what comes of it where nothing was heard
+abbrev pub Leaves : Option (List ℕ) → Option (List ℕ) → HearFault → ℕ → ℕ → Option StreamEnd → Type 0
+Leaves before now faults.ReadFault count later result =
+    (result ≡ Some ends.ReadFault) × (now ≡ before) × (later ≡ count)
+Leaves before now faults.Memory count later result =
+    PutsBefore before now MemoryFault count later (Some ends.Memory) result
+
+-- what was served, where a fault was told before or not
+abbrev pub with_fault : Bool → Served → Served
+with_fault told served = record { end = served.end; faulted = told || served.faulted }
+
+-- the cause of an end, where a turn ends the stream; else a count is as it was
+abbrev pub HasTurnCause : (StreamEnd → ℕ → ℕ → Type 0) → Option StreamEnd → ℕ → ℕ → Type 0
+HasTurnCause cause None before now = now ≡ before
+HasTurnCause cause (Some end) before now = cause end before now
+
+-- a turn after which the stream goes on takes a byte at least
+abbrev pub SpendsTurn : Option StreamEnd → ℕ → ℕ → Type 0
+SpendsTurn None before now = now < before
+SpendsTurn (Some end) before now = now ≤ before
+
+module _ {D : Type 0} (state : D → DeskState) (crashes : D → Crashes Found) where
+  -- a request that does not close the stream is answered
+  pub record IsExchanged (left rest before now : Option (List ℕ)) (old new : D) (steps later : ℕ) (told : Bool)
+      : Type 0 where
+    pub request : Request
+    pub response : Response
+    pub heard : IsHeardOf left rest (heard.Request request)
+    pub goes_on : IsFalse request.last
+    pub serves : Serves state crashes request old new response
+    pub had_memory : response ≢ MemoryFault
+    pub written : AppendsAll before now (response_bytes response)
+    pub faulted : IsTrue told ↔ (fault_told response ≢ 0)
+    pub cost : later ≤ steps + serving_cost (state old).entries request
+
+  -- a turn is taken
+  abbrev pub IsTurn : Option (List ℕ) → Option (List ℕ) → Option (List ℕ) → Option (List ℕ) → D → D → ℕ → ℕ
+      → Bool → Option StreamEnd → Type 0
+  IsTurn left rest before now old new steps later told None =
+      IsExchanged left rest before now old new steps later told
+  IsTurn left rest before now old new steps later told (Some end) =
+      IsStreamed state crashes left before now old new steps later (record { end = end; faulted = told })
+
+  -- whatever is streamed from here on is streamed from the start
+  abbrev pub GoesOn : Option (List ℕ) → Option (List ℕ) → Option (List ℕ) → Option (List ℕ) → D → D → ℕ → ℕ → Bool
+      → Type 0
+  GoesOn left here before written old desk steps later told =
+      (now : Option (List ℕ)) (new : D) (last : ℕ) (served : Served)
+      → IsStreamed state crashes here written now desk new later last served
+      → IsStreamed state crashes left before now old new steps last (with_fault told served)

@@ -1,0 +1,209 @@
+//! Responding: what a desk answers to a request.
+
+ghost use Rattle.std.specs.Prelude.{◌≡◌, ◌≤◌, ◌+◌, true, None, Result, Ok, length, string_bytes, vec_capacity, IfOk};
+ghost use Rattle.law_register.specs.Answer.Answers.{Answers};
+ghost use Rattle.law_register.specs.Answer.Asking.{answer_at};
+ghost use Rattle.law_register.specs.Answer.Costs.{bearing_at};
+ghost use Rattle.law_register.specs.Law.Spelling.{is_well_spelled};
+ghost use Rattle.law_register.specs.Register.LawList.{front};
+ghost use Rattle.law_register.specs.declared.answer.answer.Answer.{Answer as AnswerValue};
+ghost use Rattle.law_register.specs.declared.answer.queries.QueryRule.{QueryRule as RuleOfQuestion};
+ghost use Rattle.law_http.specs.Asking.{IsSpelled, question_at};
+ghost use Rattle.law_http.specs.Responses.{Says, first_lines};
+ghost use Rattle.law_http.specs.Serving as spec;
+ghost use Rattle.law_http.specs.declared.status.Status.TheVariants as status;
+
+use crate::acknowledging::{acknowledged, begun};
+use crate::{Asking, Request, Response, Status, TextAsked, refused_request};
+use akn_json::{Asked, put_answer, put_query_rule, put_rule};
+use desk_base::{Memory, Steps};
+use law_register::{Answer, AskFault, CommandFault, Desk, QueryRule, Question, Reply, Rule};
+use std::alloc::Global;
+use std::sync::ledger::Ledger;
+
+fn query_status(rule: &QueryRule) -> Status
+    ensures { result ≡ spec.query_status rule.now }
+{
+    match rule {
+        QueryRule::ViewpointAhead(_) => Status::Conflict,
+        _ => Status::NotFound,
+    }
+}
+
+fn rule_status(rule: &Rule) -> Status
+    ensures { result ≡ spec.rule_status rule.now }
+{
+    match rule {
+        Rule::UnknownWork(_) | Rule::UnknownModification { .. } => Status::NotFound,
+        Rule::BadTree(_) | Rule::BadModification(_) | Rule::BadPeriod(_) => Status::BadRequest,
+        _ => Status::Conflict,
+    }
+}
+
+fn front_object(alloc: Global, number: u32) -> Result<String, Memory>
+    ensures { IfOk result (λ text. string_bytes text ≡ spec.front_text number) }
+{
+    Ok(format!(in alloc; "{{\"front\":{number}}}")?)
+}
+
+fn front_response(alloc: Global, number: u32, last: bool) -> Response
+    ensures { Says (spec.front_reply last number) result }
+{
+    match front_object(alloc, number) {
+        Ok(object) => Response::of(alloc, Status::Ok, None, last, object.as_bytes()),
+        Err(_) => Response::MemoryFault,
+    }
+}
+
+fn query_response(alloc: Global, rule: &QueryRule, last: bool) -> Response
+    ensures { Says (spec.query_reply last rule.now) result }
+{
+    match put_query_rule(alloc, rule) {
+        Ok(object) => Response::of(alloc, query_status(rule), None, last, object.as_slice()),
+        Err(_) => Response::MemoryFault,
+    }
+}
+
+fn shown(alloc: Global, answer: &Answer, last: bool) -> Response
+    ensures { Says (spec.shown_reply last answer.now) result }
+{
+    match put_answer(alloc, answer) {
+        Ok(object) => Response::of(alloc, Status::Ok, None, last, object.as_slice()),
+        Err(_) => Response::MemoryFault,
+    }
+}
+
+fn answer_response(alloc: Global, told: Result<Answer, AskFault>, last: bool) -> Response
+    ensures { (answer : Result AnswerValue RuleOfQuestion) → Answers told answer
+        → Says (spec.answer_reply last answer) result }
+{
+    match told {
+        Ok(answer) => shown(alloc, &answer, last),
+        Err(AskFault::Query(rule)) => query_response(alloc, &rule, last),
+        Err(AskFault::Memory) => Response::MemoryFault,
+    }
+}
+
+fn rule_response(alloc: Global, rule: &Rule, last: bool) -> Response
+    ensures { Says (spec.rule_reply last rule.now) result }
+{
+    match put_rule(alloc, rule) {
+        Ok(object) => Response::of(alloc, rule_status(rule), None, last, object.as_slice()),
+        Err(_) => Response::MemoryFault,
+    }
+}
+
+// What is said of a command that is done, in the room that was made for it where it is accepted.
+fn outcome_response(
+    alloc: Global,
+    message: Vec<u8>,
+    last: bool,
+    done: Result<Reply, CommandFault>,
+) -> Response
+    requires room { length message.items + 160 ≤ vec_capacity message }
+    requires begun { message.items ≡ first_lines status.Created None last }
+    ensures { spec.SaysOutcome last done result }
+{
+    match done {
+        Ok(reply) => acknowledged(message, last, reply),
+        Err(CommandFault::Rule(rule)) => rule_response(alloc, &rule, last),
+        Err(CommandFault::KeeperFault) => Response::KeeperFault { last },
+        Err(CommandFault::Memory) => Response::MemoryFault,
+    }
+}
+
+// The answer of a desk to a question, at its front or before it.
+fn answer_of<D: Desk, L: Ledger>(
+    alloc: Global,
+    desk: &mut D,
+    question: &Question,
+    steps: &mut Steps<L>,
+) -> Result<Answer, AskFault>
+    ensures answer { Answers result (answer_at (D.state desk.old).entries question.now) }
+    ensures stays { spec.Stays D.state D.crashes desk.old desk.new }
+    ensures steps { steps.new ≤ steps.old + bearing_at (D.state desk.old).entries question.now }
+{
+    if question.viewpoint < desk.front() {
+        desk.ask_past(alloc, question, steps)
+    } else {
+        desk.ask(alloc, question, steps)
+    }
+}
+
+fn text_response<D: Desk, L: Ledger>(
+    alloc: Global,
+    desk: &mut D,
+    text: TextAsked,
+    last: bool,
+    steps: &mut Steps<L>,
+) -> Response
+    ensures says { Says (spec.answer_reply last (answer_at (D.state desk.old).entries
+        (question_at (front (D.state desk.old).entries) text))) result }
+    ensures stays { spec.Stays D.state D.crashes desk.old desk.new }
+    ensures steps { steps.new ≤ steps.old + bearing_at (D.state desk.old).entries
+        (question_at (front (D.state desk.old).entries) text) }
+{
+    let question = text.question(desk.front());
+    let told = answer_of(alloc, desk, &question, steps);
+    answer_response(alloc, told, last)
+}
+
+// Makes the room for the response to a command that is accepted, and then has the command done.
+fn command_response<D: Desk, L: Ledger>(
+    alloc: Global,
+    desk: &mut D,
+    asked: Asked,
+    last: bool,
+    steps: &mut Steps<L>,
+) -> Response
+    requires { is_well_spelled asked.command ≡ true }
+    ensures served { spec.ServesCommand D.state D.crashes last asked desk.old desk.new result }
+    ensures steps { steps.new ≡ steps.old }
+{
+    let Ok(message) = begun(alloc, last) else {
+        return Response::MemoryFault;
+    };
+    let Asked {
+        drafter,
+        request,
+        command,
+    } = asked;
+    let done = desk.command(alloc, &drafter, request, command, steps);
+    outcome_response(alloc, message, last, done)
+}
+
+fn answered<D: Desk, L: Ledger>(
+    alloc: Global,
+    desk: &mut D,
+    asking: Asking,
+    last: bool,
+    steps: &mut Steps<L>,
+) -> Response
+    requires { IsSpelled asking }
+    ensures served { spec.ServesAsking D.state D.crashes last (Ok asking) desk.old desk.new result }
+    ensures steps { steps.new ≤ steps.old + spec.asking_cost (D.state desk.old).entries (Ok asking) }
+{
+    match asking {
+        Asking::Front => front_response(alloc, desk.front(), last),
+        Asking::Text(text) => text_response(alloc, desk, text, last, steps),
+        Asking::Command(asked) => command_response(alloc, desk, asked, last, steps),
+    }
+}
+
+/// The response of a desk to a request. The room for the response to a command that is accepted is made before the
+/// desk is asked, so that what was entered is acknowledged; where there is not enough memory it is the fixed 500.
+pub fn respond<D: Desk, L: Ledger>(
+    alloc: Global,
+    desk: &mut D,
+    request: &Request,
+    steps: &mut Steps<L>,
+) -> Response
+    ensures served { spec.Serves D.state D.crashes request.now desk.old desk.new result }
+    ensures steps { steps.new ≤ steps.old + spec.serving_cost (D.state desk.old).entries request.now }
+{
+    match request.asking(alloc) {
+        Ok(Ok(asking)) => answered(alloc, desk, asking, request.last, steps),
+        Ok(Err(refusal)) => refused_request(alloc, refusal, request.last),
+        Err(_) => Response::MemoryFault,
+    }
+}

@@ -1,0 +1,244 @@
+//! Streaming: a stream is served to its end, each request before the next is read.
+
+ghost use Rattle.std.specs.Prelude.{◌≡◌, ◌≢◌, ◌↔◌, ◌||◌, ◌≤◌, ◌+◌, ℕ, List, Option, length, IsTrue};
+ghost use Rattle.std.specs.Bool.{then_some};
+ghost use Rattle.std.specs.Io.KnownBytes.{prepend_known};
+ghost use Rattle.law_http.specs.Hearing.{IsHeardOf, Spends};
+ghost use Rattle.law_http.specs.Streaming as stream;
+ghost use Rattle.law_http.specs.Turns as spec;
+
+use crate::{
+    HearFault, Heard, MessageRefusal, Request, Response, Rest, put_response, read_request,
+    refused_message, respond,
+};
+use desk_base::{Failed, Link, Steps};
+use law_register::Desk;
+use std::alloc::Global;
+use std::sync::ledger::Ledger;
+
+/// How a stream ended.
+#[derive(Clone, Copy, Debug, PartialEq, Eq)]
+pub enum StreamEnd {
+    /// Every request was answered, to the end of the stream or to the first that closes it.
+    End,
+    /// Something else than a request stood behind the last, and was refused.
+    Refused(MessageRefusal),
+    /// A read failed.
+    ReadFault,
+    /// A write failed.
+    WriteFault,
+    /// There was not enough memory.
+    Memory,
+}
+
+/// What was served of a stream.
+#[derive(Clone, Copy, Debug, PartialEq, Eq)]
+pub struct Served {
+    /// How it ended.
+    pub end: StreamEnd,
+    /// Whether some response said that the keeper failed.
+    pub faulted: bool,
+}
+
+// What came of a turn: how the stream ended, if it did, and whether the response said that the keeper failed.
+#[derive(Clone, Copy)]
+struct Turn {
+    end: Option<StreamEnd>,
+    faulted: bool,
+}
+
+fn end_behind(response: &Response, end: Option<StreamEnd>) -> Option<StreamEnd>
+    ensures { result ≡ spec.end_behind response.now end }
+{
+    match response {
+        Response::Made { .. } => end,
+        Response::MemoryFault => Some(StreamEnd::Memory),
+        Response::KeeperFault { .. } => end,
+    }
+}
+
+fn end_after(put: Result<(), Failed>, end: Option<StreamEnd>) -> Option<StreamEnd>
+    ensures { result ≡ spec.end_after put end }
+{
+    match put {
+        Ok(()) => end,
+        Err(_) => Some(StreamEnd::WriteFault),
+    }
+}
+
+fn end_where(last: bool) -> Option<StreamEnd>
+    ensures { result ≡ then_some last StreamEnd.End }
+{
+    last.then_some(StreamEnd::End)
+}
+
+fn is_fault(response: &Response) -> bool
+    ensures { IsTrue result ↔ (stream.fault_told response.now ≢ 0) }
+{
+    match response {
+        Response::Made { .. } => false,
+        Response::MemoryFault => false,
+        Response::KeeperFault { .. } => true,
+    }
+}
+
+// Writes a response, behind which the stream ends so, or goes on.
+fn put_before<K: Link>(
+    link: &mut K,
+    response: &Response,
+    end: Option<StreamEnd>,
+) -> Option<StreamEnd>
+    ensures puts { spec.PutsBefore (K.written link.old) (K.written link.new) response.now
+        (K.write_faults link.old) (K.write_faults link.new) end result }
+    ensures left { K.left link.new ≡ K.left link.old }
+    ensures room { K.room link.new ≡ K.room link.old }
+    ensures read_faults { K.read_faults link.new ≡ K.read_faults link.old }
+    ensures origin { K.origin link.new ≡ K.origin link.old }
+{
+    let put = put_response(link, response);
+    end_after(put, end_behind(response, end))
+}
+
+fn answer<K: Link, D: Desk, L: Ledger>(
+    alloc: Global,
+    link: &mut K,
+    desk: &mut D,
+    request: &Request,
+    steps: &mut Steps<L>,
+) -> Turn
+    ensures turn { (left rest : Option (List ℕ)) → IsHeardOf left rest (Heard.Request request.now)
+        → spec.IsTurn D.state D.crashes left rest (K.written link.old) (K.written link.new) desk.old desk.new
+        steps.old steps.new result.faulted result.end }
+    ensures reads { spec.HasTurnCause stream.HasReadCause result.end
+        (K.read_faults link.old) (K.read_faults link.new) }
+    ensures writes { spec.HasTurnCause stream.HasWriteCause result.end
+        (K.write_faults link.old) (K.write_faults link.new) }
+    ensures left { K.left link.new ≡ K.left link.old }
+    ensures room { K.room link.new ≡ K.room link.old }
+    ensures origin { K.origin link.new ≡ K.origin link.old }
+{
+    let response = respond(alloc, desk, request, steps);
+    let end = put_before(link, &response, end_where(request.last));
+    let faulted = is_fault(&response);
+    Turn { end, faulted }
+}
+
+fn refuse<K: Link>(alloc: Global, link: &mut K, refusal: MessageRefusal) -> Option<StreamEnd>
+    ensures refuses { spec.Refuses (K.written link.old) (K.written link.new) refusal
+        (K.write_faults link.old) (K.write_faults link.new) result }
+    ensures left { K.left link.new ≡ K.left link.old }
+    ensures room { K.room link.new ≡ K.room link.old }
+    ensures read_faults { K.read_faults link.new ≡ K.read_faults link.old }
+    ensures origin { K.origin link.new ≡ K.origin link.old }
+{
+    let response = refused_message(alloc, refusal);
+    put_before(link, &response, Some(StreamEnd::Refused(refusal)))
+}
+
+fn leave<K: Link>(link: &mut K, fault: HearFault) -> Option<StreamEnd>
+    ensures leaves { spec.Leaves (K.written link.old) (K.written link.new) fault
+        (K.write_faults link.old) (K.write_faults link.new) result }
+    ensures left { K.left link.new ≡ K.left link.old }
+    ensures room { K.room link.new ≡ K.room link.old }
+    ensures read_faults { K.read_faults link.new ≡ K.read_faults link.old }
+    ensures origin { K.origin link.new ≡ K.origin link.old }
+{
+    match fault {
+        HearFault::ReadFault => Some(StreamEnd::ReadFault),
+        HearFault::Memory => put_before(link, &Response::MemoryFault, Some(StreamEnd::Memory)),
+    }
+}
+
+// What comes of a member of the stream.
+fn act_on<K: Link, D: Desk, L: Ledger>(
+    alloc: Global,
+    link: &mut K,
+    desk: &mut D,
+    heard: &Heard,
+    steps: &mut Steps<L>,
+) -> Turn
+    ensures turn { (left rest : Option (List ℕ)) → IsHeardOf left rest heard.now
+        → spec.IsTurn D.state D.crashes left rest (K.written link.old) (K.written link.new) desk.old desk.new
+        steps.old steps.new result.faulted result.end }
+    ensures spent { (before now : ℕ) → Spends before now heard.now → spec.SpendsTurn result.end before now }
+    ensures reads { spec.HasTurnCause stream.HasReadCause result.end
+        (K.read_faults link.old) (K.read_faults link.new) }
+    ensures writes { spec.HasTurnCause stream.HasWriteCause result.end
+        (K.write_faults link.old) (K.write_faults link.new) }
+    ensures left { K.left link.new ≡ K.left link.old }
+    ensures room { K.room link.new ≡ K.room link.old }
+    ensures origin { K.origin link.new ≡ K.origin link.old }
+{
+    match heard {
+        Heard::Request(request) => answer(alloc, link, desk, request, steps),
+        Heard::End => Turn {
+            end: Some(StreamEnd::End),
+            faulted: false,
+        },
+        Heard::Refused(refusal) => Turn {
+            end: refuse(alloc, link, *refusal),
+            faulted: false,
+        },
+    }
+}
+
+fn take_turn<K: Link, D: Desk, L: Ledger>(
+    alloc: Global,
+    link: &mut K,
+    rest: &mut Rest,
+    desk: &mut D,
+    steps: &mut Steps<L>,
+) -> Turn
+    ensures turn { spec.IsTurn D.state D.crashes
+        (prepend_known rest.old (K.left link.old)) (prepend_known rest.new (K.left link.new))
+        (K.written link.old) (K.written link.new) desk.old desk.new steps.old steps.new result.faulted result.end }
+    ensures spent { spec.SpendsTurn result.end
+        (length rest.old + K.room link.old) (length rest.new + K.room link.new) }
+    ensures reads { spec.HasTurnCause stream.HasReadCause result.end
+        (K.read_faults link.old) (K.read_faults link.new) }
+    ensures writes { spec.HasTurnCause stream.HasWriteCause result.end
+        (K.write_faults link.old) (K.write_faults link.new) }
+    ensures origin { K.origin link.new ≡ K.origin link.old }
+{
+    match read_request(alloc, link, rest) {
+        Ok(heard) => act_on(alloc, link, desk, &heard, steps),
+        Err(fault) => Turn {
+            end: leave(link, fault),
+            faulted: false,
+        },
+    }
+}
+
+fn either(a: bool, b: bool) -> bool
+    ensures { result ≡ (a || b) }
+{
+    a || b
+}
+
+/// Reads requests from a link and answers each before the next is read, to the end of the stream, to the first request
+/// that closes it, to what is no request, to a failure, or until there is not enough memory, which the fixed 500 says.
+pub fn serve_stream<K: Link, D: Desk, L: Ledger>(
+    alloc: Global,
+    link: &mut K,
+    desk: &mut D,
+    steps: &mut Steps<L>,
+) -> Served
+    ensures served { stream.IsStreamed D.state D.crashes (K.left link.old) (K.written link.old) (K.written link.new)
+        desk.old desk.new steps.old steps.new result }
+    ensures reads { stream.HasReadCause result.end (K.read_faults link.old) (K.read_faults link.new) }
+    ensures writes { stream.HasWriteCause result.end (K.write_faults link.old) (K.write_faults link.new) }
+    ensures room { K.room link.new ≤ K.room link.old }
+    ensures origin { K.origin link.new ≡ K.origin link.old }
+    ensures desk_origin { (D.state desk.new).origin ≡ (D.state desk.old).origin }
+{
+    let mut rest = Rest::new();
+    let mut faulted = false;
+    'turns: loop {
+        let turn = take_turn(alloc, link, &mut rest, desk, steps);
+        faulted = either(faulted, turn.faulted);
+        match turn.end {
+            Some(end) => return Served { end, faulted },
+            None => continue,
+        }
+    }
+}
