@@ -1,0 +1,15 @@
+pub mod NamedBy
+pub mod Still
+pub mod LastDay
+pub mod Fronts
+pub mod LastRow
+pub mod Parted
+pub mod Right
+pub mod RowDays
+pub mod Agreeing
+pub mod Mute
+pub mod Directed
+pub mod OneMore
+pub mod Continued
+pub mod RowFronts
+pub mod Adding

@@ -1,0 +1,8 @@
+use Rattle.std.proofs.Common.{◌≡◌, ◌∙◌, ◌++◌, sym, ap, subst}
+use Rattle.law_register.specs.Answer.Replay.{VersionValue}
+use Rattle.law_register.specs.Answer.Soundness.{IsReplayed, id_twice}
+use Rattle.law_register.specs.Answer.Versions.{version_view}
+use Rattle.version_cache.proofs.making.continued.Goals as goal
+
+pub continue_replay-requires-clause-apart : goal.continue_replay-requires-clause-apart
+continue_replay-requires-clause-apart g c = ap (λ (v : VersionValue). id_twice (v.applied ++ c.args.ids.now)) c.in_ok-copy.ensures ∙ c.requires.apart

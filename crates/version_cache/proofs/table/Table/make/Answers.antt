@@ -1,0 +1,19 @@
+use Rattle.std.proofs.Common.{◌∙◌, ap}
+use Rattle.law_register.specs.Answer.Versions.{version_view}
+use Rattle.version_cache.specs.Rows.{rows_view}
+use Rattle.version_cache.specs.Tables.{rows_on}
+use Rattle.version_cache.proofs.Right.{made_is_right}
+use Rattle.version_cache.proofs.RowDays.{made_ascend}
+use Rattle.version_cache.proofs.table.Table.make.Goals as goal
+
+pub invariant_of-result : goal.invariant_of-result
+invariant_of-result g c = record {
+  ascending =
+      made_ascend c.args.known.now c.args.reading c.add_rows.new.rows.items
+      (c.in_ok-add_rows.ensures.rows ∙ ap (rows_on c.args.known.now c.args.reading) (c.as_slice.ensures ∙ c.in_ok-days.ensures));
+}
+
+pub returns-clause-right : goal.returns-clause-right
+returns-clause-right g c =
+    made_is_right c.args.known.now c.args.reading (version_view c.in_ok-enacted.enacted.version) (rows_view c.add_rows.new.rows.items) c.in_ok-enacted.ensures
+    (c.in_ok-add_rows.ensures.rows ∙ ap (rows_on c.args.known.now c.args.reading) (c.as_slice.ensures ∙ c.in_ok-days.ensures))

@@ -1,0 +1,6 @@
+pub mod Agreement
+pub mod Days
+pub mod Tables
+pub mod Kept
+pub mod Rows
+pub mod Seen

@@ -1,0 +1,13 @@
+-- Tables, as a clause sees them.
+use Rattle.law_register.specs.Answer.Versions.{version_view}
+use Rattle.version_cache.specs.declared.table.Table.{Table}
+use Rattle.version_cache.specs.Rows.{rows_view}
+use Rattle.version_cache.specs.Tables.{TableValue}
+
+-- a table's reading, its act as enacted, and its rows
+abbrev pub table_view : Table → TableValue
+table_view table = record {
+  reading = table.reading;
+  enacted = version_view table.enacted.version;
+  rows = rows_view table.rows.items;
+}

@@ -1,0 +1,70 @@
+//! Asking a table: the version of a day, lent or copied.
+
+ghost use Rattle.std.specs.Prelude.{◌≡◌, ◌≤◌, ◌-◌, ◌^◌, IfOk, length, min};
+ghost use Rattle.act_tree.specs.Seen.{tree_view};
+ghost use Rattle.law_register.specs.Answer.Versions.{version_view};
+ghost use Rattle.version_cache.specs.Rows.{rows_view};
+ghost use Rattle.version_cache.specs.Seen.{table_view};
+ghost use Rattle.version_cache.specs.Tables.{rows_until, version_on};
+
+use crate::kept_version::KeptVersion;
+use crate::making::last_kept;
+use crate::{Row, Table};
+use desk_base::{Day, Memory};
+use law_register::{Reading, Version};
+use std::alloc::Global;
+
+fn count_until(rows: &[Row], day: Day) -> usize
+    ensures count { result ≡ length (rows_until day (rows_view rows.now)) }
+    ensures most { result ≤ length rows.now }
+{
+    let mut count = 0;
+    for row in rows {
+        if row.day <= day {
+            count += 1;
+        }
+    }
+    count
+}
+
+impl Table {
+    /// The reading in which it was made.
+    pub fn reading(&self) -> Reading
+        ensures { result ≡ (table_view self.now).reading }
+    {
+        self.reading
+    }
+
+    /// How many rows have a day that is not after this one. It takes no memory.
+    pub fn breakpoint(&self, day: Day) -> usize
+        ensures { result ≡ length (rows_until day (table_view self.now).rows) }
+    {
+        count_until(self.rows.as_slice(), day)
+    }
+
+    pub(crate) fn kept_on(&self, day: Day) -> &KeptVersion
+        ensures { version_view result.now.version ≡ version_on (table_view self.now) day }
+    {
+        let rows = self.rows.as_slice();
+        let count = count_until(rows, day);
+        let parts = rows.split_at(count);
+        last_kept(&self.enacted, parts.0)
+    }
+
+    /// The version of a day. It takes no memory.
+    pub fn on(&self, day: Day) -> &Version
+        ensures version { version_view result.now ≡ version_on (table_view self.now) day }
+        ensures changes { (tree_view result.now.tree).changes ≡ min (length result.now.applied) (2 ^ 64 - 1) }
+    {
+        &self.kept_on(day).version
+    }
+
+    /// The version of a day, in memory of its own.
+    pub fn at(&self, alloc: Global, day: Day) -> Result<Version, Memory>
+        ensures version { IfOk result (λ version. version_view version ≡ version_on (table_view self.now) day) }
+        ensures changes { IfOk result
+            (λ version. (tree_view version.tree).changes ≡ min (length version.applied) (2 ^ 64 - 1)) }
+    {
+        self.on(day).copy(alloc)
+    }
+}

@@ -1,0 +1,49 @@
+//! What holds of the days of a work, and of tables. Each law is a function that does nothing, whose clause is the law.
+
+ghost use Rattle.std.specs.Prelude.{◌≡◌, ◌++◌, ◌∷◌, [], ℕ, List, Some, true};
+ghost use Rattle.law_register.specs.declared.answer.question.Reading.{Reading as ReadingValue};
+ghost use Rattle.law_register.specs.declared.register.entry.Entry.{Entry};
+ghost use Rattle.law_register.specs.declared.register.known.Known.{Known as KnownValue};
+ghost use Rattle.law_register.specs.Answer.Breakpoints.{breakpoints};
+ghost use Rattle.law_register.specs.Answer.Order.{order};
+ghost use Rattle.law_register.specs.Answer.Touched.{touched_day};
+ghost use Rattle.law_register.specs.Register.KnownIds.{known_at};
+ghost use Rattle.law_register.specs.Register.LawList.{front};
+ghost use Rattle.law_register.specs.Register.Verdicts.{is_legal};
+ghost use Rattle.version_cache.specs.Agreement.{Agree};
+ghost use Rattle.version_cache.specs.Days.{last_until, order_by};
+ghost use Rattle.version_cache.specs.Seen.{table_view};
+ghost use Rattle.version_cache.specs.Tables.{IsRight, IsRightBefore, table_of};
+
+use crate::Table;
+use desk_base::Day;
+use law_register::{Known, Reading};
+
+/// Between two breakpoints the text stands still: what bears on a day, and in what order, is what bears on the last breakpoint that
+/// is not after it; before the first breakpoint nothing bears.
+pub fn text_stands_still(_known: &Known, _reading: Reading)
+    ensures { (day : ℕ) → order _known.now _reading day
+        ≡ order_by _known.now _reading (last_until day (breakpoints _known.now)) }
+{}
+
+/// A table with a row for each breakpoint gives on every day what a replay from scratch gives.
+pub fn rows_of_breakpoints_suffice(_known: &Known, _reading: Reading)
+    ensures { IsRight _known.now (table_of _known.now _reading) }
+{}
+
+/// A table that is right for what was known is right before a day for what is known now, where both agree before that day.
+pub fn agreeing_views_share_tables(_old: &Known, _new: &Known, _touched: Day, _table: &Table)
+    requires right { IsRight _old.now (table_view _table.now) }
+    requires agree { Agree _old.now _new.now (table_view _table.now).reading (Some _touched) }
+    ensures { IsRightBefore _new.now _touched (table_view _table.now) }
+{}
+
+/// Nothing changes before the touched day: of entries that were each accepted behind those before it, and one entry more, what is
+/// known of a work without it and with it agrees before the day that it touches, and on all days where it touches none.
+pub fn nothing_changes_before_the_touched_day()
+    ensures { (entries : List Entry) (entry : Entry) (work : List ℕ) (reading : ReadingValue) (old new : KnownValue)
+        → is_legal entries ≡ true
+        → known_at entries work (front entries) ≡ Some old
+        → known_at (entries ++ entry ∷ []) work (front (entries ++ entry ∷ [])) ≡ Some new
+        → Agree old new reading (touched_day entries entry) }
+{}

@@ -1,0 +1,151 @@
+//! Making: the rows of a table, each continued from the one before where the same modifications come first.
+
+ghost use Rattle.std.specs.Prelude.{◌≡◌, ◌+◌, ◌≤◌, ◌++◌, [], false, IfOk, OnOk, length};
+ghost use Rattle.law_register.specs.Answer.Costs as costs;
+ghost use Rattle.law_register.specs.Answer.Replay.{as_enacted, replayed};
+ghost use Rattle.law_register.specs.Answer.Soundness.{IsSound, id_twice};
+ghost use Rattle.law_register.specs.Answer.Versions.{version_view};
+ghost use Rattle.version_cache.specs.Rows.{rows_view};
+ghost use Rattle.version_cache.specs.Tables.{last_version, rows_on};
+
+use crate::Row;
+use crate::kept_version::KeptVersion;
+use desk_base::{Day, Id, Memory, Steps};
+use law_register::{Ids, Known, Reading, Replayer, continue_replay, enact};
+use std::alloc::Global;
+use std::sync::ledger::Ledger;
+
+/// What rows are made from.
+#[derive(Debug, Drop)]
+pub struct Course<'a> {
+    /// What is known of the work.
+    pub known: &'a Known,
+    /// What counts as bearing.
+    pub reading: Reading,
+    /// The act as enacted.
+    pub enacted: &'a KeptVersion,
+}
+
+/// Where rows are made on from: the ids that bear before them, and the version that these make.
+#[derive(Debug, Drop)]
+pub struct Start<'a> {
+    /// The ids, in order.
+    pub ids: Ids,
+    /// Their version.
+    pub last: &'a KeptVersion,
+}
+
+/// The act as enacted, kept.
+pub fn keep_enacted(alloc: Global, known: &Known) -> Result<KeptVersion, Memory>
+    requires { IsSound known.now }
+    ensures { IfOk result (λ kept. version_view kept.version ≡ as_enacted known.now.act) }
+{
+    let version = enact(alloc, &known.act)?;
+    Ok(KeptVersion { version })
+}
+
+fn begins_with(firsts: &[Id], ids: &[Id]) -> bool
+    ensures { result ≡ costs.begins_with firsts.now ids.now }
+{
+    if ids.len() < firsts.len() {
+        return false;
+    }
+    for index in 0..firsts.len() {
+        if firsts[index] != ids[index] {
+            return false;
+        }
+    }
+    true
+}
+
+fn continued<L: Ledger>(
+    alloc: Global,
+    known: &Known,
+    kept: &KeptVersion,
+    ids: &[Id],
+    steps: &mut Steps<L>,
+) -> Result<KeptVersion, Memory>
+    requires sound { IsSound known.now }
+    requires apart { id_twice (kept.now.version.applied ++ ids.now) ≡ false }
+    ensures version { IfOk result (λ k. version_view k.version
+        ≡ replayed known.now.mods (version_view kept.now.version) ids.now) }
+    ensures steps { steps.new ≤ steps.old + length ids.now }
+{
+    let copy = kept.version.copy(alloc)?;
+    let version = continue_replay(alloc, &known.mods, copy, ids, steps)?;
+    Ok(KeptVersion { version })
+}
+
+fn version_after<L: Ledger>(
+    alloc: Global,
+    course: &Course<'_>,
+    before: &[Id],
+    last: &KeptVersion,
+    ids: &[Id],
+    steps: &mut Steps<L>,
+) -> Result<KeptVersion, Memory>
+    requires sound { IsSound course.now.known.now }
+    requires enacted { version_view course.now.enacted.now.version ≡ as_enacted course.now.known.now.act }
+    requires last { version_view last.now.version
+        ≡ replayed course.now.known.now.mods (as_enacted course.now.known.now.act) before.now }
+    requires once { id_twice ids.now ≡ false }
+    ensures version { IfOk result (λ kept. version_view kept.version
+        ≡ replayed course.now.known.now.mods (as_enacted course.now.known.now.act) ids.now) }
+    ensures steps { steps.new ≤ steps.old + costs.ids_applied before.now ids.now }
+{
+    if begins_with(before, ids) {
+        let parts = ids.split_at(before.len());
+        continued(alloc, course.known, last, parts.1, steps)
+    } else {
+        continued(alloc, course.known, course.enacted, ids, steps)
+    }
+}
+
+/// The version of the last of these rows, or the one before them.
+pub fn last_kept<'a>(last: &'a KeptVersion, rows: &'a [Row]) -> &'a KeptVersion
+    ensures { version_view result.now.version ≡ last_version (version_view last.now.version) (rows_view rows.now) }
+{
+    match rows.last() {
+        Some(row) => &row.kept,
+        None => last,
+    }
+}
+
+/// Adds a row for each of these days.
+pub fn add_rows<P: Replayer, L: Ledger>(
+    alloc: Global,
+    replayer: &P,
+    course: &Course<'_>,
+    start: Start<'_>,
+    days: &[Day],
+    rows: &mut Vec<Row>,
+    steps: &mut Steps<L>,
+) -> Result<(), Memory>
+    requires sound { IsSound course.now.known.now }
+    requires enacted { version_view course.now.enacted.now.version ≡ as_enacted course.now.known.now.act }
+    requires last { version_view start.last.now.version
+        ≡ replayed course.now.known.now.mods (as_enacted course.now.known.now.act) start.ids }
+    requires none { rows_view rows.old.items ≡ [] }
+    ensures rows { OnOk result (rows_view rows.new.items
+        ≡ rows_on course.now.known.now course.now.reading days.now) }
+    ensures steps { steps.new
+        ≤ steps.old + costs.cost_after course.now.known.now course.now.reading 0 start.entry.ids days.now }
+{
+    let Start { ids, last } = start;
+    let mut before = ids;
+    for day in days {
+        let ids = replayer.order_at(alloc, course.known, course.reading, *day)?;
+        let so_far = last_kept(last, rows.as_slice());
+        let kept = version_after(
+            alloc,
+            course,
+            before.as_slice(),
+            so_far,
+            ids.as_slice(),
+            steps,
+        )?;
+        rows.push(Row { day: *day, kept })?;
+        before = ids;
+    }
+    Ok(())
+}
