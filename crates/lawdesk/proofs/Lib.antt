@@ -1,4 +1,8 @@
 pub mod Reading
+pub mod Stepping
+pub mod Outliving
+pub mod Serving
+pub mod Batches
 pub mod Wholes
 pub mod Telling
 pub mod Statuses

@@ -13,7 +13,7 @@ is_written : (written after : Option (List ℕ)) (bytes : List ℕ) (done : Unit
 is_written None after bytes done h = tt
 is_written (Some before) after bytes done h = h
 
-is_front : (written after : Option (List ℕ)) (bytes : List ℕ) (fault : Failed) → Appended {E = Failed} written after bytes (Err fault) → AppendsFront written after bytes
+pub is_front : (written after : Option (List ℕ)) (bytes : List ℕ) (fault : Failed) → Appended {E = Failed} written after bytes (Err fault) → AppendsFront written after bytes
 is_front None after bytes fault h = tt
 is_front (Some before) after bytes fault h = h
 

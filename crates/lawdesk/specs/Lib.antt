@@ -1,8 +1,10 @@
 pub mod Entering
 pub mod Asking
+pub mod Batching
 pub mod Checking
 pub mod Input
 pub mod Jobs
+pub mod Outliving
 pub mod Stops
 pub mod Reports
 pub mod Runs

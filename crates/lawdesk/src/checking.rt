@@ -29,8 +29,8 @@ fn report_register(alloc: Global, register: &Register) -> Result<Report, Memory>
     })
 }
 
-// The report of what keeps a register from being opened.
-fn report_damage(alloc: Global, damage: Damage) -> Result<Report, Memory>
+/// The report of what keeps a register from being opened.
+pub fn report_damage(alloc: Global, damage: Damage) -> Result<Report, Memory>
     ensures { IfOk result (λ report. report_view report ≡ told_damage damage) }
 {
     Ok(Report {

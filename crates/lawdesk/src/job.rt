@@ -1,7 +1,7 @@
 //! Job: what the words of the command line ask for.
 
 ghost use Rattle.std.specs.Prelude.{◌≡◌, map, string_bytes};
-ghost use Rattle.lawdesk.specs.Jobs.{check_job, job_of, text_job};
+ghost use Rattle.lawdesk.specs.Jobs.{job_of, text_job, word_job};
 
 use desk_base::Day;
 use law_register::Reading;
@@ -22,6 +22,8 @@ pub enum Job {
     Text(TextJob),
     /// Open the register that is kept, and say how many entries it has, or what is damaged.
     Check,
+    /// Serve the requests of the source over the register that is kept.
+    Batch,
 }
 
 // The job of the text on a day, where the words name a day and a reading.
@@ -35,14 +37,16 @@ fn text_job(date: &str, reading: Option<Reading>) -> Option<Job>
 }
 
 // The job that one word asks for.
-fn check_job(word: &str) -> Option<Job>
-    ensures { result ≡ check_job word.now }
+fn word_job(word: &str) -> Option<Job>
+    ensures { result ≡ word_job word.now }
 {
     if word == "check" {
-        Some(Job::Check)
-    } else {
-        None
+        return Some(Job::Check);
     }
+    if word == "batch" {
+        return Some(Job::Batch);
+    }
+    None
 }
 
 impl Job {
@@ -51,7 +55,7 @@ impl Job {
         ensures { result ≡ job_of (map string_bytes words.now) }
     {
         if words.len() == 1 {
-            return check_job(words[0].as_str());
+            return word_job(words[0].as_str());
         }
         if words.len() < 2 || words.len() > 3 || words[0].as_str() != "text" {
             return None;

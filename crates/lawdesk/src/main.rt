@@ -1,6 +1,7 @@
 //! The program of the desk.
 #![tactic(auto)]
 
+mod batching;
 mod checking;
 mod entering;
 mod input;
@@ -17,8 +18,9 @@ ghost use Rattle.std.specs.declared.io.ErrorKind.TheVariants.{OutOfMemory};
 ghost use Rattle.lawdesk.specs.Jobs.{job_of};
 ghost use Rattle.lawdesk.specs.Statuses.{IsStatus};
 
-use desk_base::{Memory, Reading, Steps, UtcClock, Writing};
-use law_keeper::MapKeeper;
+use desk_base::{Reading, Steps, UtcClock, Writing};
+use law_journal::FileDisk;
+use law_keeper::{JournalKeeper, Keeper};
 use run::run;
 use std::alloc::Global;
 use std::env;
@@ -31,7 +33,12 @@ use std::time::Clock;
 
 const USAGE: &str =
     "usage: lawdesk text DATE [force|efficacy], with DATE as 2011-01-01 and the dossier on standard input; \
-    or lawdesk check";
+    lawdesk batch, with requests there; or lawdesk check";
+
+/// The journal in the working folder, which `batch` and `check` open.
+const JOURNAL: &str = "lawdesk.jnl";
+
+const HELD: &str = "lawdesk: another process holds lawdesk.jnl";
 
 // The words of the command line, without the program's name.
 fn words(rt: &HostRuntime) -> io::Result<Vec<String>> {
@@ -43,13 +50,13 @@ fn words(rt: &HostRuntime) -> io::Result<Vec<String>> {
 }
 
 // Runs the words over a reader, a writer, a keeper and the machine's clock, with a count of steps that begins here.
-fn run_over<L: Ledger, H: Threads + Clock, R: Read + Drop, W: Write + Drop>(
+fn run_over<L: Ledger, H: Threads + Clock, R: Read + Drop, W: Write + Drop, K: Keeper>(
     rt: &H,
     alloc: Global,
     words: &[String],
     reader: R,
     writer: W,
-    mut keeper: MapKeeper,
+    keeper: &mut K,
     blank: Blank,
 ) -> u8
     requires name { blank.name ≡ L.name }
@@ -67,7 +74,7 @@ fn run_over<L: Ledger, H: Threads + Clock, R: Read + Drop, W: Write + Drop>(
         words,
         &mut source,
         &mut sink,
-        &mut keeper,
+        keeper,
         &mut clock,
         &mut steps,
     )
@@ -85,21 +92,24 @@ fn refused(kind: ErrorKind) -> u8
 }
 
 fn main(rt: HostRuntime) -> ExitCode {
-    let status = match (words(&rt), MapKeeper::new(rt.alloc(), &[])) {
-        (Ok(words), Ok(keeper)) => run_over::<Brand, _, _, _>(
+    let mut keeper = JournalKeeper::new(rt.alloc(), FileDisk::new(&rt, JOURNAL));
+    let status = match words(&rt) {
+        Ok(words) => run_over::<Brand, _, _, _, _>(
             &rt,
             rt.alloc(),
             words.as_slice(),
             rt.stdin(),
             rt.stdout(),
-            keeper,
+            &mut keeper,
             Blank::new(1),
         ),
-        (Err(error), _) => refused(error.kind()),
-        (_, Err(Memory)) => refused(ErrorKind::OutOfMemory),
+        Err(error) => refused(error.kind()),
     };
     if status == 2 {
         let _ = eprintln!(rt; "{USAGE}");
+    }
+    if keeper.disk().is_held() {
+        let _ = eprintln!(rt; "{HELD}");
     }
     ExitCode::from(status)
 }

@@ -35,7 +35,7 @@ fn report_answer(alloc: Global, told: Result<Answer, AskFault>) -> Result<Report
         }),
         Err(AskFault::Query(rule)) => Ok(Report {
             status: 9,
-            bytes: line(put_query_rule(alloc, rule)?)?,
+            bytes: line(put_query_rule(alloc, &rule)?)?,
         }),
         Err(AskFault::Memory) => Err(Memory),
     }
@@ -62,7 +62,7 @@ fn report_rule(alloc: Global, rule: Rule) -> Result<Report, Memory>
 {
     Ok(Report {
         status: 9,
-        bytes: line(put_rule(alloc, rule)?)?,
+        bytes: line(put_rule(alloc, &rule)?)?,
     })
 }
 

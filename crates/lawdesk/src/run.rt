@@ -2,12 +2,14 @@
 
 ghost use Rattle.std.specs.Prelude.{◌≡◌, ◌↔◌, None, Some, map, string_bytes};
 ghost use Rattle.lawdesk.specs.Jobs.{job_of};
+ghost use Rattle.lawdesk.specs.Batching.{RanBatch};
 ghost use Rattle.lawdesk.specs.Checking.{RanCheck};
 ghost use Rattle.lawdesk.specs.Runs.{RanText};
 ghost use Rattle.lawdesk.specs.Statuses.{IsStatus};
-ghost use Rattle.lawdesk.specs.declared.job.Job.TheVariants.{Check, Text};
+ghost use Rattle.lawdesk.specs.declared.job.Job.TheVariants.{Batch, Check, Text};
 ghost use Rattle.lawdesk.specs.declared.job.TextJob.{TextJob};
 
+use crate::batching::batch;
 use crate::checking::check;
 use crate::job::Job;
 use crate::texting::text;
@@ -43,10 +45,16 @@ pub fn run<S: Source, W: Sink, K: Keeper, C: Clock, L: Ledger>(
         → RanCheck K.holding K.faults W.written W.faults keeper.old keeper.new sink.old sink.new result }
     ensures check_alone { job_of (map string_bytes words.now) ≡ Some Check
         → (source.new ≡ source.old) × (clock.new ≡ clock.old) }
+
+    // The requests of the source, served over what the keeper has.
+    ensures batch { job_of (map string_bytes words.now) ≡ Some Batch
+        → RanBatch S.left S.faults W.written W.faults K.holding K.faults C.days source.old source.new
+        sink.old sink.new keeper.old keeper.new clock.old clock.new steps.old steps.new result }
 {
     match Job::from_words(words) {
         None => 2,
         Some(Job::Text(job)) => text(alloc, job, source, sink, steps),
         Some(Job::Check) => check(alloc, sink, keeper),
+        Some(Job::Batch) => batch(alloc, source, sink, keeper, clock, steps),
     }
 }

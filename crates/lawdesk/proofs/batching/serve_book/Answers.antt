@@ -1,0 +1,29 @@
+-- The office that is closed is the one that was opened, with what was served over it.
+use Rattle.std.proofs.Common.{◌∙◌, ap, subst, sym, ℕ, List}
+use Rattle.law_office.specs.Offices.{IsNamed, pending_of}
+use Rattle.law_office.specs.Opening.{opened_of}
+use Rattle.law_register.specs.Desk.States.{IsFoundOf}
+use Rattle.lawdesk.proofs.Serving.{serves_over}
+use Rattle.lawdesk.proofs.batching.serve_book.Goals as goal
+
+pub returns-clause-served : goal.returns-clause-served
+returns-clause-served g c =
+    let named =
+    subst (λ (names : List ℕ). IsNamed names c.close-keeper.result.ghost_name)
+    (c.serve_desk-served.ensures.origin ∙ c.new-office.ensures.origin) c.close-keeper.ensures.name in
+    let kept = c.keeper-1.given.1 (sym named) in
+    let closed = c.serve_desk-served.new.desk in
+    serves_over g.S.Source.left g.W.Sink.written g.K.Keeper.holding g.K.Keeper.faults g.C.Clock.days
+    g.met.K.Keeper.is_holding c.args.book c.args.keeper.now c.args.clock.now _ c.requires.right c.requires.held
+    c.requires.none_pending c.new-office.result
+    (record {
+      keeper_is = c.new-office.ensures.keeper;
+      clock_is = c.new-office.ensures.clock;
+      entries_are = c.new-office.ensures.entries;
+      none_pending = c.new-office.ensures.pending ∙ ap pending_of c.requires.none_pending;
+      no_marks = c.new-office.ensures.marks ∙ c.requires.no_marks;
+    })
+    _ _ _ _ _ _ _ closed c.serve_desk-served.ensures.served (kept ∙ c.close-keeper.ensures.keeper)
+    (subst (λ (k : g.row.K.Denot). (g.K.Keeper.holding k).tells
+    → IsFoundOf closed.entries closed.pending (opened_of (g.K.Keeper.holding k).list))
+    (sym kept) c.close-keeper.ensures.found)

@@ -1,0 +1,126 @@
+-- What a run of `batch` leaves: the requests that a source has are served over the register that a keeper keeps.
+use Rattle.std.specs.Prelude.{ℕ, ◌≡◌, ◌≢◌, ◌++◌, List, [], Option, None, Ok, ◌⊎◌, Bool, if◌then◌else◌}
+use Rattle.desk_base.specs.Streams.{AppendsFront, Rose}
+use Rattle.law_http.specs.Streaming.{IsStreamed}
+use Rattle.law_http.specs.declared.streaming.Served.{Served}
+use Rattle.law_http.specs.declared.streaming.StreamEnd.{StreamEnd}
+use Rattle.law_http.specs.declared.streaming.StreamEnd.TheVariants as ends
+use Rattle.law_keeper.specs.Keepers.{Holding, Keeps}
+use Rattle.law_office.specs.Crashing.{crashes_of}
+use Rattle.law_office.specs.Offices.{OfficeState, desk_of}
+use Rattle.law_office.specs.Opening.{HasRefusalCause, Refuses, opened_of}
+use Rattle.law_register.specs.Desk.States.{IsFoundOf}
+use Rattle.law_register.specs.declared.desk.damage.Damage.{Damage}
+use Rattle.law_register.specs.declared.desk.open_fault.OpenFault.{OpenFault}
+use Rattle.law_register.specs.declared.desk.open_fault.OpenFault.TheVariants as fails
+use Rattle.law_register.specs.declared.register.entry.Entry.{Entry}
+use Rattle.lawdesk.specs.Checking.{told_damage}
+use Rattle.lawdesk.specs.Outliving.{BeginWith, OutliveAll}
+use Rattle.lawdesk.specs.Runs.{IsWritten}
+
+-- the statuses of `batch`: 0 each request was answered, 1 what came behind the last was refused as no request, 3 and 4
+-- a source and a sink that failed, 5 a keeper that failed when it was opened, or of which some response says that it
+-- did, 6 what is kept is damaged, 7 for want of memory
+abbrev pub IsBatchStatus : ℕ → Type 0
+IsBatchStatus status = (status ≡ 0) ⊎ ((status ≡ 1) ⊎ ((status ≡ 3) ⊎ ((status ≡ 4) ⊎ ((status ≡ 5)
+    ⊎ ((status ≡ 6) ⊎ (status ≡ 7))))))
+
+-- the status of a stream that ended so: where some response says that the keeper failed, that comes before how the
+-- stream was closed
+abbrev pub stream_status : StreamEnd → Bool → ℕ
+stream_status ends.End faulted = if faulted then 5 else 0
+stream_status (ends.Refused refusal) faulted = if faulted then 5 else 1
+stream_status ends.ReadFault faulted = 3
+stream_status ends.WriteFault faulted = 4
+stream_status ends.Memory faulted = 7
+
+-- damage is told by 6 and its line; a sink that fails makes it 4, with a front part of the line; or there was not
+-- enough memory for the line
+abbrev pub TellsDamage : Damage → Option (List ℕ) → Option (List ℕ) → ℕ → Type 0
+TellsDamage damage before after status =
+    ((status ≡ 6) × IsWritten before after (told_damage damage).bytes)
+    ⊎ (((status ≡ 4) × AppendsFront before after (told_damage damage).bytes) ⊎ (status ≡ 7))
+
+-- what is told of an opening that was refused
+abbrev pub TellsRefusal : OpenFault → Option (List ℕ) → Option (List ℕ) → ℕ → Type 0
+TellsRefusal (fails.Damaged damage) before after status = TellsDamage damage before after status
+TellsRefusal fails.Failed before after status = status ≡ 5
+TellsRefusal fails.Memory before after status = status ≡ 7
+
+-- an office of these entries that is new: it has these devices, no entry is pending, and there is no mark
+pub record IsNewOffice {K C : Type 0} (keeper : K) (clock : C) (entries : List Entry) (office : OfficeState K C)
+    : Type 0 where
+  pub keeper_is : office.keeper ≡ keeper
+  pub clock_is : office.clock ≡ clock
+  pub entries_are : office.entries ≡ entries
+  pub none_pending : office.pending ≡ None
+  pub no_marks : office.marks ≡ []
+
+-- what the source had left was served over a keeper that was opened with these entries, and the office was closed;
+-- so many steps were taken before, and after
+pub record ServesOver {S W K C : Type 0} (left : S → Option (List ℕ)) (written : W → Option (List ℕ))
+    (holding : K → Holding) (keeper_faults : K → ℕ) (days : C → Option (ℕ → ℕ))
+    (source : S) (sink sink_new : W) (keeper keeper_new : K) (clock : C) (steps later : ℕ)
+    (entries : List Entry) (served : Served) : Type 0 where
+  -- the office as it was opened, and as it was closed
+  pub office : OfficeState K C
+  pub closed : OfficeState K C
+  pub is_new : IsNewOffice keeper clock entries office
+  -- what was heard of all that the source had left, how each request was answered, and what was written
+  pub streamed : IsStreamed (desk_of keeper_faults days) (λ o. crashes_of (holding o.keeper))
+      (left source) (written sink) (written sink_new) office closed steps later served
+  -- at the end the entries begin with those that were opened, and an opening would find them, with the one that is
+  -- pending behind them or without it
+  pub begin : BeginWith closed.entries entries
+  pub kept : keeper_new ≡ closed.keeper
+  pub found : (holding keeper_new).tells
+      → IsFoundOf closed.entries closed.pending (opened_of (holding keeper_new).list)
+  -- where the keeper tells it: from the opening on a crash at any moment leaves a front of the entries at the end, or
+  -- one more that was answered 503, and from the moment of each response on what was acknowledged by then
+  pub outlives : (holding keeper).tells → (holding keeper).tells_crash
+      → OutliveAll (desk_of keeper_faults days) (λ o. crashes_of (holding o.keeper))
+      streamed.exchanges streamed.exchanges office closed streamed.answered
+
+-- a source, a sink, a keeper and a clock before and after, which clauses see by these functions, and so many steps
+module _ {S W K C : Type 0} (left : S → Option (List ℕ)) (read_faults : S → ℕ)
+    (written : W → Option (List ℕ)) (write_faults : W → ℕ)
+    (holding : K → Holding) (keeper_faults : K → ℕ) (days : C → Option (ℕ → ℕ))
+    (source source_new : S) (sink sink_new : W) (keeper keeper_new : K) (clock clock_new : C) (steps later : ℕ) where
+  -- no register was opened, and nothing was served
+  pub record IsUnopened (status : ℕ) : Type 0 where
+    pub fault : OpenFault
+    pub opened : (holding keeper).tells → Refuses fault (opened_of (holding keeper).list)
+    pub cause : HasRefusalCause (keeper_faults keeper) (keeper_faults keeper_new) fault
+    pub told : TellsRefusal fault (written sink) (written sink_new) status
+    pub unwritten : (status ≡ 5) ⊎ (status ≡ 7) → sink_new ≡ sink
+    -- the payloads stay, and nothing was asked of the source and the clock
+    pub same : Keeps (holding keeper) (holding keeper_new)
+    pub same_source : source_new ≡ source
+    pub same_clock : clock_new ≡ clock
+
+  -- the register was opened, and a stream was served over it
+  pub record IsServed (status : ℕ) : Type 0 where
+    -- the keeper as it was opened, and the entries that its payloads stand for
+    pub opened : K
+    pub entries : List Entry
+    pub stand_for : (holding keeper).tells → opened_of (holding keeper).list ≡ Ok entries
+    pub same : Keeps (holding keeper) (holding opened)
+    pub faults : keeper_faults opened ≡ keeper_faults keeper
+    pub served : Served
+    pub serves : ServesOver left written holding keeper_faults days
+        source sink sink_new opened keeper_new clock steps later entries served
+    pub status_told : status ≡ stream_status served.end served.faulted
+
+  -- what a run of `batch` leaves
+  pub record RanBatch (status : ℕ) : Type 0 where
+    pub status_is : IsBatchStatus status
+    pub went : IsUnopened status ⊎ IsServed status
+    -- each fault has its cause; want of memory has none
+    pub source_cause : status ≡ 3 → Rose (read_faults source) (read_faults source_new)
+    pub sink_cause : status ≡ 4 → Rose (write_faults sink) (write_faults sink_new)
+    pub keeper_cause : status ≡ 5 → Rose (keeper_faults keeper) (keeper_faults keeper_new)
+    -- no count rose but that of the device which the status names; that of a keeper whose failures were told may have
+    -- risen before a stream or memory was wanting
+    pub source_stays : status ≢ 3 → read_faults source_new ≡ read_faults source
+    pub sink_stays : status ≢ 4 → write_faults sink_new ≡ write_faults sink
+    pub keeper_stays : (status ≡ 0) ⊎ (status ≡ 1) → keeper_faults keeper_new ≡ keeper_faults keeper

@@ -1,0 +1,130 @@
+//! Batching: the requests that a source has are served over the register that is kept, one after another.
+
+ghost use Rattle.std.specs.Prelude.{◌≡◌, ◌≢◌, ◌⊎◌, None, [], if◌then◌else◌};
+ghost use Rattle.desk_base.specs.Streams.{Rose};
+ghost use Rattle.law_http.specs.Streaming.{HasReadCause, HasWriteCause, IsStreamed};
+ghost use Rattle.law_office.specs.Offices.{HoldsBook, IsRight};
+ghost use Rattle.lawdesk.specs.Batching.{RanBatch, ServesOver, TellsDamage, TellsRefusal, stream_status};
+
+use crate::checking::report_damage;
+use desk_base::{Clock, Memory, Pair, Sink, Source, Steps};
+use law_http::{Served, StreamEnd, serve_stream};
+use law_keeper::Keeper;
+use law_office::{Book, Office};
+use law_register::{Damage, Desk, OpenFault};
+use std::alloc::Global;
+use std::sync::ledger::Ledger;
+
+// Writes what keeps the register from being opened, and gives the status to end with.
+fn tell_damage<W: Sink>(alloc: Global, sink: &mut W, damage: Damage) -> u8
+    ensures told { TellsDamage damage (W.written sink.old) (W.written sink.new) result }
+    ensures unwritten { result ≡ 7 → sink.new ≡ sink.old }
+    ensures cause { result ≡ 4 → Rose (W.faults sink.old) (W.faults sink.new) }
+    ensures stays { result ≢ 4 → W.faults sink.new ≡ W.faults sink.old }
+{
+    match report_damage(alloc, damage) {
+        Ok(report) => match sink.write_all(report.bytes.as_slice()) {
+            Ok(()) => report.status,
+            Err(_) => 4,
+        },
+        Err(Memory) => 7,
+    }
+}
+
+// The status of an opening that was refused. Damage is written.
+fn tell_refusal<W: Sink>(alloc: Global, sink: &mut W, fault: OpenFault) -> u8
+    ensures told { TellsRefusal fault (W.written sink.old) (W.written sink.new) result }
+    ensures unwritten { (result ≡ 5) ⊎ (result ≡ 7) → sink.new ≡ sink.old }
+    ensures cause { result ≡ 4 → Rose (W.faults sink.old) (W.faults sink.new) }
+    ensures stays { result ≢ 4 → W.faults sink.new ≡ W.faults sink.old }
+{
+    match fault {
+        OpenFault::Damaged(damage) => tell_damage(alloc, sink, damage),
+        OpenFault::Failed => 5,
+        OpenFault::Memory => 7,
+    }
+}
+
+// The status of a stream that ended with `done`, unless some response says that the keeper failed.
+fn done_status(faulted: bool, done: u8) -> u8
+    ensures { result ≡ (if faulted then 5 else done) }
+{
+    if faulted { 5 } else { done }
+}
+
+// The status of a stream that was served.
+fn served_status(served: Served) -> u8
+    ensures { result ≡ stream_status served.end served.faulted }
+{
+    match served.end {
+        StreamEnd::End => done_status(served.faulted, 0),
+        StreamEnd::Refused(_) => done_status(served.faulted, 1),
+        StreamEnd::ReadFault => 3,
+        StreamEnd::WriteFault => 4,
+        StreamEnd::Memory => 7,
+    }
+}
+
+// Serves the requests of a source over a desk.
+fn serve_desk<S: Source, W: Sink, D: Desk, L: Ledger>(
+    alloc: Global,
+    source: &mut S,
+    sink: &mut W,
+    desk: &mut D,
+    steps: &mut Steps<L>,
+) -> Served
+    ensures served { IsStreamed D.state D.crashes (S.left source.old) (W.written sink.old) (W.written sink.new)
+        desk.old desk.new steps.old steps.new result }
+    ensures reads { HasReadCause result.end (S.faults source.old) (S.faults source.new) }
+    ensures writes { HasWriteCause result.end (W.faults sink.old) (W.faults sink.new) }
+    ensures origin { (D.state desk.new).origin ≡ (D.state desk.old).origin }
+{
+    let mut link = Pair::new(source, sink);
+    serve_stream(alloc, &mut link, desk, steps)
+}
+
+// Serves the requests of a source over the office of a book that was just opened.
+fn serve_book<S: Source, W: Sink, K: Keeper, C: Clock, L: Ledger>(
+    alloc: Global,
+    source: &mut S,
+    sink: &mut W,
+    keeper: &mut K,
+    clock: &mut C,
+    book: Book,
+    steps: &mut Steps<L>,
+) -> Served
+    requires right { IsRight book }
+    requires held { HoldsBook (K.holding keeper.old) (K.readiness keeper.old) book }
+    requires none_pending { book.pending ≡ None }
+    requires no_marks { book.marks.items ≡ [] }
+    ensures served { ServesOver S.left W.written K.holding K.faults C.days source.old sink.old sink.new
+        keeper.old keeper.new clock.old steps.old steps.new book.register.entries result }
+    ensures reads { HasReadCause result.end (S.faults source.old) (S.faults source.new) }
+    ensures writes { HasWriteCause result.end (W.faults sink.old) (W.faults sink.new) }
+{
+    let mut office = Office::new(keeper, clock, book);
+    let served = serve_desk(alloc, source, sink, &mut office, steps);
+    let _keeper = office.close();
+    served
+}
+
+/// Opens the register that is kept, serves the requests of the source over it, and gives the status to end with.
+pub fn batch<S: Source, W: Sink, K: Keeper, C: Clock, L: Ledger>(
+    alloc: Global,
+    source: &mut S,
+    sink: &mut W,
+    keeper: &mut K,
+    clock: &mut C,
+    steps: &mut Steps<L>,
+) -> u8
+    ensures { RanBatch S.left S.faults W.written W.faults K.holding K.faults C.days source.old source.new
+        sink.old sink.new keeper.old keeper.new clock.old clock.new steps.old steps.new result }
+{
+    match Book::open(alloc, keeper) {
+        Ok(book) => {
+            let served = serve_book(alloc, source, sink, keeper, clock, book, steps);
+            served_status(served)
+        }
+        Err(fault) => tell_refusal(alloc, sink, fault),
+    }
+}
