@@ -5,6 +5,7 @@ import subprocess
 
 import bearing
 import cases
+import checks
 from checks import PROGRAM, TOP, check, over_a_folder, read, run, to_a_full_device
 
 
@@ -34,10 +35,14 @@ def words():
 
 
 def checked():
-    """`check` of the register that is kept: the program keeps it in memory, so there is none. Nothing is read."""
-    check("a check", run(["check"], b""), (0, b"entries 0 law 0\n"))
-    check("a check reads nothing", over_a_folder([PROGRAM, "check"]), (0, b"entries 0 law 0\n"))
-    check("a check to a full device", to_a_full_device([PROGRAM, "check"], b""), 4)
+    """`check` of a register that is new. Nothing is read, and `text` touches no file."""
+    with checks.folder() as folder:
+        check("a text", run(["text", "2011-01-01"], b"{", cwd=folder)[0], 10)
+        check("the files of a text", os.listdir(folder), [])
+        check("a check", run(["check"], b"", cwd=folder), (0, b"entries 0 law 0\n"))
+        check("a check reads nothing", over_a_folder([PROGRAM, "check"], cwd=folder), (0, b"entries 0 law 0\n"))
+        check("a check to a full device", to_a_full_device([PROGRAM, "check"], b"", cwd=folder), 4)
+        check("the files of a check", os.listdir(folder), ["lawdesk.jnl"])
 
 
 def tables():

@@ -140,7 +140,7 @@ def padded(length):
 
 
 USAGE = (b"usage: lawdesk text DATE [force|efficacy], with DATE as 2011-01-01 and the dossier on standard input; "
-         b"or lawdesk check\n")
+         b"lawdesk batch, with requests there; or lawdesk check\n")
 
 # Words that are no form of the command line.
 NO_WORDS = [
@@ -150,6 +150,7 @@ NO_WORDS = [
     ["text", "2010-04-31"], ["text", "2010-00-10"], ["text", "2010-10-00"], ["text", "2010-10-32"], ["text", "2010-05-01 "],
     ["text", "2010-05-01\n"], ["text", "+010-05-01"], ["text", b"2010-05-0\xff"], ["--help"], ["help"], ["text", "--", "2010-05-01"], [""],
     ["check", "check"], ["check", "2010-05-01"], ["Check"], ["check", ""], ["checks"], ["--check"],
+    ["batch", "batch"], ["batch", "2010-05-01"], ["batch", ""], ["Batch"], ["batches"], ["--batch"], ["text", "batch"],
 ]
 
 

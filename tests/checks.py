@@ -1,6 +1,7 @@
 """What all checks share: where things are, a run of a program over a pipe, and the count of what passed."""
 import os
 import subprocess
+import tempfile
 
 TOP = os.path.dirname(os.path.dirname(os.path.abspath(__file__)))
 PROGRAM = os.path.join(TOP, "crates", "lawdesk", "out", "lawdesk")
@@ -22,14 +23,20 @@ def check(name, got, want):
         print(f"{name}: got {str(got)[:300]}, wanted {str(want)[:300]}")
 
 
+def folder():
+    """A folder for a run that is emptied afterwards, in memory where the machine has such a place: two syncs a command take long on a disk."""
+    place = "/dev/shm"
+    return tempfile.TemporaryDirectory(dir=place if os.path.isdir(place) and os.access(place, os.W_OK) else None)
+
+
 def read(*path):
     with open(os.path.join(TOP, *path), "rb") as file:
         return file.read()
 
 
-def run(words, given):
+def run(words, given, **settings):
     """The status of a run over a pipe, and what it wrote."""
-    done = subprocess.run([PROGRAM] + words, input=given, stdout=subprocess.PIPE, stderr=subprocess.PIPE, timeout=60)
+    done = subprocess.run([PROGRAM] + words, input=given, stdout=subprocess.PIPE, stderr=subprocess.PIPE, timeout=60, **settings)
     return done.returncode, done.stdout
 
 

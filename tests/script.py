@@ -9,11 +9,14 @@ import subprocess
 import tempfile
 
 import cases
+import checks
 from checks import SCRIPT, TOP, check, over_a_folder, read, to_a_full_device
 
 ANSWER = read("tests", "expected", "repeal-2011-01-01.out")
 EARLY = read("tests", "expected", "enacted-2010-04-30.out")
+REQUESTS, RESPONSES = read("examples", "desk.http"), read("examples", "desk.out")
 UNPROVED = (b"lawdesk: the proved program is not built yet (.ci/run builds it); this is the unproved build of the same source\n")
+JOURNAL = b"lawdesk: %s opens the journal lawdesk.jnl, which the proved program alone does; it is not built yet (.ci/run builds it)\n"
 NO_ANSWER = b"lawdesk: the unproved build gave no answer; .ci/run builds the program\n"
 NO_RT = b"lawdesk: the proved program is not built, and the command rt that builds it (.ci/run) is not on the path\n"
 
@@ -42,16 +45,19 @@ def faulty_words(line, where, **settings):
 def built():
     """Each status, the program built: by its path, and by a link from another folder."""
     given = read("examples", "repeal.json")
-    with tempfile.TemporaryDirectory() as folder:
-        link = os.path.join(folder, "desk")
-        os.symlink(SCRIPT, link)
-        for line, where in [(SCRIPT, "by the script"), (link, "by a link to it")]:
+    for linked in (False, True):
+        with checks.folder() as folder:
+            line, where = (os.path.join(folder, "desk"), "by a link to it") if linked else (SCRIPT, "by the script")
+            if linked:
+                os.symlink(SCRIPT, line)
             settings = {"cwd": folder}
             check(f"an answer {where}", run([line, "text", "2011-01-01"], given, **settings), (0, ANSWER, b""))
             check(f"a rule {where}", run([line, "text", "2010-04-30"], read("examples", "enacted.json"), **settings), (9, EARLY, b""))
             check(f"no dossier {where}", run([line, "text", "2011-01-01"], b"{", **settings), (10, cases.form(1), b""))
             check(f"a folder as input {where}", over_a_folder([line, "text", "2011-01-01"], **settings), (3, b""))
             check(f"a full device {where}", to_a_full_device([line, "text", "2011-01-01"], given, **settings), 4)
+            check(f"requests {where}", run([line, "batch"], REQUESTS, **settings), (0, RESPONSES, b""))
+            check(f"a part of a request {where}", run([line, "batch"], b"GET", **settings)[::2], (1, b""))
             faulty_words(line, where, **settings)
 
 
@@ -86,6 +92,8 @@ def not_built():
         line, settings = stubbed(folder, given, ANSWER, "run=ended status=0 runners=1 proved=no", 0)
         check("a folder as input, not built", over_a_folder([line, "text", "2011-01-01"], **settings), (3, b""))
         check("a full device, not built", to_a_full_device([line, "text", "2011-01-01"], given, **settings), 4)
+        for word in ("batch", "check"):
+            check(f"{word}, not built", run([line, word], REQUESTS, **settings), (127, b"", JOURNAL % word.encode()))
         faulty_words(line, "not built", **settings)
     with tempfile.TemporaryDirectory() as folder:
         line, settings = stubbed(folder, given, b"", "run=none proved=no", 2)
