@@ -12,7 +12,10 @@ pub mod JoinedTrees
 pub mod Keeping
 pub mod Limits
 pub mod Names
+pub mod NamedNodes
 pub mod Naming
+pub mod NumWalks
+pub mod NumsTaken
 pub mod OldOrBrought
 pub mod OneChange
 pub mod OnePlace

@@ -1,19 +1,21 @@
 //! What holds of every edit. Each law is a function that does nothing, whose clause is the law.
 
 ghost use Rattle.std.specs.Prelude.{◌≡◌, ◌↔◌, ◌||◌, ◌++◌, ℕ, IsTrue, List, [], ◌∷◌, None, false, true, nat_eq, option_map};
-ghost use Rattle.std.specs.List.{starts_with};
+ghost use Rattle.std.specs.List.{list_all, starts_with};
 ghost use Rattle.act_tree.specs.Branches.{branches_of};
 ghost use Rattle.act_tree.specs.Brought.{bringer, brought, has_brought};
-ghost use Rattle.act_tree.specs.Changes.{Step, any_holds, changed};
+ghost use Rattle.act_tree.specs.Changes.{Step, any_holds, changed, renumbered};
 ghost use Rattle.act_tree.specs.Eids.{all_enacted};
 ghost use Rattle.act_tree.specs.Faults.{fault_cause, first_cause, first_fault};
 ghost use Rattle.act_tree.specs.Seen.{tree_view, has_node, grafted_at, with_body};
 ghost use Rattle.act_tree.specs.declared.surveying.TheConstants.{NONE_THROUGHOUT};
 ghost use Rattle.act_tree.specs.Trees.{unchanged};
 ghost use Rattle.act_tree.specs.Wids.{all_wids, is_among, one_twice};
+ghost use Rattle.eid_paths.specs.Nums.{is_num};
 ghost use Rattle.textual_mods.specs.Edits.{applied, outcome_of};
 ghost use Rattle.textual_mods.specs.Insertions.{have_nums, insertion_fault};
 ghost use Rattle.textual_mods.specs.Laws.{tree_with, IsMade, twice_changed, wid_of_second, nums_before, stand_apart, edits_apart, LooksAtNoSibling, made_of};
+ghost use Rattle.textual_mods.specs.NumChanges.{renumbering_fault};
 ghost use Rattle.textual_mods.specs.Targets.{provision_named};
 ghost use Rattle.textual_mods.specs.declared.edit.TextualMod.{TextualMod as EditValue};
 ghost use Rattle.textual_mods.specs.declared.edit.TextualMod.TheVariants.{Join, Renumber, Split};
@@ -130,6 +132,16 @@ pub fn faults_of_insertions_are_told_before(tree: &Tree, parent: NodeId, by: Id,
     ensures { (place : ℕ) → first_cause (with_body tree.now (grafted_at tree.now parent place
         (brought by (branches_of nodes.now))))
         ≡ option_map fault_cause (insertion_fault tree.now parent (branches_of nodes.now)) }
+{}
+
+/// What can be held against a renumbering is told before it is made, by the levels that provisions get: of those that
+/// begin an eId two get one, or one gets a level of the text that none of them gives up; or so do siblings that begin
+/// none.
+pub fn faults_of_renumberings_are_told_before(tree: &Tree, pairs: &Pairs)
+    requires fits { first_cause (tree_view tree.now) ≡ None }
+    requires nums { list_all (λ pair. is_num pair.1) pairs.now ≡ true }
+    ensures { first_cause (with_body tree.now (renumbered pairs.now (tree_view tree.now).body))
+        ≡ option_map fault_cause (renumbering_fault (tree_view tree.now) pairs.now) }
 {}
 
 /// `==` holds of edits, and of pairs, exactly where they are equal.

@@ -10,6 +10,7 @@ mod held_back;
 mod inserting;
 mod joining;
 pub mod laws;
+mod num_changes;
 mod occurrences;
 mod outcome;
 mod pairs;
