@@ -1,5 +1,5 @@
 -- What the indexes of a register stand for.
-use Rattle.std.specs.Prelude.{◌≡◌, ◌+◌, ◌-◌, ◌≤◌, if◌then◌else◌, ℕ, ◌==◌, Bool, true, ◌&&◌, List, [], ◌∷◌, ◌++◌, not, length, filter, take, drop, slice_get, Option, Some, None, option_map, is_some}
+use Rattle.std.specs.Prelude.{◌≡◌, ◌+◌, ◌-◌, ◌≤◌, if◌then◌else◌, ℕ, ◌==◌, Bool, true, false, ◌&&◌, List, [], ◌∷◌, ◌++◌, not, length, filter, take, drop, slice_get, Option, Some, None, option_map, is_some}
 use Rattle.std.specs.List.{list_any}
 use Rattle.std.specs.Option.{option_and_then, option_map_or, option_or}
 use Rattle.std.specs.Str.{bytes_eq}
@@ -148,6 +148,13 @@ items_after entries at number (DraftAdd work body) ms = ms ++ record { item = nu
 items_after entries at number (DraftDrop item) ms = filter (λ m. not (m.item == item)) ms
 items_after entries at number (File work seen) ms = filter (λ m. not (marks_work entries work m)) ms
 items_after entries at number _ ms = ms
+
+-- a command leaves the items of every draft as they are
+abbrev pub leaves_drafts : Command → Bool
+leaves_drafts (DraftAdd work body) = false
+leaves_drafts (DraftDrop item) = false
+leaves_drafts (File work seen) = false
+leaves_drafts _ = true
 
 -- an id's mark after it is corrected by the entry at this index, and after it is withdrawn or restored
 abbrev pub corrected : ℕ → IdMark → IdMark

@@ -152,8 +152,7 @@ fn redrafted(mark: DrafterMark, entries: &[Entry], at: usize, command: &Command)
     }
 }
 
-/// Notes what a command of a drafter, at this index, makes of the draft.
-pub fn note_draft(
+fn redraft(
     drafters: &mut Drafters,
     drafter: &Drafter,
     entries: &[Entry],
@@ -179,6 +178,51 @@ pub fn note_draft(
     let had = put_drafter(drafters, drafter_key(drafter), mark_or_none(None));
     let mark = redrafted(mark_or_none(had), entries, at, command);
     put_drafter(drafters, drafter_key(drafter), mark);
+}
+
+fn leaves_drafts(command: &Command) -> bool
+    ensures { result ≡ spec.leaves_drafts command.now }
+{
+    !matches!(
+        command,
+        Command::DraftAdd { .. } | Command::DraftDrop { .. } | Command::File { .. }
+    )
+}
+
+// A mark takes a kilobyte, so one that would stay as it is is not moved.
+fn stays_as_it_is(drafters: &Drafters, drafter: &Drafter, command: &Command) -> bool
+    ensures { result ≡ (spec.leaves_drafts command.now && is_some (drafter_in drafters.now drafter.now)) }
+{
+    leaves_drafts(command) && drafters.get(&drafter_key(drafter)).is_some()
+}
+
+/// Notes what a command of a drafter, at this index, makes of the draft.
+pub fn note_draft(
+    drafters: &mut Drafters,
+    drafter: &Drafter,
+    entries: &[Entry],
+    at: usize,
+    command: &Command,
+)
+    requires room { 2 ≤ spare drafters.old }
+    requires few { length (items_in (drafter_in drafters.old drafter.now)) + additions command.now ≤ 64 }
+    requires small { added_of (drafter_in drafters.old drafter.now) ≤ 536870912 }
+    ensures added { (d : List ℕ) → added_of (drafter_in drafters.new d)
+        ≡ (if bytes_eq drafter.now d then added_of (drafter_in drafters.old d) + additions command.now
+        else added_of (drafter_in drafters.old d)) }
+    ensures items { (d : List ℕ) → items_in (drafter_in drafters.new d)
+        ≡ (if bytes_eq drafter.now d
+        then spec.items_after entries.now at (added_of (drafter_in drafters.old d) + 1) command.now
+        (items_in (drafter_in drafters.old d))
+        else items_in (drafter_in drafters.old d)) }
+    ensures present { (d : List ℕ) → is_some (drafter_in drafters.new d)
+        ≡ bytes_eq drafter.now d || is_some (drafter_in drafters.old d) }
+    ensures count { index_map_len drafters.new
+        ≡ index_map_len drafters.old + (if is_some (drafter_in drafters.old drafter.now) then 0 else 1) }
+{
+    if !stays_as_it_is(drafters, drafter, command) {
+        redraft(drafters, drafter, entries, at, command);
+    }
 }
 
 fn correct(ids: &mut KnownIds, id: Id, at: usize)

@@ -4,7 +4,7 @@ use Rattle.std.specs.Map.{lookup}
 use Rattle.law_register.specs.declared.register.indexes.DrafterMark.{DrafterMark}
 use Rattle.law_register.specs.Register.Indexes.{added_of, items_in}
 use Rattle.law_register.proofs.Puts.{bytes_are}
-use Rattle.law_register.proofs.register.marks.note_draft.Goals as goal
+use Rattle.law_register.proofs.register.marks.redraft.Goals as goal
 
 pub redrafted-mark-requires-clause-few : goal.redrafted-mark-requires-clause-few
 redrafted-mark-requires-clause-few c =
