@@ -3,22 +3,16 @@
 
 mod disk;
 mod file_disk;
-#[cfg(test)]
-mod file_tests;
 mod handle;
 mod history;
 mod journal;
 mod memory_disk;
 mod named_file;
-#[cfg(test)]
-mod noted_file;
 mod reading;
 mod recovering;
 mod scanning;
 mod step;
 mod system_file;
-#[cfg(test)]
-mod tests;
 mod window;
 mod writing;
 

@@ -3,9 +3,10 @@
 
 ghost use Rattle.std.specs.Prelude.{◌≡◌};
 
-use crate::system_file::SystemFile;
+use law_journal::SystemFile;
 use std::alloc::{AllocError, Global};
-use std::io;
+use std::fmt::{Display, Formatter, Write};
+use std::{fmt, io};
 
 /// A call of the system.
 #[derive(Clone, Copy, Debug, PartialEq, Eq)]
@@ -19,6 +20,22 @@ pub enum Call {
     Write(u64),
     Cut(u64),
     Sync,
+}
+
+impl Display for Call {
+    fn fmt<W: Write>(&self, f: &mut Formatter<W>) -> fmt::Result {
+        match self {
+            Call::Lock => write!(f, "lock"),
+            Call::Open => write!(f, "open"),
+            Call::DropPages => write!(f, "drop-pages"),
+            Call::SyncFolder => write!(f, "sync-folder"),
+            Call::Len => write!(f, "len"),
+            Call::Read(place) => write!(f, "read:{place}"),
+            Call::Write(place) => write!(f, "write:{place}"),
+            Call::Cut(len) => write!(f, "cut:{len}"),
+            Call::Sync => write!(f, "sync"),
+        }
+    }
 }
 
 /// A file in memory.
