@@ -406,6 +406,7 @@ SPELLED = [
     (register.drop("ada", 7, 1), register.draft(1)),
     ("bytes 7", of_session(command(7, u32("item", 1)), 0, 7)),
     (register.add("ada", 8, cases.repeal("sec_1")), register.draft(2)),
+    ("bytes 8", of_session(command(6, work("work"), repealed("sec_1")), 0, 8)),
     (register.file("ada", 9, 5), register.law(6)),
     ("bytes 9", of_session(command(8, work("work"), u32("seen", 5)), 6, 9)),
     ("bytes 10", "none"),
