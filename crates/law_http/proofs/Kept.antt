@@ -20,6 +20,12 @@ keeps_then (Some xs) None c first second = absurd first
 keeps_then (Some xs) (Some ys) None first second = absurd second
 keeps_then (Some xs) (Some ys) (Some zs) first second = second ∙ first
 
+-- bytes in front change nothing
+pub keeps_behind : (bytes : List ℕ) (a b : Option (List ℕ)) → Keeps a b → Keeps (prepend_known bytes a) (prepend_known bytes b)
+keeps_behind bytes None b kept = tt
+keeps_behind bytes (Some xs) None kept = absurd kept
+keeps_behind bytes (Some xs) (Some ys) kept = ap (λ l. bytes ++ l) kept
+
 -- a piece goes from what is left behind what was read
 pub keeps_piece : (bytes piece : List ℕ) (old new : Option (List ℕ)) → Consumes old new piece → Keeps (prepend_known bytes old) (prepend_known (bytes ++ piece) new)
 keeps_piece bytes piece None new read = tt

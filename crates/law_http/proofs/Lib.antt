@@ -1,5 +1,6 @@
 pub mod Acknowledged
 pub mod Answered
+pub mod Buffers
 pub mod Determined
 pub mod EmptyLines
 pub mod Growing

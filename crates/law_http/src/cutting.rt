@@ -1,9 +1,11 @@
 //! Where a request begins in a stream, and where its head ends.
 
-ghost use Rattle.std.specs.Prelude.{◌≡◌, ◌<◌, ◌≤◌, ◌-◌, drop, length, Some, IfSome, IfOk};
+ghost use Rattle.std.specs.Prelude.{◌≡◌, ◌<◌, ◌≤◌, ◌-◌, ◌==◌, codes, drop, length, Some, IfSome, IfOk};
+ghost use Rattle.std.specs.List.{starts_with};
 ghost use Rattle.law_http.specs.Cutting as spec;
 
 use crate::MessageRefusal;
+use crate::buffer::Buffer;
 
 /// The most bytes that a head has.
 pub(crate) const MAX_HEAD: usize = 16_384;
@@ -20,12 +22,20 @@ fn after_empty_lines(bytes: &[u8]) -> &[u8]
 
 /// Takes away the empty lines in front.
 #[tactic(auto, using(crate::proofs::EmptyLines::after_short, crate::proofs::EmptyLines::after_drop))]
-pub(crate) fn skip_empty_lines(bytes: &mut Vec<u8>)
-    ensures { bytes.new.items ≡ spec.after_empty_lines bytes.old.items }
+pub(crate) fn skip_empty_lines(bytes: &mut Buffer)
+    ensures { bytes.new ≡ spec.after_empty_lines bytes.old }
 {
-    let count = bytes.len() - after_empty_lines(bytes).len();
-    if count > 0 {
-        drop(bytes.drain(..count));
+    let count = bytes.len() - after_empty_lines(bytes.as_slice()).len();
+    bytes.skip(count);
+}
+
+// Whether an empty line behind a line ends four bytes from here.
+fn is_end(later: &[u8]) -> bool
+    ensures { result ≡ starts_with ◌==◌ later.now (codes "\r\n\r\n") }
+{
+    match later {
+        [b'\r', ..] => later.starts_with(b"\r\n\r\n"),
+        _ => false,
     }
 }
 
@@ -36,7 +46,7 @@ fn head_end(bytes: &[u8]) -> Option<usize>
 {
     let mut later = bytes;
     while let [_, behind @ ..] = later {
-        if later.starts_with(b"\r\n\r\n") {
+        if is_end(later) {
             return Some(bytes.len() - later.len() + 4);
         }
         later = behind;

@@ -4,6 +4,7 @@ ghost use Rattle.std.specs.Prelude.{◌≡◌, ◌≤◌, ◌<◌, ◌+◌, ◌^
 ghost use Rattle.law_http.specs.Hearing as spec;
 ghost use Rattle.law_http.specs.Streams.{HasHearCause, KeepsBytes, KeepsStream};
 
+use crate::buffer::Buffer;
 use crate::cutting::{MAX_HEAD, head_length};
 use crate::framing::MAX_BODY;
 use crate::head::{Framing, read_head};
@@ -12,38 +13,27 @@ use crate::{Bytes, HearFault, Heard, MessageRefusal, Request, Rest};
 use desk_base::{Link, Memory};
 use std::alloc::Global;
 
-fn take_off(bytes: &mut Vec<u8>, count: usize)
-    requires { count ≤ length bytes.old.items }
-    ensures { bytes.new.items ≡ drop count bytes.old.items }
-{
-    if count == bytes.len() {
-        bytes.clear();
-    } else {
-        drop(bytes.drain(..count));
-    }
-}
-
 // Takes a request off the front of the bytes, if they hold it whole.
 fn take_request(
     alloc: Global,
-    bytes: &mut Vec<u8>,
+    bytes: &mut Buffer,
     head: usize,
     framing: Framing,
 ) -> Result<Heard, Memory>
     requires some { 0 < head }
     requires fits { head + framing.length < 2 ^ 64 }
     ensures heard { IfOk result
-        (λ heard. spec.Makes (spec.with_body head framing bytes.old.items) heard bytes.new.items) }
-    ensures spent { IfOk result (spec.Spends (length bytes.old.items) (length bytes.new.items)) }
-    ensures kept { OnErr result (bytes.new.items ≡ bytes.old.items) }
-    ensures held { length bytes.new.items ≤ length bytes.old.items }
+        (λ heard. spec.Makes (spec.with_body head framing bytes.old) heard bytes.new) }
+    ensures spent { IfOk result (spec.Spends (length bytes.old) (length bytes.new)) }
+    ensures kept { OnErr result (bytes.new ≡ bytes.old) }
+    ensures held { length bytes.new ≤ length bytes.old }
 {
     let end = head + framing.length as usize;
     if bytes.len() < end {
         return Ok(Heard::Refused(MessageRefusal::Truncated));
     }
-    let body = Vec::from_slice(alloc, &bytes[head..end])?;
-    take_off(bytes, end);
+    let body = Vec::from_slice(alloc, &bytes.as_slice()[head..end])?;
+    bytes.skip(end);
     Ok(Heard::Request(Request {
         method: framing.method,
         target: framing.target,
@@ -56,25 +46,25 @@ fn take_request(
 fn hear_body<L: Link>(
     alloc: Global,
     link: &mut L,
-    bytes: &mut Vec<u8>,
+    bytes: &mut Buffer,
     head: usize,
 ) -> Result<Heard, HearFault>
     requires some { 0 < head }
-    requires within { head ≤ length bytes.old.items }
+    requires within { head ≤ length bytes.old }
     requires limit { head ≤ MAX_HEAD }
     ensures heard { IfOk result
-        (spec.HearsBody head bytes.old.items (L.left link.old) bytes.new.items (L.left link.new)) }
-    ensures kept { OnErr result (KeepsBytes bytes.old.items (L.left link.old) bytes.new.items (L.left link.new)) }
+        (spec.HearsBody head bytes.old (L.left link.old) bytes.new (L.left link.new)) }
+    ensures kept { OnErr result (KeepsBytes bytes.old (L.left link.old) bytes.new (L.left link.new)) }
     ensures spent { IfOk result
-        (spec.Spends (length bytes.old.items + L.room link.old) (length bytes.new.items + L.room link.new)) }
-    ensures taken { length bytes.new.items + L.room link.new ≤ length bytes.old.items + L.room link.old }
-    ensures held { length bytes.new.items ≤ max (length bytes.old.items) (MAX_HEAD + MAX_BODY) }
+        (spec.Spends (length bytes.old + L.room link.old) (length bytes.new + L.room link.new)) }
+    ensures taken { length bytes.new + L.room link.new ≤ length bytes.old + L.room link.old }
+    ensures held { length bytes.new ≤ max (length bytes.old) (MAX_HEAD + MAX_BODY) }
     ensures cause { HasHearCause (L.read_faults link.old) (L.read_faults link.new) result }
     ensures written { L.written link.new ≡ L.written link.old }
     ensures write_faults { L.write_faults link.new ≡ L.write_faults link.old }
     ensures origin { L.origin link.new ≡ L.origin link.old }
 {
-    let framing = match read_head(alloc, &bytes[..head])? {
+    let framing = match read_head(alloc, &bytes.as_slice()[..head])? {
         Ok(framing) => framing,
         Err(refusal) => return Ok(Heard::Refused(refusal)),
     };
@@ -83,23 +73,23 @@ fn hear_body<L: Link>(
 }
 
 // What is heard of bytes that were read, and of those that a link has left.
-fn hear<L: Link>(alloc: Global, link: &mut L, bytes: &mut Vec<u8>) -> Result<Heard, HearFault>
-    ensures heard { IfOk result (spec.Hears bytes.old.items (L.left link.old) bytes.new.items (L.left link.new)) }
-    ensures kept { OnErr result (KeepsStream bytes.old.items (L.left link.old) bytes.new.items (L.left link.new)) }
+fn hear<L: Link>(alloc: Global, link: &mut L, bytes: &mut Buffer) -> Result<Heard, HearFault>
+    ensures heard { IfOk result (spec.Hears bytes.old (L.left link.old) bytes.new (L.left link.new)) }
+    ensures kept { OnErr result (KeepsStream bytes.old (L.left link.old) bytes.new (L.left link.new)) }
     ensures spent { IfOk result
-        (spec.Spends (length bytes.old.items + L.room link.old) (length bytes.new.items + L.room link.new)) }
-    ensures taken { length bytes.new.items + L.room link.new ≤ length bytes.old.items + L.room link.old }
-    ensures held { length bytes.new.items ≤ max (length bytes.old.items) (MAX_HEAD + MAX_BODY) }
+        (spec.Spends (length bytes.old + L.room link.old) (length bytes.new + L.room link.new)) }
+    ensures taken { length bytes.new + L.room link.new ≤ length bytes.old + L.room link.old }
+    ensures held { length bytes.new ≤ max (length bytes.old) (MAX_HEAD + MAX_BODY) }
     ensures cause { HasHearCause (L.read_faults link.old) (L.read_faults link.new) result }
     ensures written { L.written link.new ≡ L.written link.old }
     ensures write_faults { L.write_faults link.new ≡ L.write_faults link.old }
     ensures origin { L.origin link.new ≡ L.origin link.old }
 {
     await_head(link, bytes)?;
-    if bytes.is_empty() {
+    if bytes.len() == 0 {
         return Ok(Heard::End);
     }
-    match head_length(bytes) {
+    match head_length(bytes.as_slice()) {
         Ok(head) => hear_body(alloc, link, bytes, head),
         Err(refusal) => Ok(Heard::Refused(refusal)),
     }

@@ -3,6 +3,7 @@
 
 mod acknowledging;
 mod asking;
+mod buffer;
 mod bytes;
 mod cutting;
 mod framing;
@@ -19,8 +20,6 @@ mod rest;
 mod route;
 mod status;
 mod streaming;
-#[cfg(test)]
-mod tests;
 
 pub use asking::{Asking, TextAsked};
 pub use bytes::Bytes;

@@ -7,7 +7,11 @@ ghost use Rattle.law_http.specs.Responses as spec;
 
 use crate::{Allow, Bytes, MessageRefusal, RequestRefusal, Status};
 use desk_base::{Failed, Link, Memory};
+use itoa::Buffer;
 use std::alloc::Global;
+
+// Room for a head and a short body, which are laid out piece by piece.
+const ROOM: usize = 256;
 
 // The fixed responses, which take no memory.
 const MEMORY_FAULT: &[u8] = b"HTTP/1.1 500 Internal Server Error\r\nConnection: close\r\n\
@@ -62,13 +66,12 @@ fn close_field(last: bool) -> &'static str
     if last { "Connection: close\r\n" } else { "" }
 }
 
-fn put_body_lines(alloc: Global, message: &mut Vec<u8>, length: usize) -> Result<(), Memory>
+fn put_body_lines(message: &mut Vec<u8>, length: usize) -> Result<(), Memory>
     ensures { OnOk result (message.new.items ≡ message.old.items ++ spec.body_lines length) }
 {
-    let lines = format!(in alloc;
-        "Content-Length: {length}\r\nContent-Type: application/json\r\n\r\n"
-    )?;
-    message.extend_from_slice(lines.as_bytes())?;
+    message.extend_from_slice(b"Content-Length: ")?;
+    message.extend_from_slice(Buffer::new().format(length).as_bytes())?;
+    message.extend_from_slice(b"\r\nContent-Type: application/json\r\n\r\n")?;
     Ok(())
 }
 
@@ -82,9 +85,9 @@ fn laid_out(
     ensures { IfOk result (λ message. message
         ≡ spec.reply_bytes (spec.reply status allow last body.now)) }
 {
-    let mut message = Vec::new(alloc);
+    let mut message = Vec::with_capacity(alloc, ROOM)?;
     put_first_lines(&mut message, status, allow, last)?;
-    put_body_lines(alloc, &mut message, body.len())?;
+    put_body_lines(&mut message, body.len())?;
     message.extend_from_slice(body)?;
     Ok(Bytes::from_vec(message))
 }

@@ -3,13 +3,14 @@
 ghost use Rattle.std.specs.Prelude.{◌≡◌, []};
 ghost use Rattle.law_http.specs.Rests.{held};
 
+use crate::buffer::Buffer;
 use std::alloc::Global;
 use std::marker::Model;
 
 /// The bytes that were read of a stream and not used yet: at most 16,384 and one body.
 #[derive(Debug, Drop)]
 pub struct Rest {
-    bytes: Option<Vec<u8>>,
+    buffer: Option<Buffer>,
 }
 
 impl Model for Rest {
@@ -18,7 +19,7 @@ impl Model for Rest {
 
     ghost Value = { List ℕ };
 
-    ghost view = { λ rest. held rest.bytes };
+    ghost view = { λ rest. held rest.buffer };
 }
 
 impl Rest {
@@ -26,24 +27,24 @@ impl Rest {
     pub fn new() -> Rest
         ensures { result ≡ [] }
     {
-        Rest { bytes: None }
+        Rest { buffer: None }
     }
 
     /// Takes the bytes out.
-    pub(crate) fn take(&mut self, alloc: Global) -> Vec<u8>
-        ensures taken { result.items ≡ self.old }
+    pub(crate) fn take(&mut self, alloc: Global) -> Buffer
+        ensures taken { result ≡ self.old }
         ensures left { self.new ≡ [] }
     {
-        match self.bytes.take() {
-            Some(bytes) => bytes,
-            None => Vec::new(alloc),
+        match self.buffer.take() {
+            Some(buffer) => buffer,
+            None => Buffer::new(alloc),
         }
     }
 
     /// Puts bytes in the place of those that are there.
-    pub(crate) fn put(&mut self, bytes: Vec<u8>)
-        ensures { self.new ≡ bytes.items }
+    pub(crate) fn put(&mut self, buffer: Buffer)
+        ensures { self.new ≡ buffer }
     {
-        self.bytes = Some(bytes);
+        self.buffer = Some(buffer);
     }
 }

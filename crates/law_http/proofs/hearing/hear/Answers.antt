@@ -7,9 +7,9 @@ use Rattle.law_http.proofs.hearing.hear.Goals as goal
 
 pub returns-in-Ok-clause-heard : goal.returns-in-Ok-clause-heard
 returns-in-Ok-clause-heard g c =
-    let found = ap head_length (sym c.deref.ensures.value) ∙ sym c.head_length.ensures.value ∙ c.in-Ok.is in
+    let found = ap head_length (sym c.as_slice.ensures) ∙ sym c.head_length.ensures.value ∙ c.in-Ok.is in
     if_ok_on c.hear_body.result
-    (λ h is. whole_heard _ c.await_head.new.bytes.items c.hear_body.new.bytes.items (g.L.Link.left c.await_head.new.link) (g.L.Link.left c.hear_body.new.link) c.in-Ok.head h
+    (λ h is. whole_heard _ c.await_head.new.bytes c.hear_body.new.bytes (g.L.Link.left c.await_head.new.link) (g.L.Link.left c.hear_body.new.link) c.in-Ok.head h
     c.in_ok-await_head.ensures.stream c.in_ok-await_head.ensures.ready found c.in-Ok.ensures.within.0 (search rules) is)
     c.hear_body.ensures.heard
 
@@ -19,6 +19,6 @@ returns-in-Ok-clause-kept g c =
 
 pub returns-in-Err-clause-heard : goal.returns-in-Err-clause-heard
 returns-in-Err-clause-heard g c =
-    let found = ap head_length (sym c.deref.ensures.value) ∙ sym c.head_length.ensures.value ∙ c.in-Err.is in
-    refusal_heard _ c.await_head.new.bytes.items (g.L.Link.left c.await_head.new.link) c.in-Err.refusal
+    let found = ap head_length (sym c.as_slice.ensures) ∙ sym c.head_length.ensures.value ∙ c.in-Err.is in
+    refusal_heard _ c.await_head.new.bytes (g.L.Link.left c.await_head.new.link) c.in-Err.refusal
     c.in_ok-await_head.ensures.stream c.in_ok-await_head.ensures.ready found (search rules)

@@ -5,7 +5,7 @@ use Rattle.law_http.proofs.hearing.hear_body.Goals as goal
 
 pub returns-clause-heard : goal.returns-clause-heard
 returns-clause-heard g c =
-    body_heard c.args.head c.in-Ok.framing c.in_ok-take_request.field-0 c.args.bytes.now.items c.await_bytes.new.bytes.items c.take_request.new.bytes.items
+    body_heard c.args.head c.in-Ok.framing c.in_ok-take_request.field-0 c.args.bytes.now c.await_bytes.new.bytes c.take_request.new.bytes
     (g.L.Link.left c.args.link.now) (g.L.Link.left c.await_bytes.new.link)
-    (subst (λ (t : List ℕ). IsSaid (take c.args.head t) (Ok c.in-Ok.framing)) c.deref.ensures.value (subst (IsSaid (take c.args.head c.deref.result.now)) c.in-Ok.is c.in_ok-framing.ensures.said))
+    (subst (λ (t : List ℕ). IsSaid (take c.args.head t) (Ok c.in-Ok.framing)) c.as_slice.ensures (subst (IsSaid (take c.args.head c.as_slice.result.now)) c.in-Ok.is c.in_ok-framing.ensures.said))
     c.in_ok-await_bytes.ensures.stream c.in_ok-await_bytes.ensures.end c.in_ok-take_request.ensures.heard

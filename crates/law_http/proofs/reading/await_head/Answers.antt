@@ -9,7 +9,7 @@ use Rattle.law_http.proofs.reading.await_head.Goals as goal
 pub loop-bytes-init : goal.loop-bytes-init
 loop-bytes-init g c =
     let left = g.L.Link.left c.args.link.now in
-    let old = c.args.bytes.now.items in
+    let old = c.args.bytes.now in
     let skipped = c.skip_empty_lines.ensures in
     record {
       stream = subst (λ (l : List ℕ). KeepsRequest (prepend_known old left) (prepend_known l left)) (sym skipped) (keeps_skipped old left);
@@ -43,20 +43,20 @@ returns-else-is_err-clause-stream g c = c.loop-bytes.invariant.stream
 pub returns-else-is_err-clause-ready : goal.returns-else-is_err-clause-ready
 returns-else-is_err-clause-ready g c =
     let (n, found) = found_where c.head_length.result (sym c.is_err.ensures.value ∙ c.if-is_err.false) in
-    ready_found c.loop-bytes.bytes.items (g.L.Link.left c.loop-bytes.link) n c.loop-bytes.invariant.begins
-    (ap head_length (sym c.deref.ensures.value) ∙ sym c.head_length.ensures.value ∙ found)
+    ready_found c.loop-bytes.bytes (g.L.Link.left c.loop-bytes.link) n c.loop-bytes.invariant.begins
+    (ap head_length (sym c.as_slice.ensures) ∙ sym c.head_length.ensures.value ∙ found)
 
 pub returns-after-loop-bytes-clause-stream : goal.returns-after-loop-bytes-clause-stream
 returns-after-loop-bytes-clause-stream g c = c.loop-bytes.invariant.stream
 
 pub returns-after-loop-bytes-clause-ready : goal.returns-after-loop-bytes-clause-ready
 returns-after-loop-bytes-clause-ready g c =
-    ready_full c.loop-bytes.bytes.items (g.L.Link.left c.loop-bytes.link) c.loop-bytes.invariant.begins (search rules)
+    ready_full c.loop-bytes.bytes (g.L.Link.left c.loop-bytes.link) c.loop-bytes.invariant.begins (search rules)
 
 pub returns-then-count-eq0-clause-stream : goal.returns-then-count-eq0-clause-stream
 returns-then-count-eq0-clause-stream g c = request_then _ _ _ c.loop-bytes.invariant.stream c.in_ok-count.ensures.stream
 
 pub returns-then-count-eq0-clause-ready : goal.returns-then-count-eq0-clause-ready
 returns-then-count-eq0-clause-ready g c =
-    ready_ended c.read_on.new.bytes.items (g.L.Link.left c.read_on.new.link) c.in_ok-count.ensures.begins
+    ready_ended c.read_on.new.bytes (g.L.Link.left c.read_on.new.link) c.in_ok-count.ensures.begins
     (c.in_ok-count.ensures.end c.if-count-eq0.true)

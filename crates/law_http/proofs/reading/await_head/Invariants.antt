@@ -8,10 +8,10 @@ use Rattle.law_http.proofs.reading.await_head.Given as goal
 
 abbrev pub invariant-loop-bytes : goal.invariant-loop-bytes
 invariant-loop-bytes g l = record {
-  stream : KeepsRequest (prepend_known l.fn.bytes.items (g.L.Link.left l.fn.link)) (prepend_known l.bytes.items (g.L.Link.left l.link));
-  begins : after_empty_lines l.bytes.items ≡ l.bytes.items;
-  room : length l.bytes.items + g.L.Link.room l.link ≤ length l.fn.bytes.items + g.L.Link.room l.fn.link;
-  held : length l.bytes.items ≤ max (length l.fn.bytes.items) MAX_HEAD;
+  stream : KeepsRequest (prepend_known l.fn.bytes (g.L.Link.left l.fn.link)) (prepend_known l.bytes (g.L.Link.left l.link));
+  begins : after_empty_lines l.bytes ≡ l.bytes;
+  room : length l.bytes + g.L.Link.room l.link ≤ length l.fn.bytes + g.L.Link.room l.fn.link;
+  held : length l.bytes ≤ max (length l.fn.bytes) MAX_HEAD;
   counted : g.L.Link.read_faults l.link ≡ g.L.Link.read_faults l.fn.link;
   written : g.L.Link.written l.link ≡ g.L.Link.written l.fn.link;
   write_faults : g.L.Link.write_faults l.link ≡ g.L.Link.write_faults l.fn.link;

@@ -7,6 +7,6 @@ use Rattle.law_http.proofs.reading.read_on.Goals as goal
 pub returns-clause-stream : goal.returns-clause-stream
 returns-clause-stream g c =
     let left = g.L.Link.left c.read_piece.new.link in
-    let skipped = subst (λ (l : List ℕ). KeepsRequest (prepend_known c.read_piece.new.bytes.items left) (prepend_known l left))
-    (sym c.skip_empty_lines.ensures) (keeps_skipped c.read_piece.new.bytes.items left) in
+    let skipped = subst (λ (l : List ℕ). KeepsRequest (prepend_known c.read_piece.new.self left) (prepend_known l left))
+    (sym c.skip_empty_lines.ensures) (keeps_skipped c.read_piece.new.self left) in
     request_then _ _ _ (keeps_request _ _ c.in_ok-count.ensures.stream) skipped
