@@ -136,6 +136,12 @@ CLOCK = ([
     ("bytes 2", entries.taken(FIFTH_DAY)),
 ], [kept(SECOND_DAY, FIFTH_DAY), opened(2)])
 
+# Each entry of a register, of all eight commands, is read from its bytes, and its command sent again: a repeat is one whose values are all equal.
+SPELLED = [bytes.fromhex(want[6:]) for given, want in entries.SPELLED if given.startswith("bytes ") and want.startswith("entry ")]
+SENT = [(given, again(want)) for given, want in entries.SPELLED if given.startswith("{")]
+READ = [(open_line(payloads=SPELLED), opened(9, 6)), *SENT, *((f"bytes {k}", entries.taken(data)) for k, data in enumerate(SPELLED, 1)),
+        (record("ada", 1, cases.repeal("sec_1")), refused(1, 1)), front(6, 9)]
+
 SESSIONS = {
     "an append that fails": ([(open_line([FIRST_APPEND]), opened(0)), (command_line(1), FAULT), front(0, 0), (command_line(1), law(1)),
                               (command_line(1), again(law(1))), front(1, 1)], [kept(ENACTED), opened(1)]),
@@ -148,6 +154,7 @@ SESSIONS = {
         (open_line(payloads=[ENACTED]), opened(1)), (record("ada", 2, cases.repeal("sec_3")), law(2)),
         (add("ada", 3, cases.repeal("sec_1")), draft(1)), (withdraw("ada", 4, "9.9"), refused(8, "9.9"))],
         [kept(ENACTED, RECORDED, of_entry(DRAFTED, 0, 3)), opened(3, 2)]),
+    "entries that are read": (READ, [kept(*SPELLED), opened(9, 6)]),
     "a walk": ([("walk - - " + ",".join(data.hex() for data in (ENACTED, CAPITAL)), "payloads 2")], []),
     "payloads that are entries": ([("read - - " + ",".join(data.hex() for data in (ENACTED, CAPITAL)), "entries 1")], []),
 }

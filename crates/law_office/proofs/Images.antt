@@ -26,7 +26,7 @@ spelled_found entries spare (Some p) opens may list (inr with) =
     inr (ap opened_of (with ∙ ap Ok (sym (spellings_last entries p.entry))) ∙ opened_more entries p.entry opens may.follows may.kept)
 
 -- what a crash leaves to be found, of what it leaves of the list
-found_of_lists : (P : Listing → Type 0) (Q : Found → Type 0) (o n : Holding) → n.tells
+pub found_of_lists : (P : Listing → Type 0) (Q : Found → Type 0) (o n : Holding) → n.tells
     → ((list : Listing) → P list → Q (opened_of list)) → LeavesOnly P o n → crash.LeavesOnly Q (crashes_of o) (crashes_of n)
 found_of_lists P Q o n told leads run = record {
   tells = (told, run.tells);

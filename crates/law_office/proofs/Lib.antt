@@ -1,4 +1,4 @@
 mod Opened
 mod Openings
-mod Images
+pub mod Images
 mod Keeping

@@ -4,8 +4,8 @@ use Rattle.std.proofs.lemmas.List.{append-nil, length-append, length-map}
 use Rattle.std.specs.Prelude.{slice_get}
 use Rattle.std.specs.declared.alloc.Global.{Global}
 use Rattle.law_journal.specs.Grammar.{Listing}
-use Rattle.law_keeper.specs.Keepers.{Holding, IsHolding, IsSettled, Keeps, LeavesOnly, Gives}
-use Rattle.law_keeper.proofs.Moments.{keeps_both}
+use Rattle.law_keeper.specs.Keepers.{Holding, IsHolding, IsOldOrSame, IsSettled, Keeps, LeavesNoMore, LeavesOldOrSame, LeavesOnly, Gives}
+use Rattle.law_keeper.proofs.Moments.{idles_on, keeps_both, rests, weaker}
 use Rattle.law_keeper.proofs.Walks.{HasWalked, ok_is, one_more}
 use Rattle.law_register.specs.declared.desk.damage.Damage.{Damage}
 use Rattle.law_register.specs.declared.desk.damage.Damage.TheVariants as damage
@@ -51,17 +51,13 @@ drop_all (first ∷ payloads) = drop_all payloads
 pub keeps_self : (h : Holding) → Keeps h h
 keeps_self h = record { tells = (λ t. t, λ t. t); tells_crash = (λ t. t, λ t. t); list = λ t. refl; places = λ t cursor n at. at }
 
-idle : (h : Holding) → IsHolding h → h.tells_crash → LeavesOnly h.may_leave h h
-idle h is crash = record {
-  tells = crash;
-  now = λ list may. may;
-  any_moment = λ moments. record {
-    tells = moments;
-    later = omega arith;
-    since = λ list left. is.only_now moments list left;
-    before = λ t list le left. inl left;
-  };
-}
+-- nothing was asked of a keeper yet, and then it was opened and its payloads loaded
+pub not_asked : (h : Holding) → IsHolding h → LeavesOldOrSame h h
+not_asked h is = λ told. weaker h.may_leave (IsOldOrSame h) h h (λ list may. inl may) (rests h is told)
+
+pub opened_then_loaded : (o m n : Holding) → LeavesOldOrSame o m → LeavesNoMore m n → LeavesOldOrSame o n
+opened_then_loaded o m n first second = λ told.
+    let run = first told in idles_on (IsOldOrSame o) o m n run (second run.tells)
 
 any_ok : (P : List (List ℕ) → Type 0) → ((payloads : List (List ℕ)) → P payloads) → (listing : Listing) → IfOk listing P
 any_ok P all (Ok payloads) = all payloads
@@ -74,7 +70,7 @@ opened_none h is settled = record {
     keeps = keeps_self h;
     at = settled.first;
     front = λ told. any_ok (λ payloads. [] ++ drop 0 payloads ≡ payloads) (λ payloads. refl) h.list;
-    crash = idle h is;
+    crash = rests h is;
   };
   same = λ told. any_ok (λ payloads. opened_behind [] (drop 0 payloads) ≡ opened payloads) (λ payloads. refl) h.list;
 }
@@ -92,6 +88,10 @@ payload_cause A before now (fails.Damaged (damage.Order number rule)) of same = 
 payload_cause A before now fails.Memory of same = same
 
 module _ (old now next : Holding) (cursor : ℕ) (entries : List Entry) (opening : HasOpened old now cursor entries) where
+  -- payloads were loaded
+  pub loads_more : LeavesNoMore now next → LeavesNoMore old next
+  loads_more crash = λ told. let far = opening.walked.crash told in idles_on old.may_leave old now next far (crash far.tells)
+
   told_list : old.tells → IsSettled now → (payloads : List (List ℕ)) × (old.list ≡ Ok payloads)
   told_list told settled =
       let found = ok_is now.list (settled.has_list (opening.walked.keeps.tells.0 told)) in

@@ -8,8 +8,6 @@ pub mod laws;
 mod office;
 mod opening;
 mod sent;
-#[cfg(test)]
-mod tests;
 mod writing;
 
 pub use book::{Book, Pending};

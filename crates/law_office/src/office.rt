@@ -2,7 +2,7 @@
 //! that is pending, its marks, and the names of what it was lent.
 
 ghost use Rattle.std.specs.Prelude.{◌≡◌, ◌≢◌, ◌↔◌, [], None, Ok, IfOk, IfErr, IsTrue};
-ghost use Rattle.law_keeper.specs.Keepers.{Keeps};
+ghost use Rattle.law_keeper.specs.Keepers.{Keeps, LeavesOldOrSame};
 ghost use Rattle.law_register.specs.Desk.States.{Found, IsFoundOf};
 ghost use Rattle.law_office.specs.Crashing.{crashes_of};
 ghost use Rattle.law_office.specs.Offices.{HoldsBook, IsNamed, IsRight, names_of, pending_of};
@@ -64,7 +64,8 @@ impl<'a, K: Keeper, C: Clock> Model for Office<'a, K, C> {
 }
 
 impl<'a, K: Keeper, C: Clock> Office<'a, K, C> {
-    /// Opens a keeper, and the office of what it has. A refusal gives the keeper back. No payload changes.
+    /// Opens a keeper, and the office of what it has. A refusal gives the keeper back. No payload changes, and a crash
+    /// at any moment leaves a list that it could leave before, or the list itself.
     pub fn open(
         alloc: Global,
         keeper: &'a mut K,
@@ -75,12 +76,15 @@ impl<'a, K: Keeper, C: Clock> Office<'a, K, C> {
         ensures refused { (K.holding keeper.old).tells
             → IfErr result (λ refused. Refuses refused.fault (opened_of (K.holding keeper.old).list)) }
         ensures same_refused { IfErr result (λ refused. Keeps (K.holding keeper.old) (K.holding refused.keeper.now)) }
+        ensures crash_refused { IfErr result (λ refused.
+            LeavesOldOrSame (K.holding keeper.old) (K.holding refused.keeper.now)) }
         ensures cause_refused { IfErr result (λ refused.
             HasRefusalCause (K.faults keeper.old) (K.faults refused.keeper.now) refused.fault) }
         ensures name_refused { IfErr result (λ refused. refused.keeper.ghost_name ≡ keeper.entry.ghost_name) }
         ensures pending { IfOk result (λ office. office.pending ≡ None) }
         ensures marks { IfOk result (λ office. office.marks ≡ []) }
         ensures same { IfOk result (λ office. Keeps (K.holding keeper.old) (K.holding office.keeper)) }
+        ensures crash { IfOk result (λ office. LeavesOldOrSame (K.holding keeper.old) (K.holding office.keeper)) }
         ensures faults { IfOk result (λ office. K.faults office.keeper ≡ K.faults keeper.old) }
         ensures clock { IfOk result (λ office. office.clock ≡ clock.old) }
         ensures origin { IfOk result (λ office. office.origin

@@ -1,7 +1,7 @@
 //! Opening: what a keeper has is decoded, and each entry is judged behind those before it.
 
 ghost use Rattle.std.specs.Prelude.{◌≡◌, ◌≤◌, ◌∷◌, ◌++◌, [], true, None, Ok, IfErr, IfOk, OnOk};
-ghost use Rattle.law_keeper.specs.Keepers.{IsSettled, Keeps};
+ghost use Rattle.law_keeper.specs.Keepers.{IsSettled, Keeps, LeavesNoMore, LeavesOldOrSame};
 ghost use Rattle.law_keeper.specs.declared.readiness.Readiness.TheVariants.{Ready};
 ghost use Rattle.law_register.specs.Law.Spelling.{is_well_spelled};
 ghost use Rattle.law_register.specs.Register.Verdicts.{verdict as said};
@@ -113,6 +113,7 @@ fn load_entries<K: Keeper>(
     ensures opens { OnOk result (spec.opened (spec.spellings register.new.entries) ≡ Ok register.new.entries) }
     ensures held { IfOk result (Holds (K.holding keeper.new) (K.readiness keeper.new) register.new.entries None) }
     ensures same { Keeps (K.holding keeper.old) (K.holding keeper.new) }
+    ensures crash { LeavesNoMore (K.holding keeper.old) (K.holding keeper.new) }
     ensures cause { HasOpenCause (K.faults keeper.old) (K.faults keeper.new) result }
 {
     let mut end = 0;
@@ -126,7 +127,7 @@ fn load_entries<K: Keeper>(
 impl Book {
     /// Opens a keeper, and the register of the entries that its payloads spell. Damage is that of what holds the
     /// payloads, or of the first payload that is no entry, or that is not accepted behind those before it. No payload
-    /// changes.
+    /// changes, and a crash at any moment leaves a list that it could leave before, or the list itself.
     pub fn open<K: Keeper>(alloc: Global, keeper: &mut K) -> Result<Book, OpenFault>
         ensures opened { (K.holding keeper.old).tells
             → Opens (λ book. book.register.entries) result (opened_of (K.holding keeper.old).list) }
@@ -134,6 +135,7 @@ impl Book {
         ensures right { IfOk result IsRight }
         ensures held { IfOk result (HoldsBook (K.holding keeper.new) (K.readiness keeper.new)) }
         ensures same { Keeps (K.holding keeper.old) (K.holding keeper.new) }
+        ensures crash { LeavesOldOrSame (K.holding keeper.old) (K.holding keeper.new) }
         ensures cause { HasOpenCause (K.faults keeper.old) (K.faults keeper.new) result }
     {
         let past = Past::new(alloc)?;

@@ -5,7 +5,7 @@ use Rattle.law_keeper.specs.Keepers.{Gives}
 use Rattle.law_register.specs.declared.register.entry.Entry.{Entry}
 use Rattle.law_office.specs.Opening.{opened, spellings, with_payload, Refuses}
 use Rattle.law_office.proofs.Openings.{opened_behind_them}
-use Rattle.law_office.proofs.Opened.{HasOpened, opened_none, keeps_then, opens_more, opens_all, spells_all, ends_there, opens_refused, opens_fault, payload_cause}
+use Rattle.law_office.proofs.Opened.{HasOpened, opened_none, keeps_then, loads_more, opens_more, opens_all, spells_all, ends_there, opens_refused, opens_fault, payload_cause}
 use Rattle.law_office.proofs.opening.load_entries.Goals as goal
 
 pub walk-init : goal.walk-init
@@ -88,3 +88,12 @@ returns-clause-held g c =
       durable = tt;
       end = ends_there (holding c.args.keeper.now) (holding c.walk.keeper) (holding c.load.new.self) c.walk.end c.walk.register.entries c.walk.invariant.opened c.in_ok-payload.ensures.same;
     }
+
+pub returns-in_err-payload-clause-crash : goal.returns-in_err-payload-clause-crash
+returns-in_err-payload-clause-crash g c = loads_more _ _ _ _ _ c.walk.invariant.opened c.in_err-payload.ensures.crash
+
+pub returns-in_err-add_payload-clause-crash : goal.returns-in_err-add_payload-clause-crash
+returns-in_err-add_payload-clause-crash g c = loads_more _ _ _ _ _ c.walk.invariant.opened c.in_ok-payload.ensures.crash
+
+pub returns-clause-crash : goal.returns-clause-crash
+returns-clause-crash g c = loads_more _ _ _ _ _ c.walk.invariant.opened c.in_ok-payload.ensures.crash
