@@ -1,5 +1,5 @@
 -- What one row more makes of the rows so far, and of what the rest costs.
-use Rattle.std.proofs.Common.{◌≡◌, ◌∙◌, sym, ap, refl, ℕ, ◌+◌, ◌≤◌, Bool, true, cond, nat_le, List, [], ◌∷◌, ◌++◌, append_assoc, map, arith}
+use Rattle.std.proofs.Common.{◌≡◌, ◌∙◌, sym, ap, ℕ, ◌+◌, ◌≤◌, true, cond, nat_le, List, [], ◌∷◌, ◌++◌, append_assoc, arith}
 use Rattle.std.proofs.lemmas.Bool.Decides.{nat_tests}
 use Rattle.std.proofs.lemmas.List.{map-append}
 use Rattle.desk_base.specs.declared.id.Id.{Id}
@@ -10,7 +10,7 @@ use Rattle.law_register.specs.Answer.Order.{order}
 use Rattle.law_register.specs.Answer.Replay.{VersionValue, as_enacted, replay_on, replayed}
 use Rattle.version_cache.specs.declared.row.Row.{Row}
 use Rattle.version_cache.specs.Rows.{row_view, rows_view}
-use Rattle.version_cache.specs.Tables.{RowValue, last_version, rows_on}
+use Rattle.version_cache.specs.Tables.{last_version, rows_on}
 use Rattle.version_cache.proofs.LastRow.{last_added}
 
 least : (d : ℕ) → nat_le 0 d ≡ true

@@ -1,17 +1,16 @@
 -- A table that is right for one view is right before a day for another that agrees before it.
-use Rattle.std.proofs.Common.{◌≡◌, ◌∙◌, sym, ap, ℕ, ◌<◌, List, [], ◌∷◌, Option, Some, None, option_and_then, option_map, refl}
+use Rattle.std.proofs.Common.{◌≡◌, ◌∙◌, sym, ap, ℕ, ◌+◌, ◌<◌, arith, List, [], ◌∷◌, Option, Some, None, option_and_then, option_map, refl}
 use Rattle.std.specs.List.{AllByRecursion, find}
 use Rattle.desk_base.specs.declared.id.Id.{Id}
 use Rattle.law_register.specs.declared.law.act.Act.{Act}
-use Rattle.law_register.specs.declared.law.modification.Modification.{Modification}
 use Rattle.law_register.specs.declared.register.known.Known.{Known}
 use Rattle.law_register.specs.declared.register.known.KnownMod.{KnownMod}
 use Rattle.law_register.specs.Answer.Counted.{is_same_id}
 use Rattle.law_register.specs.Answer.Order.{order}
-use Rattle.law_register.specs.Answer.Replay.{VersionValue, as_enacted, edit_in, edit_of, replay_on, replayed}
+use Rattle.law_register.specs.Answer.Replay.{as_enacted, edit_in, edit_of, replayed}
 use Rattle.law_register.proofs.Continuing.{replayed_alike}
 use Rattle.version_cache.specs.Agreement.{Agree, body_of}
-use Rattle.version_cache.specs.Tables.{IsRight, IsRightBefore, TableValue}
+use Rattle.version_cache.specs.Tables.{IsRight, IsRightBefore, IsRightUntil, TableValue}
 
 edit_by_body : (mods : List KnownMod) (id : Id) → edit_of mods id ≡ option_and_then edit_in (body_of mods id)
 edit_by_body mods id = by (find (λ m. is_same_id m.id id) mods)
@@ -35,3 +34,14 @@ agreeing_right old new touched table right agree = record {
       (same_edits old.mods new.mods (order new table.reading day) on.bodies)
       ∙ ap (λ (act : Act). replayed new.mods (as_enacted act) (order new table.reading day)) agree.act;
 }
+
+-- and it is right wherever they agree
+pub right_until : (old new : Known) (touched : Option ℕ) (table : TableValue) → IsRight old table → Agree old new table.reading touched → IsRightUntil new touched table
+right_until old new None table right agree = record {
+  enacted = right.enacted ∙ ap as_enacted agree.act;
+  versions = λ day. (agreeing_right old new (day + 1) table right (record { act = agree.act; days = λ d early. agree.days d tt })).versions day (by_next day);
+}
+  where
+    by_next : (day : ℕ) → day < day + 1
+    by_next day = omega arith
+right_until old new (Some touched) table right agree = agreeing_right old new touched table right agree

@@ -1,5 +1,5 @@
 -- What the modifications of a legal register are directed at is recorded, so none is directed at one that is yet to come.
-use Rattle.std.proofs.Common.{◌≡◌, ◌∙◌, sym, ap, subst, ℕ, zero, suc, ◌+◌, ◌-◌, ◌==◌, Bool, true, false, cond, not, List, [], ◌∷◌, ◌++◌, length, map, Option, Some, None, is_some, option_map, refl, arith}
+use Rattle.std.proofs.Common.{◌≡◌, ◌∙◌, sym, ap, subst, ℕ, zero, suc, ◌+◌, ◌-◌, ◌==◌, Bool, true, false, cond, not, List, [], ◌∷◌, ◌++◌, length, map, Option, Some, None, is_some, option_map, refl}
 use Rattle.std.proofs.lemmas.List.{append-nil}
 use Rattle.std.specs.List.{AllByRecursion, filter}
 use Rattle.std.specs.Prelude.{slice_get}
@@ -14,16 +14,15 @@ use Rattle.law_register.specs.declared.law.modification.Modification.TheVariants
 use Rattle.law_register.specs.declared.register.draft.DraftItem.{DraftItem}
 use Rattle.law_register.specs.declared.register.entry.Entry.{Entry}
 use Rattle.law_register.specs.declared.register.known.KnownMod.{KnownMod}
-use Rattle.law_register.specs.declared.register.rules.Rule.{Rule}
 use Rattle.law_register.specs.declared.register.standing.Standing.{Standing}
 use Rattle.law_register.specs.declared.register.standing.Standing.TheVariants.{Live, Withdrawn}
-use Rattle.law_register.specs.Answer.Counted.{is_same, is_same_id}
+use Rattle.law_register.specs.Answer.Counted.{is_same_id}
 use Rattle.law_register.specs.Answer.Touched.{day_on, first_on, sooner}
 use Rattle.law_register.specs.Register.Concerns.{is_of}
 use Rattle.law_register.specs.Register.Drafts.{added, draft_of, is_by, items_of, redrafted}
 use Rattle.law_register.specs.Register.KnownIds.{IdFacts, facts_after, facts_of, first_facts, item_at, known_as, known_ids}
 use Rattle.law_register.specs.Register.LawList.{law_command, laws}
-use Rattle.law_register.specs.Register.Rulebook.{broken_where, first_item, unknown_destination, unknown_for, unknown_modification, unknown_thing}
+use Rattle.law_register.specs.Register.Rulebook.{first_item, unknown_destination, unknown_for, unknown_modification, unknown_thing}
 use Rattle.law_register.specs.Register.Verdicts as v
 use Rattle.law_register.specs.Register.Verdicts.{first_rule, is_legal}
 use Rattle.law_register.proofs.IdSteps.{fresh}

@@ -1,5 +1,5 @@
 -- The last breakpoint by a day, and what bears then.
-use Rattle.std.proofs.Common.{◌≡◌, ◌∙◌, sym, ap, refl, ℕ, ◌<◌, ◌≤◌, Bool, true, false, cond, ◌&&◌, ◌||◌, nat_le, nat_lt, List, [], ◌∷◌, Option, Some, None, arith}
+use Rattle.std.proofs.Common.{◌≡◌, sym, refl, ℕ, ◌<◌, ◌≤◌, Bool, true, false, cond, ◌&&◌, nat_le, nat_lt, List, [], ◌∷◌, Option, Some, None, arith}
 use Rattle.std.proofs.lemmas.Bool.Decides.{nat_tests}
 use Rattle.std.proofs.lemmas.Cmp.{ranked}
 use Rattle.std.specs.List.{AllByRecursion, list_any}
@@ -13,7 +13,7 @@ use Rattle.law_register.specs.Answer.Breakpoints.{breakpoints}
 use Rattle.law_register.specs.Answer.Order.{order}
 use Rattle.law_register.proofs.ApartIds.{none_both, none_left, none_right}
 use Rattle.law_register.proofs.NamedDays.{breakpoints_ascend}
-use Rattle.version_cache.specs.Days.{is_ascending, last_until, order_by}
+use Rattle.version_cache.specs.Days.{last_until, order_by}
 use Rattle.version_cache.proofs.Still.{order_none, order_still}
 
 same_day : (a b : ℕ) → Some a ≡ Some b → a ≡ b

@@ -1,10 +1,10 @@
 -- The last of some rows.
-use Rattle.std.proofs.Common.{suc, ◌≡◌, ◌∙◌, sym, ap, refl, subst, ℕ, ◌+◌, ◌-◌, Bool, true, false, cond, List, [], ◌∷◌, ◌++◌, length, map, Option, Some, None, option_map, arith}
+use Rattle.std.proofs.Common.{suc, ◌≡◌, ap, refl, subst, ℕ, ◌-◌, List, [], ◌∷◌, ◌++◌, length, Option, Some, None, option_map, arith}
 use Rattle.std.specs.Prelude.{slice_get}
 use Rattle.law_register.specs.Answer.Replay.{VersionValue}
 use Rattle.law_register.specs.Answer.Versions.{version_view}
 use Rattle.version_cache.specs.declared.row.Row.{Row}
-use Rattle.version_cache.specs.Rows.{row_view, rows_view}
+use Rattle.version_cache.specs.Rows.{rows_view}
 use Rattle.version_cache.specs.Tables.{RowValue, last_version}
 
 taken_back : (n : ℕ) → suc (suc n) - 1 ≡ suc (suc n - 1)

@@ -13,3 +13,5 @@ pub mod OneMore
 pub mod Continued
 pub mod RowFronts
 pub mod Adding
+pub mod LateDays
+pub mod Revised

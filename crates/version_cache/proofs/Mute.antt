@@ -1,7 +1,6 @@
 -- What modifications that touch nothing by a day leave of what bears on it.
 use Rattle.std.proofs.Common.{◌≡◌, ◌∙◌, sym, ap, refl, subst, ℕ, ◌<◌, min, Bool, true, false, cond, not, ◌&&◌, ◌||◌, nat_le, List, [], ◌∷◌, ◌++◌, map, Option, Some, None, is_some, option_map, arith}
 use Rattle.std.proofs.lemmas.Bool.Decides.{nat_tests}
-use Rattle.std.proofs.lemmas.List.{append-nil}
 use Rattle.std.specs.List.{AllByRecursion, find, list_any}
 use Rattle.desk_base.specs.declared.id.Id.{Id}
 use Rattle.desk_base.specs.declared.period.Period.{Period}
@@ -14,15 +13,14 @@ use Rattle.bearing_mods.specs.Turns.{force_turn, efficacy_turn}
 use Rattle.law_register.specs.declared.answer.due.Due.{Due}
 use Rattle.law_register.specs.declared.answer.question.Reading.{Reading}
 use Rattle.law_register.specs.declared.answer.question.Reading.TheVariants as reading
-use Rattle.law_register.specs.declared.law.modification.Destination.{Destination}
 use Rattle.law_register.specs.declared.law.modification.Destination.TheVariants as to
 use Rattle.law_register.specs.declared.law.modification.Modification.{Modification}
 use Rattle.law_register.specs.declared.law.modification.Modification.TheVariants.{Textual, Force, Efficacy}
 use Rattle.law_register.specs.declared.register.known.Known.{Known}
 use Rattle.law_register.specs.declared.register.known.KnownMod.{KnownMod}
-use Rattle.law_register.specs.Answer.Bearing.{bears_on, efficacy_on, force_on, period_on, start_on}
+use Rattle.law_register.specs.Answer.Bearing.{bears_on, force_on, period_on, start_on}
 use Rattle.law_register.specs.Answer.Counted.{is_same, is_same_id, force_from, efficacy_from, take_turns, forces_on, efficacies_on}
-use Rattle.law_register.specs.Answer.Order.{due_as, due_from, due_of, due_on, is_due, order, with_due}
+use Rattle.law_register.specs.Answer.Order.{due_as, due_from, due_of, is_due, order, with_due}
 use Rattle.law_register.specs.Answer.Touched.{day_on, first_on, own_day, sooner}
 use Rattle.law_register.proofs.ApartIds.{same_self, same_sym}
 use Rattle.law_register.proofs.DueOnce.{order_members}

@@ -1,5 +1,5 @@
 -- What is known of a work by one entry more agrees with what was known before the touched day.
-use Rattle.std.proofs.Common.{◌≡◌, ◌∙◌, sym, ap, subst, ℕ, zero, suc, ◌+◌, ◌-◌, ◌<◌, ◌≤◌, ◌==◌, Bool, true, false, cond, not, List, [], ◌∷◌, ◌++◌, append_assoc, length, map, take, Option, Some, None, is_some, option_map, refl, inl, inr, ◌⊎◌, arith}
+use Rattle.std.proofs.Common.{◌≡◌, ◌∙◌, sym, ap, subst, ℕ, zero, suc, ◌+◌, ◌-◌, ◌≤◌, ◌==◌, Bool, true, false, cond, List, [], ◌∷◌, ◌++◌, append_assoc, length, map, Option, Some, None, option_map, refl, inl, inr, ◌⊎◌, arith}
 use Rattle.std.proofs.lemmas.Bool.Decides.{nat_tests}
 use Rattle.std.proofs.lemmas.List.{append-nil, length-append}
 use Rattle.std.specs.List.{AllByRecursion}
@@ -17,7 +17,7 @@ use Rattle.law_register.specs.declared.register.known.Known.{Known}
 use Rattle.law_register.specs.declared.register.known.KnownMod.{KnownMod}
 use Rattle.law_register.specs.declared.register.standing.Standing.TheVariants.{Live, Withdrawn}
 use Rattle.law_register.specs.Answer.Counted.{is_same_id}
-use Rattle.law_register.specs.Answer.Touched.{day_changed, day_corrected, day_entered, day_known, day_recorded, day_saying, first_on, mods_in, mods_of, own_day, sooner, touched_day}
+use Rattle.law_register.specs.Answer.Touched.{day_changed, day_corrected, day_entered, day_known, day_recorded, day_saying, first_on, mods_in, mods_of, own_day, touched_day}
 use Rattle.law_register.specs.Register.Drafts.{draft_of, items_of}
 use Rattle.law_register.specs.Register.KnownIds.{IdFacts, corrected, enacted, enacted_by, enacted_or, facts_after, facts_of, first_facts, ids_from_item, ids_of, ids_recorded, item_at, known_as, known_at, known_by, known_ids, marked}
 use Rattle.law_register.specs.Register.LawList.{front, law_command, law_of, laws}

@@ -1,5 +1,5 @@
 -- An ascending list is parted by a day: what comes before it stands in front.
-use Rattle.std.proofs.Common.{suc, ◌≡◌, ◌∙◌, sym, ap, refl, ℕ, ◌<◌, ◌≤◌, Bool, true, false, cond, not, ◌&&◌, nat_le, nat_lt, List, [], ◌∷◌, ◌++◌, length, map, take, drop, arith}
+use Rattle.std.proofs.Common.{◌≡◌, ◌∙◌, sym, ap, refl, ℕ, ◌<◌, Bool, true, false, cond, not, ◌&&◌, nat_le, nat_lt, List, [], ◌∷◌, length, map, take, drop, arith}
 use Rattle.std.proofs.lemmas.Bool.Decides.{nat_tests}
 use Rattle.std.proofs.lemmas.Cmp.{ranked}
 use Rattle.std.specs.List.{AllByRecursion, filter, list_all}
@@ -80,3 +80,14 @@ module _ {A : Type 0} (key : A → ℕ) (t : ℕ) where
           let all : list_all (λ e. nat_lt (key x) e) (map key xs) ≡ true = both_left (list_all (λ e. nat_lt (key x) e) (map key xs)) (is_ascending (map key xs)) up in
           ap (λ (ys : List A). drop (length ys) (x ∷ xs)) (none_before (key x) xs e all)
           ∙ sym (ap (λ b. cond b (x ∷ (late xs)) (late xs)) (not_before (key x) t false e) ∙ ap (λ ys. x ∷ ys) (all_from (key x) xs e all))
+
+  -- where the first of them does not come before the day, none does
+  pub none_early : (x : A) (xs : List A) → is_ascending (map key (x ∷ xs)) ≡ true → nat_lt (key x) t ≡ false → filter (λ y. nat_lt (key y) t) (x ∷ xs) ≡ []
+  none_early x xs up e =
+      ap (λ b. cond b (x ∷ (early xs)) (early xs)) e
+      ∙ none_before (key x) xs e (both_left (list_all (λ e. nat_lt (key x) e) (map key xs)) (is_ascending (map key xs)) up)
+
+  pub all_late : (x : A) (xs : List A) → is_ascending (map key (x ∷ xs)) ≡ true → nat_lt (key x) t ≡ false → filter (λ y. nat_le t (key y)) (x ∷ xs) ≡ x ∷ xs
+  all_late x xs up e =
+      ap (λ b. cond b (x ∷ (late xs)) (late xs)) (not_before (key x) t false e)
+      ∙ ap (λ ys. x ∷ ys) (all_from (key x) xs e (both_left (list_all (λ e. nat_lt (key x) e) (map key xs)) (is_ascending (map key xs)) up))

@@ -4,10 +4,9 @@ use Rattle.std.specs.Option.{option_or}
 use Rattle.law_register.specs.declared.answer.question.Reading.{Reading}
 use Rattle.law_register.specs.declared.register.known.Known.{Known}
 use Rattle.law_register.specs.Answer.Breakpoints.{breakpoints}
-use Rattle.law_register.specs.Answer.Order.{order}
 use Rattle.law_register.specs.Answer.Replay.{VersionValue, as_enacted, replay_on, replayed}
 use Rattle.version_cache.specs.Days.{last_until, order_by}
-use Rattle.version_cache.specs.Tables.{TableValue, RowValue, IsRight, last_version, rows_on, rows_until, table_of, version_on}
+use Rattle.version_cache.specs.Tables.{RowValue, IsRight, last_version, rows_on, rows_until, table_of}
 use Rattle.version_cache.proofs.LastDay.{order_by_last}
 
 module _ (known : Known) (r : Reading) where
@@ -39,18 +38,21 @@ module _ (known : Known) (r : Reading) where
       here taken skipped true = taken ∙ or_here (last_until day ds)
       here taken skipped false = skipped ∙ or_before (last_until day ds)
 
-  by_order : (o : Option ℕ) → version_or (as_enacted known.act) o ≡ replayed known.mods (as_enacted known.act) (order_by known r o)
+  -- the version of the last breakpoint by a day is that of the ids that bear then
+  pub by_order : (o : Option ℕ) → version_or (as_enacted known.act) o ≡ replayed known.mods (as_enacted known.act) (order_by known r o)
   by_order None = refl
   by_order (Some day) = refl
+
+  -- replay from scratch makes of a day the version of the last breakpoint by then
+  pub replay_by_last : (day : ℕ) → replay_on known r day ≡ version_or (as_enacted known.act) (last_until day (breakpoints known))
+  replay_by_last day = ap (replayed known.mods (as_enacted known.act)) (order_by_last day known r) ∙ sym (by_order (last_until day (breakpoints known)))
 
   -- a table made is right
   pub made_right : IsRight known (table_of known r)
   made_right = record {
     enacted = refl;
     versions = λ day.
-        last_by day (as_enacted known.act) (breakpoints known)
-        ∙ by_order (last_until day (breakpoints known))
-        ∙ ap (replayed known.mods (as_enacted known.act)) (sym (order_by_last day known r));
+        last_by day (as_enacted known.act) (breakpoints known) ∙ sym (replay_by_last day);
   }
 
   pub made_is_right : (enacted : VersionValue) (rows : List RowValue) → enacted ≡ as_enacted known.act → rows ≡ rows_on known r (breakpoints known)

@@ -1,13 +1,13 @@
 -- The days of rows.
-use Rattle.std.proofs.Common.{◌≡◌, ◌∙◌, sym, ap, refl, ℕ, true, List, [], ◌∷◌, map}
+use Rattle.std.proofs.Common.{◌≡◌, ◌∙◌, ap, refl, ℕ, true, List, [], ◌∷◌, map}
 use Rattle.law_register.specs.declared.answer.question.Reading.{Reading}
 use Rattle.law_register.specs.declared.register.known.Known.{Known}
 use Rattle.law_register.specs.Answer.Breakpoints.{breakpoints}
 use Rattle.law_register.proofs.NamedDays.{breakpoints_ascend}
 use Rattle.version_cache.specs.declared.row.Row.{Row}
 use Rattle.version_cache.specs.Days.{is_ascending}
-use Rattle.version_cache.specs.Rows.{days_in, row_view, rows_view}
-use Rattle.version_cache.specs.Tables.{RowValue, rows_on}
+use Rattle.version_cache.specs.Rows.{days_in, rows_view}
+use Rattle.version_cache.specs.Tables.{rows_on}
 use Rattle.version_cache.proofs.Parted.{ascending}
 
 pub days_seen : (rows : List Row) → days_in rows ≡ map (λ row. row.day) (rows_view rows)

@@ -1,5 +1,5 @@
 -- As many rows as have come by a day, or before it, are those that have.
-use Rattle.std.proofs.Common.{suc, ◌≡◌, ◌∙◌, sym, ap, refl, ℕ, Bool, true, false, cond, ◌&&◌, nat_le, nat_lt, List, [], ◌∷◌, ◌++◌, length, map, take, arith}
+use Rattle.std.proofs.Common.{suc, ◌≡◌, ◌∙◌, sym, ap, refl, ℕ, Bool, true, false, cond, nat_le, nat_lt, List, [], ◌∷◌, ◌++◌, length, map, take, arith}
 use Rattle.std.proofs.lemmas.Bool.Decides.{nat_tests}
 use Rattle.std.proofs.lemmas.List.{map-append, take-map}
 use Rattle.std.specs.List.{filter, list_all}
@@ -11,10 +11,10 @@ use Rattle.version_cache.proofs.Fronts.{both_left, both_right}
 use Rattle.version_cache.proofs.Parted.{both_true, front_is}
 use Rattle.version_cache.proofs.RowDays.{days_seen}
 
-up_to : (d day : ℕ) → nat_lt d (suc day) ≡ nat_le d day
+pub up_to : (d day : ℕ) → nat_lt d (suc day) ≡ nat_le d day
 up_to d day = grind (arith, nat_tests)
 
-by_next : (day : ℕ) (rows : List RowValue) → filter (λ row. nat_lt row.day (suc day)) rows ≡ rows_until day rows
+pub by_next : (day : ℕ) (rows : List RowValue) → filter (λ row. nat_lt row.day (suc day)) rows ≡ rows_until day rows
 by_next day [] = refl
 by_next day (row ∷ rows) =
     ap (λ b. cond b (row ∷ filter (λ row. nat_lt row.day (suc day)) rows) (filter (λ row. nat_lt row.day (suc day)) rows)) (up_to row.day day)
@@ -29,6 +29,14 @@ pub before_front : (touched : ℕ) (rows : List Row) → is_ascending (days_in r
 before_front touched rows up =
     sym (take-map row_view (length (rows_before touched (rows_view rows))) rows)
     ∙ front_is (λ row. row.day) touched (rows_view rows) (seen_ascend rows up)
+
+pub stay_is : (touched : ℕ) (items xs ys front : List Row) (count : ℕ) → is_ascending (days_in items) ≡ true → xs ≡ items → ys ≡ items
+    → count ≡ length (rows_before touched (rows_view xs)) → front ≡ take count ys → rows_view front ≡ rows_before touched (rows_view items)
+stay_is touched items xs ys front count up same also counted cut =
+    ap rows_view
+    (cut ∙ ap (λ n. take n ys) counted ∙ ap (λ (zs : List Row). take (length (rows_before touched (rows_view zs))) ys) same
+    ∙ ap (take (length (rows_before touched (rows_view items)))) also)
+    ∙ before_front touched items up
 
 -- by a day
 until_front : (day : ℕ) (rows : List Row) → is_ascending (days_in rows) ≡ true

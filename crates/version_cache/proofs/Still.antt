@@ -13,9 +13,8 @@ use Rattle.bearing_mods.specs.declared.efficacy.EfficacyEffect.TheVariants as ef
 use Rattle.bearing_mods.specs.declared.efficacy.CountedEfficacy.{CountedEfficacy}
 use Rattle.bearing_mods.specs.Dates.{put_off}
 use Rattle.bearing_mods.specs.Force.{force_after, force_at}
-use Rattle.bearing_mods.specs.Efficacy.{efficacy_after, efficacy_at, efficacy_period, inapplies, is_inapplied}
+use Rattle.bearing_mods.specs.Efficacy.{efficacy_after, efficacy_period, inapplies, is_inapplied}
 use Rattle.bearing_mods.specs.Turns.{Turn, is_earlier, force_turn, efficacy_turn}
-use Rattle.law_register.specs.declared.answer.due.Due.{Due}
 use Rattle.law_register.specs.declared.answer.question.Reading.{Reading}
 use Rattle.law_register.specs.declared.answer.question.Reading.TheVariants as reading
 use Rattle.law_register.specs.declared.law.modification.Destination.{Destination}
@@ -27,7 +26,7 @@ use Rattle.law_register.specs.declared.register.known.KnownMod.{KnownMod}
 use Rattle.law_register.specs.Answer.Bearing.{bears_on, efficacy_on, force_on, period_on, start_on}
 use Rattle.law_register.specs.Answer.Breakpoints.{breakpoints, days_of, efficacy_days, end_days, force_date, period_days}
 use Rattle.law_register.specs.Answer.Counted.{is_same, force_from, efficacy_from, take_turn, take_turns, forces_on, efficacies_on}
-use Rattle.law_register.specs.Answer.Order.{due_as, due_from, due_of, due_on, order, with_due}
+use Rattle.law_register.specs.Answer.Order.{due_as, due_from, due_of, order, with_due}
 use Rattle.version_cache.proofs.NamedBy.{EachDay, EachIf, none_named, day_weaker}
 
 turned : {A : Type 0} (P : A → Type 0) (turn : A → Turn) (one : A) (others : List A) → P one → AllByRecursion P others

@@ -1,7 +1,5 @@
 -- That a version is as replay makes it has one proof at most, so that what keeps a version may carry it.
-use Rattle.std.specs.Prelude.{ℕ}
 use Rattle.std.specs.Coded.{Coded-set, codes, coded_ℕ, coded_bool}
-use Rattle.act_tree.specs.declared.cause.Cause.{Cause}
 use Rattle.law_register.specs.Answer.Replay.{VersionValue}
 use Rattle.law_register.specs.Answer.Soundness.{IsReplayed}
 

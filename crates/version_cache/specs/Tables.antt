@@ -1,5 +1,5 @@
 -- Tables: the versions of a work by day, each kept from the day on which it begins.
-use Rattle.std.specs.Prelude.{◌≡◌, ◌<◌, ℕ, nat_le, nat_lt, length, List, [], ◌∷◌, ◌++◌, filter, map}
+use Rattle.std.specs.Prelude.{◌≡◌, ◌<◌, ℕ, nat_le, nat_lt, length, List, [], ◌∷◌, ◌++◌, filter, map, Option, Some, None}
 use Rattle.law_register.specs.declared.answer.question.Reading.{Reading}
 use Rattle.law_register.specs.declared.register.known.Known.{Known}
 use Rattle.law_register.specs.Answer.Breakpoints.{breakpoints}
@@ -76,3 +76,8 @@ pub record IsRight (known : Known) (table : TableValue) : Type 0 where
 pub record IsRightBefore (known : Known) (touched : ℕ) (table : TableValue) : Type 0 where
   pub enacted : table.enacted ≡ as_enacted known.act
   pub versions : (day : ℕ) → day < touched → version_on table day ≡ replay_on known table.reading day
+
+-- a table is right on each day before the touched one; on all days, where there is none
+abbrev pub IsRightUntil : Known → Option ℕ → TableValue → Type 0
+IsRightUntil known None table = IsRight known table
+IsRightUntil known (Some touched) table = IsRightBefore known touched table

@@ -13,7 +13,7 @@ ghost use Rattle.law_register.specs.Register.Verdicts.{is_legal};
 ghost use Rattle.version_cache.specs.Agreement.{Agree};
 ghost use Rattle.version_cache.specs.Days.{last_until, order_by};
 ghost use Rattle.version_cache.specs.Seen.{table_view};
-ghost use Rattle.version_cache.specs.Tables.{IsRight, IsRightBefore, table_of};
+ghost use Rattle.version_cache.specs.Tables.{IsRight, IsRightUntil, table_of};
 
 use crate::Table;
 use desk_base::Day;
@@ -31,11 +31,17 @@ pub fn rows_of_breakpoints_suffice(_known: &Known, _reading: Reading)
     ensures { IsRight _known.now (table_of _known.now _reading) }
 {}
 
-/// A table that is right for what was known is right before a day for what is known now, where both agree before that day.
-pub fn agreeing_views_share_tables(_old: &Known, _new: &Known, _touched: Day, _table: &Table)
+/// A table that is right for what was known is right before a day for what is known now, where both agree before that day; and on all
+/// days, where they agree on all.
+pub fn agreeing_views_share_tables(
+    _old: &Known,
+    _new: &Known,
+    _touched: Option<Day>,
+    _table: &Table,
+)
     requires right { IsRight _old.now (table_view _table.now) }
-    requires agree { Agree _old.now _new.now (table_view _table.now).reading (Some _touched) }
-    ensures { IsRightBefore _new.now _touched (table_view _table.now) }
+    requires agree { Agree _old.now _new.now (table_view _table.now).reading _touched }
+    ensures { IsRightUntil _new.now _touched (table_view _table.now) }
 {}
 
 /// Nothing changes before the touched day: of entries that were each accepted behind those before it, and one entry more, what is

@@ -6,9 +6,12 @@ mod dated;
 mod kept_version;
 pub mod laws;
 mod making;
+mod revising;
+mod revision;
 mod row;
 mod table;
 mod tabling;
 
+pub use revision::Revision;
 pub use row::Row;
 pub use table::Table;

@@ -1,15 +1,13 @@
-use Rattle.std.proofs.Common.{rules, ◌≡◌, ◌∙◌, ◌+◌, ◌<◌, ◌≤◌, ◌++◌, sym, ap, arith, drop, length, List, [], ◌∷◌, ℕ}
+use Rattle.std.proofs.Common.{rules, ◌≡◌, ◌∙◌, ◌+◌, ◌<◌, ◌≤◌, ◌++◌, sym, ap, arith, drop, length, List, ◌∷◌, ℕ}
 use Rattle.std.proofs.lemmas.List.{drop_more}
-use Rattle.desk_base.specs.declared.id.Id.{Id}
 use Rattle.law_register.specs.declared.answer.question.Reading.{Reading}
 use Rattle.law_register.specs.declared.register.known.Known.{Known}
 use Rattle.law_register.specs.Answer.Costs.{cost_after, ids_applied}
-use Rattle.law_register.specs.Answer.Replay.{VersionValue}
 use Rattle.law_register.specs.Answer.Soundness.{id_twice}
 use Rattle.law_register.specs.Answer.Versions.{version_view}
 use Rattle.law_register.proofs.DueOnce.{order_once}
 use Rattle.version_cache.specs.declared.row.Row.{Row}
-use Rattle.version_cache.specs.Rows.{row_view, rows_view}
+use Rattle.version_cache.specs.Rows.{rows_view}
 use Rattle.version_cache.specs.Tables.{last_version, rows_on}
 use Rattle.version_cache.proofs.Adding.{cost_step, last_step, made_by, rows_step}
 use Rattle.version_cache.proofs.making.add_rows.Goals as goal

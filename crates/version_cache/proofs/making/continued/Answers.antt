@@ -1,7 +1,6 @@
-use Rattle.std.proofs.Common.{◌≡◌, ◌∙◌, ◌++◌, sym, ap, subst}
+use Rattle.std.proofs.Common.{◌∙◌, ◌++◌, ap}
 use Rattle.law_register.specs.Answer.Replay.{VersionValue}
-use Rattle.law_register.specs.Answer.Soundness.{IsReplayed, id_twice}
-use Rattle.law_register.specs.Answer.Versions.{version_view}
+use Rattle.law_register.specs.Answer.Soundness.{id_twice}
 use Rattle.version_cache.proofs.making.continued.Goals as goal
 
 pub continue_replay-requires-clause-apart : goal.continue_replay-requires-clause-apart

@@ -1,6 +1,5 @@
-use Rattle.std.proofs.Common.{◌≡◌, ◌∙◌, sym, true}
+use Rattle.std.proofs.Common.{◌∙◌, sym}
 use Rattle.std.proofs.lemmas.Result.{IfOk-weaker}
-use Rattle.law_register.specs.Answer.Costs.{begins_with}
 use Rattle.law_register.specs.Answer.Versions.{version_view}
 use Rattle.version_cache.proofs.Continued.{rest_apart, rest_makes}
 use Rattle.version_cache.proofs.Fronts.{no_longer}

@@ -1,0 +1,121 @@
+use Rattle.std.proofs.Common.{◌≡◌, ◌∙◌, ◌≤◌, ◌+◌, sym, ap, subst, List, ℕ, length}
+use Rattle.desk_base.specs.declared.id.Id.{Id}
+use Rattle.law_register.specs.declared.answer.question.Reading.{Reading}
+use Rattle.law_register.specs.declared.register.known.Known.{Known}
+use Rattle.law_register.specs.Answer.Breakpoints.{breakpoints}
+use Rattle.law_register.specs.Answer.Replay.{as_enacted, replayed}
+use Rattle.law_register.specs.Answer.Versions.{version_view}
+use Rattle.version_cache.specs.declared.row.Row.{Row}
+use Rattle.version_cache.specs.Days.{days_before, last_day, order_by}
+use Rattle.version_cache.specs.Rows.{days_in, rows_view}
+use Rattle.version_cache.specs.Seen.{table_view}
+use Rattle.version_cache.specs.Tables.{IsRight, RevisionValue, breakpoints_from, committed, last_version, rows_before, rows_on}
+use Rattle.version_cache.proofs.LateDays.{days_from, new_ascend, new_late, parted_before, parted_from, revised_cost}
+use Rattle.version_cache.proofs.Revised.{last_kept_is, revised_right, revision_is}
+use Rattle.version_cache.proofs.Right.{by_order}
+use Rattle.version_cache.proofs.RowDays.{days_made}
+use Rattle.version_cache.proofs.RowFronts.{stay_is}
+use Rattle.version_cache.proofs.table.Table.revise.Goals as goal
+
+pub add_rows-requires-clause-last : goal.add_rows-requires-clause-last
+add_rows-requires-clause-last g c =
+    let known : Known = c.args.known.now in
+    let r : Reading = c.args.self.now.reading in
+    let t : ℕ = c.args.touched in
+    c.last_kept.ensures
+    ∙ ap (last_version (version_view c.args.self.now.enacted.version))
+    (stay_is t c.args.self.now.rows.items c.as_slice-3.result.now c.as_slice-4.result.now c.split_at-stay.result.0.now c.count_rows_before-kept.result c.args.self.now.ascending
+    c.as_slice-3.ensures.value c.as_slice-4.ensures.value c.count_rows_before-kept.ensures.count c.split_at-stay.ensures.front)
+    ∙ last_kept_is known (table_view c.args.self.now) t c.requires.right
+    ∙ by_order known r (last_day (days_before t (breakpoints known)))
+    ∙ sym (ap (replayed known.mods (as_enacted known.act))
+    (c.in_ok-ids_by_last.ensures
+    ∙ ap (λ (ds : List ℕ). order_by known r (last_day ds))
+    (parted_before known t c.as_slice.result.now c.as_slice-2.result.now c.split_at-parts.result.0.now c.count_days_before-count.result (c.as_slice.ensures ∙ c.in_ok-days.ensures)
+    (c.as_slice-2.ensures ∙ c.in_ok-days.ensures) c.count_days_before-count.ensures.count c.split_at-parts.ensures.front)))
+
+pub returns-in_err-add_rows-clause-steps : goal.returns-in_err-add_rows-clause-steps
+returns-in_err-add_rows-clause-steps g c =
+    let known : Known = c.args.known.now in
+    let r : Reading = c.args.self.now.reading in
+    let t : ℕ = c.args.touched in
+    let ids : List Id = c.in_ok-ids_by_last.field-0 in
+    let ordered : ids ≡ order_by known r (last_day (days_before t (breakpoints known))) =
+    c.in_ok-ids_by_last.ensures
+    ∙ ap (λ (ds : List ℕ). order_by known r (last_day ds))
+    (parted_before known t c.as_slice.result.now c.as_slice-2.result.now c.split_at-parts.result.0.now c.count_days_before-count.result (c.as_slice.ensures ∙ c.in_ok-days.ensures)
+    (c.as_slice-2.ensures ∙ c.in_ok-days.ensures) c.count_days_before-count.ensures.count c.split_at-parts.ensures.front) in
+    let back = parted_from known t c.as_slice.result.now c.as_slice-2.result.now c.split_at-parts.result.1.now c.count_days_before-count.result (c.as_slice.ensures ∙ c.in_ok-days.ensures)
+    (c.as_slice-2.ensures ∙ c.in_ok-days.ensures) c.count_days_before-count.ensures.count c.split_at-parts.ensures.back in
+    subst (λ (n : ℕ). c.add_rows.new.steps ≤ c.args.steps.now + n) (revised_cost known t r ids c.split_at-parts.result.1.now ordered back) c.add_rows.ensures.steps
+
+pub returns-in_err-reserve-clause-steps : goal.returns-in_err-reserve-clause-steps
+returns-in_err-reserve-clause-steps g c =
+    let known : Known = c.args.known.now in
+    let r : Reading = c.args.self.now.reading in
+    let t : ℕ = c.args.touched in
+    let ids : List Id = c.in_ok-ids_by_last.field-0 in
+    let ordered : ids ≡ order_by known r (last_day (days_before t (breakpoints known))) =
+    c.in_ok-ids_by_last.ensures
+    ∙ ap (λ (ds : List ℕ). order_by known r (last_day ds))
+    (parted_before known t c.as_slice.result.now c.as_slice-2.result.now c.split_at-parts.result.0.now c.count_days_before-count.result (c.as_slice.ensures ∙ c.in_ok-days.ensures)
+    (c.as_slice-2.ensures ∙ c.in_ok-days.ensures) c.count_days_before-count.ensures.count c.split_at-parts.ensures.front) in
+    let back = parted_from known t c.as_slice.result.now c.as_slice-2.result.now c.split_at-parts.result.1.now c.count_days_before-count.result (c.as_slice.ensures ∙ c.in_ok-days.ensures)
+    (c.as_slice-2.ensures ∙ c.in_ok-days.ensures) c.count_days_before-count.ensures.count c.split_at-parts.ensures.back in
+    subst (λ (n : ℕ). c.add_rows.new.steps ≤ c.args.steps.now + n) (revised_cost known t r ids c.split_at-parts.result.1.now ordered back) c.add_rows.ensures.steps
+
+pub invariant_of-result : goal.invariant_of-result
+invariant_of-result g c =
+    let known : Known = c.args.known.now in
+    let r : Reading = c.args.self.now.reading in
+    let t : ℕ = c.args.touched in
+    let back = parted_from known t c.as_slice.result.now c.as_slice-2.result.now c.split_at-parts.result.1.now c.count_days_before-count.result (c.as_slice.ensures ∙ c.in_ok-days.ensures)
+    (c.as_slice-2.ensures ∙ c.in_ok-days.ensures) c.count_days_before-count.ensures.count c.split_at-parts.ensures.back in
+    let days : days_in c.reserve.new.self.items ≡ days_from t (breakpoints known) =
+    ap days_in c.reserve.ensures.items ∙ days_made known r c.split_at-parts.result.1.now c.add_rows.new.rows.items c.in_ok-add_rows.ensures.rows ∙ back in
+    record {
+      ascending = new_ascend known t (days_in c.reserve.new.self.items) days;
+      late = new_late known t (days_in c.reserve.new.self.items) days;
+      room = c.in_ok-reserve.ensures.ok;
+    }
+
+pub returns-clause-revision : goal.returns-clause-revision
+returns-clause-revision g c =
+    let known : Known = c.args.known.now in
+    let r : Reading = c.args.self.now.reading in
+    let t : ℕ = c.args.touched in
+    let back = parted_from known t c.as_slice.result.now c.as_slice-2.result.now c.split_at-parts.result.1.now c.count_days_before-count.result (c.as_slice.ensures ∙ c.in_ok-days.ensures)
+    (c.as_slice-2.ensures ∙ c.in_ok-days.ensures) c.count_days_before-count.ensures.count c.split_at-parts.ensures.back in
+    revision_is t c.count_rows_before-kept.result (length (rows_before t (rows_view c.args.self.now.rows.items))) (rows_view c.reserve.new.self.items)
+    (rows_on known r (breakpoints_from known t))
+    (c.count_rows_before-kept.ensures.count ∙ ap (λ (xs : List Row). length (rows_before t (rows_view xs))) c.as_slice-3.ensures.value)
+    (ap rows_view c.reserve.ensures.items ∙ c.in_ok-add_rows.ensures.rows ∙ ap (rows_on known r) back)
+
+pub returns-clause-right : goal.returns-clause-right
+returns-clause-right g c =
+    let known : Known = c.args.known.now in
+    let r : Reading = c.args.self.now.reading in
+    let t : ℕ = c.args.touched in
+    let back = parted_from known t c.as_slice.result.now c.as_slice-2.result.now c.split_at-parts.result.1.now c.count_days_before-count.result (c.as_slice.ensures ∙ c.in_ok-days.ensures)
+    (c.as_slice-2.ensures ∙ c.in_ok-days.ensures) c.count_days_before-count.ensures.count c.split_at-parts.ensures.back in
+    subst (λ (revision : RevisionValue). IsRight known (committed (table_view c.args.self.now) revision))
+    (sym (revision_is t c.count_rows_before-kept.result (length (rows_before t (rows_view c.args.self.now.rows.items))) (rows_view c.reserve.new.self.items)
+    (rows_on known r (breakpoints_from known t))
+    (c.count_rows_before-kept.ensures.count ∙ ap (λ (xs : List Row). length (rows_before t (rows_view xs))) c.as_slice-3.ensures.value)
+    (ap rows_view c.reserve.ensures.items ∙ c.in_ok-add_rows.ensures.rows ∙ ap (rows_on known r) back)))
+    (revised_right known (table_view c.args.self.now) t c.requires.right)
+
+pub returns-clause-steps : goal.returns-clause-steps
+returns-clause-steps g c =
+    let known : Known = c.args.known.now in
+    let r : Reading = c.args.self.now.reading in
+    let t : ℕ = c.args.touched in
+    let ids : List Id = c.in_ok-ids_by_last.field-0 in
+    let ordered : ids ≡ order_by known r (last_day (days_before t (breakpoints known))) =
+    c.in_ok-ids_by_last.ensures
+    ∙ ap (λ (ds : List ℕ). order_by known r (last_day ds))
+    (parted_before known t c.as_slice.result.now c.as_slice-2.result.now c.split_at-parts.result.0.now c.count_days_before-count.result (c.as_slice.ensures ∙ c.in_ok-days.ensures)
+    (c.as_slice-2.ensures ∙ c.in_ok-days.ensures) c.count_days_before-count.ensures.count c.split_at-parts.ensures.front) in
+    let back = parted_from known t c.as_slice.result.now c.as_slice-2.result.now c.split_at-parts.result.1.now c.count_days_before-count.result (c.as_slice.ensures ∙ c.in_ok-days.ensures)
+    (c.as_slice-2.ensures ∙ c.in_ok-days.ensures) c.count_days_before-count.ensures.count c.split_at-parts.ensures.back in
+    subst (λ (n : ℕ). c.add_rows.new.steps ≤ c.args.steps.now + n) (revised_cost known t r ids c.split_at-parts.result.1.now ordered back) c.add_rows.ensures.steps

@@ -1,0 +1,21 @@
+//! Revision: what a table is to have in place of its rows from a day on. A clause sees its day, how many rows stay, and the new ones
+//! (`revision_view`).
+
+ghost use Rattle.std.specs.Prelude.{◌≡◌, ◌+◌, ◌≤◌, nat_le, true, vec_capacity, vec_len};
+ghost use Rattle.std.specs.List.{list_all};
+ghost use Rattle.version_cache.specs.Days.{is_ascending};
+ghost use Rattle.version_cache.specs.Rows.{days_in};
+
+use crate::Row;
+use desk_base::Day;
+
+/// The rows of a table from a day on, made anew, with room for those before it.
+#[derive(Debug, Drop)]
+pub struct Revision {
+    pub(crate) touched: Day,
+    pub(crate) kept: usize,
+    pub(crate) rows: Vec<Row>,
+    ghost ascending: { is_ascending (days_in rows.items) ≡ true },
+    ghost late: { list_all (λ day. nat_le touched day) (days_in rows.items) ≡ true },
+    ghost room: { vec_len rows + kept ≤ vec_capacity rows },
+}
