@@ -1,16 +1,19 @@
 """What all checks share: where things are, a run of a program over a pipe, and the count of what passed."""
 import os
 import subprocess
+import sys
 import tempfile
 
 TOP = os.path.dirname(os.path.dirname(os.path.abspath(__file__)))
 PROGRAM = os.path.join(TOP, "crates", "lawdesk", "out", "lawdesk")
 DESK = os.path.join(TOP, "crates", "desk_trial", "out", "desk_trial")
+TRIAL = os.path.join(TOP, "crates", "journal_trial", "out", "journal_trial")
 TURNS = os.path.join(TOP, "crates", "turn_trial", "out", "turn_trial")
 SCRIPT = os.path.join(TOP, "lawdesk")
 
 passed = 0
 failed = 0
+skipped = []
 
 
 def check(name, got, want):
@@ -21,6 +24,11 @@ def check(name, got, want):
     else:
         failed += 1
         print(f"{name}: got {str(got)[:300]}, wanted {str(want)[:300]}")
+
+
+def skip(what, why):
+    """Notes a part that is left out on this machine; the last lines of tests/run name it."""
+    skipped.append(f"skipped: {what}, since {why}")
 
 
 def folder():
@@ -52,3 +60,11 @@ def to_a_full_device(line, given, **settings):
     """The status of a run whose standard output takes nothing."""
     with open("/dev/full", "wb") as full:
         return subprocess.run(line, input=given, stdout=full, stderr=subprocess.DEVNULL, timeout=60, **settings).returncode
+
+
+def end():
+    """The last lines: what was left out, and how many checks passed. Ends with 1 where one has failed."""
+    for line in skipped:
+        print(line)
+    print(f"{passed} passed, {failed} failed")
+    sys.exit(1 if failed else 0)

@@ -151,7 +151,7 @@ def session(rows, status):
 
 def real_clients():
     if not shutil.which("curl"):
-        print("real clients: skipped, since curl is not installed")
+        checks.skip("real clients", "curl is not installed")
         return
     for rows, status in SESSIONS:
         session(rows, status)

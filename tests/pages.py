@@ -1,9 +1,14 @@
 """What pages of docs/ show of streams: requests with their responses, and the example of a desk."""
+import os
 import re
+import shutil
+import subprocess
 
-from checks import check, read
+import checks
+from checks import TOP, check, read
 from messages import batch, check_written
 
+FILTER = re.compile(r"`jq '(.*?)'`", re.DOTALL)
 BLOCK = re.compile(r"^```http\n(.*?)^```$", re.DOTALL | re.MULTILINE)
 REPEATED = re.compile(r"\{(\d+) × (.)\}")
 
@@ -35,3 +40,14 @@ def desk():
     """The stream that docs/START.md sends to a desk."""
     check("the page of the example", b"./lawdesk batch < examples/desk.http\n" in read("docs", "START.md"), True)
     check_written("the example of a desk", batch(read("examples", "desk.http")), (0, read("examples", "desk.out")))
+
+
+def filters():
+    """Each filter for jq that docs/REFUSALS.md shows reads a dossier."""
+    if not shutil.which("jq"):
+        checks.skip("the filters of docs/REFUSALS.md", "jq is not installed")
+        return
+    for shown in FILTER.findall(read("docs", "REFUSALS.md").decode()):
+        words = shown.replace("\\|", "|").replace("K - 1", "0").replace("n - 2", "0")
+        done = subprocess.run(["jq", words, os.path.join(TOP, "examples", "edits.json")], capture_output=True, timeout=60)
+        check(f"the filter {shown[:60]}", (done.returncode, done.stderr), (0, b""))
