@@ -1,18 +1,17 @@
 -- What was laid down behind an arena is taken off, or put into a list.
-use Rattle.std.proofs.Common.{◌≡◌, ◌∙◌, sym, ap, refl, ℕ, ◌+◌, ◌<◌, ◌≤◌, ◌^◌, ◌==◌, List, [], ◌∷◌, length, get_or, Option, Some, None, inl, inr, arith, Vec, Global}
-use Rattle.std.specs.List.{list_any}
+use Rattle.std.proofs.Common.{◌≡◌, ◌∙◌, sym, ap, refl, ℕ, ◌+◌, ◌<◌, ◌≤◌, ◌^◌, List, get_or, Option, Some, None, inl, inr, arith, Vec, Global}
 use Rattle.std.proofs.lemmas.Bool.{cases_eq, cases_lt}
 use Rattle.act_tree.specs.declared.arena.Slot.{Slot}
 use Rattle.act_tree.specs.declared.arena.Arena.{Arena}
 use Rattle.act_tree.specs.Branches.{Branches}
 use Rattle.act_tree.specs.Provisions.{Provision}
 use Rattle.act_tree.specs.Arena.{Laid, provision_in, above_in, below_in, name_in, is_hung, number_twice}
-use Rattle.act_tree.specs.Grafted.{put_numbers, IsDiscarded, IsGrafted, IsReplanted, IsStopped}
+use Rattle.act_tree.specs.Grafted.{put_numbers, IsDiscarded, IsGrafted, IsStopped}
 use Rattle.act_tree.specs.Planted.{HasGrown, AreLaid}
 use Rattle.act_tree.specs.Slots.{laid_of, at, number, size}
-use Rattle.act_tree.specs.TakenOff.{with_above, with_below, IsEmptied}
+use Rattle.act_tree.specs.TakenOff.{with_above, with_below}
 use Rattle.act_tree.proofs.Growing.{Listed}
-use Rattle.act_tree.proofs.LaidDown.{laid_past, laid_is, laid_slot}
+use Rattle.act_tree.proofs.LaidDown.{laid_past, laid_slot}
 use Rattle.act_tree.proofs.LaidArenas.{IsListed, listed, sizes_listed}
 use Rattle.act_tree.proofs.Removing.{name_kept, below_kept, own_hung}
 
@@ -98,32 +97,4 @@ grafted_there old mid new parent place j ids below bs s within laid_all at_j it 
       others = l.others;
       numbers = l.numbers;
       sizes = sizes_listed mid new parent below s inside is;
-    }
-
-some_slot : (ss : List Slot) → 0 < length ss → Slot
-some_slot [] some = absurd (omega arith)
-some_slot (s ∷ ss) some = s
-
--- what was laid down is all that is below the root
-pub replanted_there : (old mid cleared new : Arena) (ids : List ℕ) (below : Vec ℕ Global) (bs : Branches Provision) → 0 < size old → AreLaid old mid 0 ids bs → IsEmptied (at mid) (at cleared)
-    → cleared.numbers ≡ mid.numbers → size cleared ≡ size mid → below.items ≡ ids → IsListed cleared new 0 below → IsReplanted old new bs
-replanted_there old mid cleared new ids below bs some laid_all e numbers sizes items is =
-    let rises : size old ≤ size mid = laid_all.rises in
-    let inside : 0 < size cleared = omega arith in
-    let s : Slot = some_slot cleared.slots.items inside in
-    let l : Listed (at cleared) (at new) (number cleared) (number new) 0 below.items = listed cleared new 0 below s inside is in
-    let x : Laid = laid_of (get_or old.slots.items 0 (some_slot old.slots.items some)) in
-    let here : at old 0 ≡ Some x = laid_is old.slots.items 0 (some_slot old.slots.items some) some in
-    let kept : at mid 0 ≡ at old 0 = laid_all.grown.kept 0 some in
-    let lists : (k : ℕ) → list_any (λ j. j == k) (below_in (at mid 0)) ≡ list_any (λ j. j == k) (below_in (at old 0)) = λ k. ap (λ o. list_any (λ j. j == k) (below_in o)) kept in
-    let bare : at cleared 0 ≡ Some (record x { below = [] }) = e.root ∙ ap (with_below []) (kept ∙ here) in
-    record {
-      between = mid;
-      ids = ids;
-      laid = laid_all;
-      root = l.here ∙ ap (λ o. Some (record { provision = provision_in o; above = above_in o; below = below.items })) bare ∙ ap (λ ks. Some (record x { below = ks })) items ∙ sym (ap (with_below ids) here);
-      off = λ k other found. l.others k other ∙ e.off k other (lists k ∙ found);
-      others = λ k other none. l.others k other ∙ e.others k other (lists k ∙ none);
-      numbers = λ w. l.numbers w ∙ ap (λ ns. number (record mid { numbers = ns }) w) numbers;
-      sizes = sizes_listed cleared new 0 below s inside is ∙ sizes;
     }

@@ -35,7 +35,6 @@ pub mod BroughtWids
 pub mod Grafts
 pub mod GraftedTrees
 pub mod Places
-pub mod Replants
 pub mod InsteadOf
 pub mod ReplacedNodes
 pub mod ChildCounts

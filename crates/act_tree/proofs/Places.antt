@@ -1,8 +1,9 @@
 -- What is grafted at the place of a provision among its siblings stands right before it, and at the next place right behind it.
 use Rattle.std.proofs.Common.{◌≡◌, ◌∙◌, sym, ap, refl, ℕ, suc, ◌+◌, ◌<◌, ◌==◌, true, false, ◌||◌, cond, List, [], ◌∷◌, length, get_or, Option, Some, inl, inr, arith}
 use Rattle.std.specs.List.{list_any}
+use Rattle.std.specs.Prelude.{slice_get}
 use Rattle.std.specs.Str.{bytes_eq}
-use Rattle.std.proofs.lemmas.Bool.{cases_Bool, cases_eq, eq-eqb, ne_eqb}
+use Rattle.std.proofs.lemmas.Bool.{cases_Bool, cases_eq, eq-eqb, eqb-true, ne_eqb}
 use Rattle.act_tree.specs.declared.arena.Slot.{Slot}
 use Rattle.act_tree.specs.declared.arena.Arena.{Arena}
 use Rattle.act_tree.specs.declared.tree.Tree.{Tree}
@@ -34,6 +35,17 @@ place_low i (k ∷ ks) found =
           let low : place_from 0 i ks < length ks = place_low i ks later in
           let here : cond (k == i) 0 (suc (place_from 0 i ks)) ≡ suc (place_from 0 i ks) = ap (λ t. cond t 0 (suc (place_from 0 i ks))) other in
           omega arith
+    ]
+
+-- a number stands at its place
+place_holds : (i : ℕ) (ks : List ℕ) → list_any (λ j. j == i) ks ≡ true → slice_get ks (place_from 0 i ks) ≡ Some i
+place_holds i [] found = absurd cc
+place_holds i (k ∷ ks) found =
+    elim (cases_Bool (k == i)) [
+      | inl it ↦ ap (λ t. slice_get (k ∷ ks) (cond t 0 (suc (place_from 0 i ks)))) it ∙ ap Some (eqb-true k i it)
+      | inr other ↦
+          let later : list_any (λ j. j == i) ks ≡ true = sym (ap (λ t. t || list_any (λ j. j == i) ks) other) ∙ found in
+          ap (λ t. slice_get (k ∷ ks) (cond t 0 (suc (place_from 0 i ks)))) other ∙ place_holds i ks later
     ]
 
 pub place_next : (i : ℕ) (ks : List ℕ) → place_from 1 i ks ≡ place_from 0 i ks + 1
@@ -179,15 +191,24 @@ parent_climbs t i j node other up =
 pub slot_above : (t : Tree) (i j : ℕ) (s : Slot) → has_node t i ≡ true → j ≡ i → s ≡ get_or t.arena.slots.items j s → s.above ≡ above_in (at t.arena i)
 slot_above t i j s node place it = sym (ap above_in (node_slot t i j s node place it))
 
-pub place_within : (t : Tree) (i j n : ℕ) (ks : List ℕ) → has_node t i ≡ true → (i ≡ 0 → ⊥) → j ≡ above_in (at t.arena i) → ks ≡ children_at t j → n ≡ place_from 0 i ks → n < length (children_at t j)
+-- a node is listed below the one above it
+listed_there : (t : Tree) (i j : ℕ) (ks : List ℕ) → has_node t i ≡ true → (i ≡ 0 → ⊥) → j ≡ above_in (at t.arena i) → ks ≡ children_at t j → list_any (λ l. l == i) ks ≡ true
 unfolding has_node children_at
-place_within t i j n ks node other up kids is =
+listed_there t i j ks node other up kids =
     let low : heights (body_of t.arena) < size t.arena = t.whole.low in
-    let listed : list_any (λ l. l == i) ks ≡ true = ap (list_any (λ l. l == i)) (kids ∙ ap (λ l. below_in (at t.arena l)) up)
-    ∙ listed_above (at t.arena) i (at t.arena i) (above_climbs (at t.arena) (size t.arena) i node other (omega arith)).0 (t.whole.hung i) in
-    let within : place_from 0 i ks < length ks = place_low i ks listed in
-    let same : length ks ≡ length (below_in (at t.arena j)) = ap length kids in
+    ap (list_any (λ l. l == i)) (kids ∙ ap (λ l. below_in (at t.arena l)) up)
+    ∙ listed_above (at t.arena) i (at t.arena i) (above_climbs (at t.arena) (size t.arena) i node other (omega arith)).0 (t.whole.hung i)
+
+pub place_within : (t : Tree) (i j n : ℕ) (ks : List ℕ) → has_node t i ≡ true → (i ≡ 0 → ⊥) → j ≡ above_in (at t.arena i) → ks ≡ children_at t j → n ≡ place_from 0 i ks → n < length (children_at t j)
+place_within t i j n ks node other up kids is =
+    let within : place_from 0 i ks < length ks = place_low i ks (listed_there t i j ks node other up kids) in
+    let same : length ks ≡ length (children_at t j) = ap length kids in
     omega arith
+
+-- and stands there at its place
+pub placed_child : (t : Tree) (i j n : ℕ) (ks : List ℕ) → has_node t i ≡ true → (i ≡ 0 → ⊥) → j ≡ above_in (at t.arena i) → ks ≡ children_at t j → n ≡ place_from 0 i ks → slice_get (children_at t j) n ≡ Some i
+placed_child t i j n ks node other up kids is =
+    ap (λ ls. slice_get ls n) (sym kids) ∙ ap (slice_get ks) is ∙ place_holds i ks (listed_there t i j ks node other up kids)
 
 pub placed_before : (t : Tree) (i j n : ℕ) (ks : List ℕ) → has_node t i ≡ true → (i ≡ 0 → ⊥) → j ≡ above_in (at t.arena i) → ks ≡ children_at t j → n ≡ place_from 0 i ks
     → (new : Branches Provision) → grafted (provision_at t j).wid n new (tree_view t).body ≡ changed (before new) (provision_at t i).wid (tree_view t).body

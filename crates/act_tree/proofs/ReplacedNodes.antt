@@ -34,7 +34,7 @@ not_root t i node other =
     other (sym it))
 
 -- the wId of a node is not among new ones
-not_new : (t : Tree) (i : ℕ) (new : Branches Provision) → has_node t i ≡ true → AreNew t (all_wids new) → any_holds (provision_at t i).wid new ≡ false
+pub not_new : (t : Tree) (i : ℕ) (new : Branches Provision) → has_node t i ≡ true → AreNew t (all_wids new) → any_holds (provision_at t i).wid new ≡ false
 unfolding has_node provision_at tree_view
 not_new t i new node fresh =
     let w : List ℕ = (provision_in (at t.arena i)).wid in

@@ -1,13 +1,14 @@
 -- Nodes stay under their numbers where the index still leads to them.
-use Rattle.std.proofs.Common.{◌≡◌, ◌∙◌, sym, ap, refl, ℕ, true, false, ◌||◌, cond, List, ◌∷◌, Some}
+use Rattle.std.proofs.Common.{◌≡◌, ◌∙◌, sym, ap, refl, ℕ, true, false, ◌||◌, cond, List, ◌∷◌, Some, inl, inr}
 use Rattle.std.specs.Str.{bytes_eq}
+use Rattle.std.proofs.lemmas.Bool.{cases_eq}
 use Rattle.act_tree.specs.declared.arena.Arena.{Arena}
 use Rattle.act_tree.specs.declared.tree.Tree.{Tree}
 use Rattle.act_tree.specs.Arena.{provision_in, above_in, branch_from, climbs, IsWhole}
 use Rattle.act_tree.specs.Branches.{Branches}
 use Rattle.act_tree.specs.Provisions.{Provision}
-use Rattle.act_tree.specs.Changes.{root_wid, is_in}
-use Rattle.act_tree.specs.Grafted.{IsGrafted, IsReplanted, IsStopped}
+use Rattle.act_tree.specs.Changes.{root_wid, is_in, any_holds}
+use Rattle.act_tree.specs.Grafted.{IsGrafted, IsStopped}
 use Rattle.act_tree.specs.NodesStay.{NodesStay}
 use Rattle.act_tree.specs.Seen.{tree_view, has_node, provision_at}
 use Rattle.act_tree.specs.Slots.{at, number, size}
@@ -15,7 +16,8 @@ use Rattle.act_tree.specs.Wids.{all_wids, is_among}
 use Rattle.act_tree.proofs.Climbing.{Seated, found_climbs}
 use Rattle.act_tree.proofs.GraftedTrees.{AreFresh, body_of}
 use Rattle.act_tree.proofs.TakingAway.{leads_there}
-use Rattle.act_tree.proofs.TreeNodes.{node_seated, is_in-holds, found_wid, found_held}
+use Rattle.act_tree.proofs.TreeNodes.{node_seated, is_in-holds, found_wid, found_held, root_climbs}
+use Rattle.act_tree.proofs.ReplacedNodes.{AreNew, not_root, not_new}
 use Rattle.act_tree.proofs.PutIn.{all_wids_held}
 use Rattle.act_tree.proofs.Texts.{other_text}
 
@@ -75,9 +77,6 @@ same_stay t = λ k node held. (node, refl)
 pub stay_grafted : (old new : Arena) (parent place : ℕ) (bs : Branches Provision) → IsWhole (at old) (number old) (size old) → AreFresh old (all_wids bs) → IsGrafted old new parent place bs → LeadsStill old new
 stay_grafted old new parent place bs whole fresh is = index_kept old whole new (λ v found. is.numbers v ∙ is.laid.grown.numbers v (fresh v found))
 
-pub stay_replanted : (old new : Arena) (bs : Branches Provision) → IsWhole (at old) (number old) (size old) → AreFresh old (all_wids bs) → IsReplanted old new bs → LeadsStill old new
-stay_replanted old new bs whole fresh is = index_kept old whole new (λ v found. is.numbers v ∙ is.laid.grown.numbers v (fresh v found))
-
 pub stay_stopped : (old new : Arena) (ws : List (List ℕ)) → IsWhole (at old) (number old) (size old) → AreFresh old ws → IsStopped old new ws → LeadsStill old new
 stay_stopped old new ws whole fresh is = index_kept old whole new (λ v found. is.grown.grown.numbers v (fresh v found))
 
@@ -92,3 +91,23 @@ stay_parted old new second whole fresh numbers =
 
 pub stay_same : (old new : Arena) → IsWhole (at old) (number old) (size old) → ((w : List ℕ) → number new w ≡ number old w) → LeadsStill old new
 stay_same old new whole numbers = index_kept old whole new (λ v found. numbers v)
+
+root_node : (t : Tree) → has_node t 0 ≡ true
+unfolding has_node
+root_node t = root_climbs (at t.arena) (number t.arena) (size t.arena) t.whole
+
+root_says : (t : Tree) → (provision_at t 0).wid ≡ root_wid
+unfolding provision_at
+root_says t = ap (λ (p : Provision). p.wid) t.whole.root
+
+-- of a text of which all is new only the root stays
+pub stay_new : (old new : Tree) → AreNew old (all_wids (tree_view new).body) → NodesStay old new
+unfolding NodesStay
+stay_new old new fresh = λ k node held. elim (cases_eq k 0) [
+  | inl zero ↦ (ap (has_node new) zero ∙ root_node new, ap (λ j. (provision_at new j).wid) zero ∙ root_says new ∙ sym (root_says old) ∙ sym (ap (λ j. (provision_at old j).wid) zero))
+  | inr other ↦ absurd (
+      let w : List ℕ = (provision_at old k).wid in
+      let none : is_in w (tree_view new).body ≡ false = ap (λ t. t || any_holds w (tree_view new).body) (not_root old k node other) ∙ not_new old k (tree_view new).body node fresh in
+      let never : true ≡ false = sym held ∙ none in
+      cc)
+]

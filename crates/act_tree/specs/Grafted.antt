@@ -1,6 +1,5 @@
 -- What it means that branches were laid down and put into a list, or that it failed.
-use Rattle.std.specs.Prelude.{ℕ, suc, ◌==◌, ◌<◌, ◌≤◌, ◌≡◌, true, false, List, [], ◌∷◌, ◌++◌, take, drop, Option, if◌then◌else◌}
-use Rattle.std.specs.List.{list_any}
+use Rattle.std.specs.Prelude.{ℕ, suc, ◌==◌, ◌<◌, ◌≤◌, ◌≡◌, true, List, [], ◌∷◌, ◌++◌, take, drop, Option, if◌then◌else◌}
 use Rattle.act_tree.specs.declared.arena.Arena.{Arena}
 use Rattle.act_tree.specs.Branches.{Branches}
 use Rattle.act_tree.specs.Provisions.{Provision}
@@ -30,18 +29,6 @@ pub record IsGrafted (old new : Arena) (parent place : ℕ) (bs : Branches Provi
   pub laid : AreLaid old between parent ids bs
   pub here : at new parent ≡ with_below (put_numbers place ids (below_in (at old parent))) (at old parent)
   pub others : (k : ℕ) → (k ≡ parent → ⊥) → at new k ≡ at between k
-  pub numbers : (w : List ℕ) → number new w ≡ number between w
-  pub sizes : size new ≡ size between
-
--- branches were laid down below the root, and are all that is below it: what was there before is taken off
-pub record IsReplanted (old new : Arena) (bs : Branches Provision) : Type 0 where
-  pub between : Arena
-  pub ids : List ℕ
-  pub laid : AreLaid old between 0 ids bs
-  pub root : at new 0 ≡ with_below ids (at old 0)
-  pub off : (k : ℕ) → (k ≡ 0 → ⊥) → list_any (λ j. j == k) (below_in (at old 0)) ≡ true
-      → at new k ≡ with_above k (at between k)
-  pub others : (k : ℕ) → (k ≡ 0 → ⊥) → list_any (λ j. j == k) (below_in (at old 0)) ≡ false → at new k ≡ at between k
   pub numbers : (w : List ℕ) → number new w ≡ number between w
   pub sizes : size new ≡ size between
 

@@ -54,7 +54,7 @@ impl Arena {
     ghost use Rattle.act_tree.specs.Branches.{branches_of};
     ghost use Rattle.act_tree.specs.Arena.{below_in};
     ghost use Rattle.act_tree.specs.Brought.{brought_under};
-    ghost use Rattle.act_tree.specs.Grafted.{IsDiscarded, IsGrafted, IsReplanted, IsStopped};
+    ghost use Rattle.act_tree.specs.Grafted.{IsDiscarded, IsGrafted, IsStopped};
     ghost use Rattle.act_tree.specs.Planted.{HasGrown};
     ghost use Rattle.act_tree.specs.Slots.{at, number, size};
     ghost use Rattle.act_tree.specs.TakenOff.{with_above};
@@ -132,38 +132,5 @@ impl Arena {
             self.discard(start);
         }
         grown
-    }
-
-    /// Lays nodes down below the root, in the place of all that was below it. `Err`: there was not enough memory, and
-    /// what was laid down is taken off.
-    pub fn replant(&mut self, alloc: Global, name: &str, nodes: &Nodes) -> Result<(), Memory>
-        requires root { 0 < size self.old }
-        requires within { All (λ k. k < size self.old) (below_in (at self.old 0)) }
-        requires apart { list_any (λ j. j == 0) (below_in (at self.old 0)) ≡ false }
-        requires fits { size self.old ≤ 2 ^ 32 }
-        ensures replanted { OnOk result (IsReplanted self.old self.new
-            (brought_under name.now (branches_of nodes.now))) }
-        ensures kept { OnErr result (IsStopped self.old self.new
-            (all_wids (brought_under name.now (branches_of nodes.now)))) }
-    {
-        let start = self.slots.len();
-        match lay_all(
-            alloc,
-            self,
-            NONE_THROUGHOUT,
-            NodeId::root(),
-            Some(name),
-            nodes,
-        ) {
-            Ok(below) => {
-                self.take_all();
-                self.set_below(NodeId::root(), below);
-                Ok(())
-            }
-            Err(stop) => {
-                self.discard(start);
-                Err(stop)
-            }
-        }
     }
 }

@@ -1,14 +1,15 @@
 //! Laying down: the nodes that an act brings become provisions, whose wIds are the eIds that they have there.
 
-ghost use Rattle.std.specs.Prelude.{◌≡◌, true, [], ◌∷◌, IfOk, OnErr, option_map};
-ghost use Rattle.act_tree.specs.Arena.{root_provision};
+ghost use Rattle.std.specs.Prelude.{◌≡◌, true, false, [], ◌∷◌, IfOk, OnErr, option_map};
+ghost use Rattle.act_tree.specs.Arena.{below_in, branches_below, root_provision, IsWhole};
 ghost use Rattle.act_tree.specs.Branches.{branch, branches_of};
+ghost use Rattle.act_tree.specs.Changes.{root_wid};
 ghost use Rattle.act_tree.specs.Eids as spec;
 ghost use Rattle.act_tree.specs.Eids.{all_enacted};
 ghost use Rattle.act_tree.specs.Planted.{HasGrown, IsLaid, AreLaid};
-ghost use Rattle.act_tree.specs.Slots.{provision_of};
+ghost use Rattle.act_tree.specs.Slots.{at, number, provision_of, size};
 ghost use Rattle.act_tree.specs.Specs.{own_of};
-ghost use Rattle.act_tree.specs.Wids.{wids, all_wids};
+ghost use Rattle.act_tree.specs.Wids.{wids, all_wids, is_among, one_twice};
 ghost use Rattle.eid_paths.specs.Nums.{is_num};
 
 use crate::arena::{Arena, Slot};
@@ -51,8 +52,8 @@ fn root_num() -> Num
     Num::from_text("0").unwrap()
 }
 
-/// The root, which says nothing. Nothing is below it yet.
-pub fn root_slot(alloc: Global) -> Result<Slot, Memory>
+// The root, which says nothing. Nothing is below it yet.
+fn root_slot(alloc: Global) -> Result<Slot, Memory>
     ensures provision { IfOk result (λ s. provision_of s ≡ root_provision) }
     ensures num { IfOk result (λ s. is_num s.num ≡ true) }
     ensures above { IfOk result (λ s. s.above ≡ 0) }
@@ -126,4 +127,24 @@ pub fn lay_all(
         ids.push(id)?;
     }
     Ok(ids)
+}
+
+/// An arena of these nodes alone. Their eIds are those below the eId `wid`, or right below the root where that is `None`.
+pub fn plant(
+    alloc: Global,
+    numbering: Numbering,
+    wid: Option<&str>,
+    nodes: &Nodes,
+) -> Result<Arena, Memory>
+    requires differ { one_twice (all_wids (all_enacted numbering (option_map (λ s. s.now) wid)
+        (branches_of nodes.now))) ≡ false }
+    requires apart { is_among root_wid (all_wids (all_enacted numbering (option_map (λ s. s.now) wid)
+        (branches_of nodes.now))) ≡ false }
+    ensures whole { IfOk result (λ a. IsWhole (at a) (number a) (size a)) }
+    ensures reads { let eid = option_map (λ s. s.now) wid.entry in IfOk result (λ a.
+        branches_below (size a) (at a) (below_in (at a 0)) ≡ all_enacted numbering eid (branches_of nodes.now)) }
+{
+    let mut arena = Arena::new(alloc);
+    let _root = lay(alloc, &mut arena, root_slot(alloc)?, numbering, wid, nodes)?;
+    Ok(arena)
 }

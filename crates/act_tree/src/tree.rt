@@ -9,12 +9,12 @@ ghost use Rattle.act_tree.specs.Slots.{at, number, provision_of, size};
 use crate::arena::{Arena, Slot};
 use crate::eids::eid_of_number;
 use crate::grafting::{bringer, place_in};
-use crate::laying::{lay, root_slot};
+use crate::laying::plant;
 use crate::levels::{are_alike, begins, goes_on};
 use crate::survey::Survey;
 use crate::surveying::fault_of;
 use crate::walks::{count, find_eid, survey};
-use crate::{BuildFail, BuildFault, Cause, NodeId, Nodes, Refs};
+use crate::{BuildFail, BuildFault, Cause, NONE_THROUGHOUT, NodeId, Nodes, Refs};
 use desk_base::{Id, Memory, Steps, Text};
 use eid_paths::{Element, Level, Num, Numbering};
 use std::alloc::Global;
@@ -87,7 +87,7 @@ fn view_of(slot: &Slot, is_root: bool) -> NodeView<'_>
 }
 
 impl Tree {
-    ghost use Rattle.std.specs.Prelude.{◌≡◌, ◌==◌, ◌+◌, ℕ, ◌-◌, ◌^◌, min, true, false, IfOk, OnOk, OnErr, IfErr, IfSome, is_some, map, length, ◌≤◌, ◌<◌, option_map, None, Some, if◌then◌else◌};
+    ghost use Rattle.std.specs.Prelude.{◌≡◌, ◌==◌, ◌+◌, ℕ, ◌-◌, ◌^◌, min, true, false, IfOk, OnOk, OnErr, IfErr, IfSome, is_some, map, length, ◌≤◌, ◌<◌, option_map, None, Some, slice_get, if◌then◌else◌};
     ghost use Rattle.std.specs.List.{All};
     ghost use Rattle.eid_paths.specs.Nums.{is_num};
     ghost use Rattle.std.specs.Str.{bytes_eq};
@@ -131,12 +131,10 @@ impl Tree {
         ensures { IfOk result (λ t. tree_view t
             ≡ unchanged numbering (all_enacted numbering None (branches_of body.now))) }
     {
-        let mut arena = Arena::new(alloc);
-        let _root = lay(alloc, &mut arena, root_slot(alloc)?, numbering, None, body)?;
         Ok(Tree {
             numbering,
             changes: 0,
-            arena,
+            arena: plant(alloc, numbering, None, body)?,
         })
     }
 
@@ -589,6 +587,7 @@ impl Tree {
         requires provision { id ≡ 0 → ⊥ }
         ensures parent { has_node self.now result.0 ≡ true }
         ensures place { result.1 < length (children_at self.now result.0) }
+        ensures child { slice_get (children_at self.now result.0) result.1 ≡ Some id }
         ensures before { (new : Branches Provision)
             → grafted_at self.now result.0 result.1 new ≡ changed_at self.now id (before new) }
         ensures after { (new : Branches Provision)
@@ -661,7 +660,7 @@ impl Tree {
         Ok(())
     }
 
-    // Puts nodes below the root, in the place of all provisions.
+    // Puts nodes below the root, in the place of all provisions: of what there was no slot is left.
     fn put_all(&mut self, alloc: Global, nodes: &Nodes, by: Id) -> Result<(), Memory>
         requires payload { first_fault NONE_THROUGHOUT (branches_of nodes.now) ≡ None }
         requires fresh { has_brought by (tree_view self.old).body ≡ false }
@@ -671,7 +670,9 @@ impl Tree {
         ensures stay { NodesStay self.old self.new }
     {
         let name = bringer(alloc, by)?;
-        self.arena.replant(alloc, name.as_str(), nodes)
+        let arena = plant(alloc, NONE_THROUGHOUT, Some(name.as_str()), nodes)?;
+        self.arena = arena;
+        Ok(())
     }
 
     // Parts a provision: right behind it stands its second part.

@@ -1,5 +1,5 @@
 use Rattle.std.proofs.Common.{rules, ◌<◌, length}
-use Rattle.act_tree.proofs.Places.{parent_climbs, slot_above, place_within, placed_before, placed_after}
+use Rattle.act_tree.proofs.Places.{parent_climbs, slot_above, place_within, placed_child, placed_before, placed_after}
 use Rattle.act_tree.proofs.SlotsOfNodes.{node_within}
 use Rattle.act_tree.proofs.tree.Tree.place_of.Goals as goal
 
@@ -21,6 +21,10 @@ returns-clause-parent c =
 pub returns-clause-place : goal.returns-clause-place
 returns-clause-place c =
     place_within c.args.self.now c.args.id c.index.result.now.above c.place_in.result c.children.result.now c.requires.node c.requires.provision (slot_above c.args.self.now c.args.id c.place.result c.index.result.now c.requires.node c.place.ensures c.index.ensures) c.children.ensures.numbers c.place_in.ensures
+
+pub returns-clause-child : goal.returns-clause-child
+returns-clause-child c =
+    placed_child c.args.self.now c.args.id c.index.result.now.above c.place_in.result c.children.result.now c.requires.node c.requires.provision (slot_above c.args.self.now c.args.id c.place.result c.index.result.now c.requires.node c.place.ensures c.index.ensures) c.children.ensures.numbers c.place_in.ensures
 
 pub returns-clause-before : goal.returns-clause-before
 returns-clause-before c =
