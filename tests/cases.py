@@ -499,6 +499,16 @@ REACHED = [
     ("4,096 sections and one more", dossier(act(body=sections(4096)), [inserted([node(num="5000")])]), [], ["TooManyNodes"]),
     ("4,096 sections, one of them in the place of another", dossier(act(body=sections(4096)), [
         substituted([node(num="5000")], "sec_7")]), ["2.1"], []),
+    ("4,096 sections, two others in the place of one", dossier(act(body=sections(4096)), [
+        substituted([node(num="5000"), node(num="5001")], "sec_7")]), [], ["TooManyNodes"]),
+    ("a section of its num in the place of one", dossier(act(body=sections(2)), [substituted([node(num="1")], "sec_1")]),
+     ["2.1"], []),
+    ("a section of the next one's num in the place of one", dossier(act(body=sections(2)), [
+        substituted([node(num="2")], "sec_1")]), [], ["NumberTaken"]),
+    ("another of the 12th level in the place of one", dossier(act(body=nested(12)), [
+        substituted(nested(1), LEAF + "__para_1")]), ["2.1"], []),
+    ("two levels in the place of the 12th", dossier(act(body=nested(12)), [
+        substituted(nested(2), LEAF + "__para_1")]), [], ["TooDeep"]),
     ("11 levels and one more", dossier(act(body=nested(11)), [inserted(nested(1), LEAF)]), ["2.1"], []),
     ("12 levels and one more", dossier(act(body=nested(12)), [inserted(nested(1), LEAF + "__para_1")]), [], ["TooDeep"]),
     ("16,383 bytes and one more", dossier(act(body=sections(1, "c" * 16383)), [inserted("c", "sec_1")]), ["2.1"], []),

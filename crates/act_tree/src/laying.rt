@@ -129,7 +129,8 @@ pub fn lay_all(
     Ok(ids)
 }
 
-/// An arena of these nodes alone. Their eIds are those below the eId `wid`, or right below the root where that is `None`.
+/// An arena of these nodes alone. Their eIds are those below the eId `wid`, or right below the root where that is
+/// `None`.
 pub fn plant(
     alloc: Global,
     numbering: Numbering,

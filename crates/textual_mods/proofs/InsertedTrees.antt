@@ -16,14 +16,14 @@ use Rattle.act_tree.specs.declared.surveying.TheConstants.{NONE_THROUGHOUT}
 use Rattle.act_tree.specs.declared.tree.Tree.{Tree}
 use Rattle.act_tree.specs.Branches.{Branches, branch, no_branches, more_branches, heights, counts}
 use Rattle.act_tree.specs.Brought.{bringer, brought}
-use Rattle.act_tree.specs.Changes.{any_holds, changed, put_in, among_children, found, root_wid}
-use Rattle.act_tree.specs.EidLevels.{begins, own_level, all_beginning, all_going_on, alike_beneath, levels_begun}
+use Rattle.act_tree.specs.Changes.{any_holds, changed, put_in, among_children, grafted, found, root_wid}
+use Rattle.act_tree.specs.EidLevels.{begins, own_level, all_beginning, all_going_on, alike_beneath}
 use Rattle.act_tree.specs.Eids.{eid_below, all_enacted}
 use Rattle.act_tree.specs.Faults.{all_owns, all_eids, have_long, first_fault, first_cause, fault_cause}
 use Rattle.act_tree.specs.Numbered.{are_numbered}
 use Rattle.act_tree.specs.Provisions.{Own, Provision}
 use Rattle.act_tree.specs.Seen.{tree_view, has_node, provision_at, below_at, with_body, grafted_at}
-use Rattle.act_tree.specs.Wids.{is_among, one_twice}
+use Rattle.act_tree.specs.Wids.{all_wids, is_among, one_twice}
 use Rattle.act_tree.proofs.BroughtWids.{none_throughout}
 use Rattle.act_tree.proofs.FoundNodes.{found_at, nums_kept}
 use Rattle.act_tree.proofs.Frames.{or_left, or_right, none_left, none_right, neither}
@@ -34,7 +34,7 @@ use Rattle.act_tree.proofs.ReplacedNodes.{not_root}
 use Rattle.act_tree.proofs.Texts.{equal_text}
 use Rattle.act_tree.proofs.Walking.{branch_is}
 use Rattle.textual_mods.specs.Edits.{unless_for, within_limits}
-use Rattle.textual_mods.specs.Insertions.{one_among, begins_again, all_begun_among, goes_on_again, on_among, heights_over, height_with, is_root, number_taken, insertion_fault, have_nums}
+use Rattle.textual_mods.specs.Insertions.{one_among, begins_again, all_begun_among, goes_on_again, on_among, heights_over, height_with, is_root, taken_among, fault_among, insertion_fault, have_nums}
 use Rattle.textual_mods.proofs.InsertionLimits.{after, clashes, twice_or, for_one, begun_put, counts_put, heights_put, unlike_put, short_put, begun_after, counts_after, heights_after, short_after, alike_after, of_one}
 use Rattle.textual_mods.proofs.JoinLimits.{times, times-append, few_once, once_few, one_if, or_none}
 use Rattle.textual_mods.proofs.Limits.{IsPlaced, is_placed, is_short, fault_by, faultless}
@@ -183,7 +183,7 @@ none_on n bs kept (more_branches (branch own below) cs) nums =
     (none_on n bs kept cs rest.1)
 
 -- the root says its own wId
-root_says : (t : Tree) → (provision_at t 0).wid ≡ root_wid
+pub root_says : (t : Tree) → (provision_at t 0).wid ≡ root_wid
 unfolding provision_at
 root_says t = ap (λ (p : Provision). p.wid) t.whole.root
 
@@ -194,13 +194,9 @@ lt_most h r is =
       | inr most ↦ le-ltb 12 r (omega arith) ∙ sym (le-ltb 12 h most)
     ]
 
-module _ (t : Tree) (by : Id) (new : Branches Own) (fits : first_cause (tree_view t) ≡ None) (sound : first_fault NONE_THROUGHOUT new ≡ None) (nums : have_nums new ≡ true) where
-  abbrev n : Numbering
-  n = (tree_view t).numbering
-
-  abbrev body : Branches Provision
-  body = (tree_view t).body
-
+-- a text that keeps the limits, and provisions that are brought
+module _ (n : Numbering) (body : Branches Provision) (by : Id) (new : Branches Own) (clean : first_fault n (all_owns body) ≡ None) (kept : are_numbered body ≡ true)
+    (sound : first_fault NONE_THROUGHOUT new ≡ None) (nums : have_nums new ≡ true) where
   -- what is brought
   abbrev cs : Branches Provision
   cs = brought by new
@@ -227,90 +223,71 @@ module _ (t : Tree) (by : Id) (new : Branches Own) (fits : first_cause (tree_vie
   short : have_long (all_owns cs) ≡ false
   short = ap have_long says ∙ is_short NONE_THROUGHOUT new sound
 
-  faultless_body : first_fault n (all_owns body) ≡ None
-  faultless_body = faultless (tree_view t) fits
-
   body_levels : (one_twice (all_beginning n true (all_owns body)) || alike_beneath n (all_owns body)) ≡ false
-  body_levels = sym (levels_decide n body (nums_kept t)) ∙ (is_placed n (all_owns body) faultless_body).once
+  body_levels = sym (levels_decide n body kept) ∙ (is_placed n (all_owns body) clean).once
 
   -- the fault of a text by its levels, height and count
   told : (bs : Branches Provision) (top clash : Bool) (high : ℕ) → are_numbered bs ≡ true
       → ((x : List ℕ) → times x (all_beginning n true (all_owns bs)) ≡ times x (all_beginning n true (all_owns body)) + times x (all_beginning n top new))
       → alike_beneath n (all_owns bs) ≡ clash → heights (all_owns bs) ≡ high → counts (all_owns bs) ≡ counts body + counts new → have_long (all_owns bs) ≡ false
       → first_fault n (all_owns bs) ≡ fault_by (begins_again n top new (all_owns body) || clash) (nat_lt 12 high) (nat_lt 4096 (counts body + counts new)) false
-  told bs top clash high kept sum alike is_high many none =
+  told bs top clash high numbered_now sum alike is_high many none =
       ap (λ s. fault_by s (nat_lt 12 (heights (all_owns bs))) (nat_lt 4096 (counts (all_owns bs))) (have_long (all_owns bs)))
-      (levels_decide n bs kept
+      (levels_decide n bs numbered_now
       ∙ ap (λ s. s || alike_beneath n (all_owns bs)) (twice_or (all_beginning n top new) (all_beginning n true (all_owns body)) (all_beginning n true (all_owns bs)) sum (none_left _ _ body_levels))
       ∙ ap (λ s. begins_again n top new (all_owns body) || s) alike)
       ∙ ap (λ h. fault_by (begins_again n top new (all_owns body) || clash) (nat_lt 12 h) (nat_lt 4096 (counts (all_owns bs))) (have_long (all_owns bs))) is_high
       ∙ ap (λ c. fault_by (begins_again n top new (all_owns body) || clash) (nat_lt 12 high) (nat_lt 4096 c) (have_long (all_owns bs))) many
       ∙ ap (λ s. fault_by (begins_again n top new (all_owns body) || clash) (nat_lt 12 high) (nat_lt 4096 (counts body + counts new)) s) none
 
-  module _ (parent place : ℕ) (node : has_node t parent ≡ true) where
-    abbrev w : List ℕ
-    w = (provision_at t parent).wid
-
+  -- among the children of the provision of a wId, or of the root
+  module _ (w : List ℕ) (place : ℕ) (p : Provision) (siblings : Branches Provision) (once : one_twice (all_wids body) ≡ false)
+      (there : bytes_eq w root_wid ≡ false → found w body ≡ Some (branch p siblings)) where
     at_root : first_fault n (all_owns (put_in place cs body))
-        ≡ fault_by (begins_again n true new (all_owns body) || goes_on_again n true new (all_owns (below_at t parent))) (nat_lt 12 (max (heights body) (heights new))) (nat_lt 4096 (counts body + counts new)) false
+        ≡ fault_by (begins_again n true new (all_owns body) || goes_on_again n true new (all_owns siblings)) (nat_lt 12 (max (heights body) (heights new))) (nat_lt 4096 (counts body + counts new)) false
     at_root =
-        told (put_in place cs body) true false (max (heights body) (heights new)) (put_in_kept place cs body numbered (nums_kept t))
+        told (put_in place cs body) true false (max (heights body) (heights new)) (put_in_kept place cs body numbered kept)
         (λ x. begun_put n x true place cs body ∙ ap (λ os. times x (all_beginning n true (all_owns body)) + times x (all_beginning n true os)) says)
         (unlike_put n place cs body (ap (alike_beneath n) says ∙ unlike) ∙ none_right (one_twice (all_beginning n true (all_owns body))) _ body_levels)
         (heights_put place cs body ∙ ap (λ os. max (heights (all_owns body)) (heights os)) says ∙ ap (λ h. max h (heights new)) (heights_owns body))
         (counts_put place cs body ∙ ap (λ os. counts (all_owns body) + counts os) says ∙ ap (λ c. c + counts new) (counts_owns body))
-        (short_put place cs body short (is_short n (all_owns body) faultless_body))
-        ∙ sym (ap (λ ls. fault_by (begins_again n true new (all_owns body) || one_among ls (all_going_on n true (all_owns (below_at t parent)))) (nat_lt 12 (max (heights body) (heights new))) (nat_lt 4096 (counts body + counts new)) false) (none_on_top n new))
+        (short_put place cs body short (is_short n (all_owns body) clean))
+        ∙ sym (ap (λ ls. fault_by (begins_again n true new (all_owns body) || one_among ls (all_going_on n true (all_owns siblings))) (nat_lt 12 (max (heights body) (heights new))) (nat_lt 4096 (counts body + counts new)) false) (none_on_top n new))
 
-    module _ (other : parent ≡ 0 → ⊥) where
-      there : found w body ≡ Some (branch (provision_at t parent) (below_at t parent))
-      there = found_at t parent node other ∙ ap (λ b. Some b) (branch_is t parent)
-
+    module _ (other : bytes_eq w root_wid ≡ false) where
       held : any_holds w body ≡ true
-      held = sym (held_found w body) ∙ ap is_some there
+      held = sym (held_found w body) ∙ ap is_some (there other)
 
       at_node : first_fault n (all_owns (changed (among_children place cs) w body))
-          ≡ fault_by (begins_again n false new (all_owns body) || goes_on_again n false new (all_owns (below_at t parent))) (nat_lt 12 (heights_over w (heights new) body)) (nat_lt 4096 (counts body + counts new)) false
+          ≡ fault_by (begins_again n false new (all_owns body) || goes_on_again n false new (all_owns siblings)) (nat_lt 12 (heights_over w (heights new) body)) (nat_lt 4096 (counts body + counts new)) false
       at_node =
-          told (after n place cs w body) false (goes_on_again n false new (all_owns (below_at t parent))) (heights_over w (heights new) body)
-          (changed_kept (among_children place cs) w (among_children_keeps place cs numbered) body (nums_kept t))
+          told (after n place cs w body) false (goes_on_again n false new (all_owns siblings)) (heights_over w (heights new) body)
+          (changed_kept (among_children place cs) w (among_children_keeps place cs numbered) body kept)
           (λ x. begun_after n place cs w x true body
-          ∙ ap (λ m. times x (all_beginning n true (all_owns body)) + m) (for_one (times x (all_beginning n false (all_owns cs))) w body (wids_differ t) held ∙ ap (λ os. times x (all_beginning n false os)) says))
+          ∙ ap (λ m. times x (all_beginning n true (all_owns body)) + m) (for_one (times x (all_beginning n false (all_owns cs))) w body once held ∙ ap (λ os. times x (all_beginning n false os)) says))
           (alike_after n place cs w body (ap (λ os. one_twice (all_going_on n false os)) says ∙ tops_once) (ap (alike_beneath n) says ∙ unlike) (none_right (one_twice (all_beginning n true (all_owns body))) _ body_levels)
-          ∙ of_one n place cs w (clashes n place cs w) (provision_at t parent) (below_at t parent) body (wids_differ t) there
-          ∙ ap (λ os. one_among (all_going_on n false os) (all_going_on n false (all_owns (below_at t parent)))) says)
+          ∙ of_one n place cs w (clashes n place cs w) p siblings body once (there other)
+          ∙ ap (λ os. one_among (all_going_on n false os) (all_going_on n false (all_owns siblings))) says)
           (heights_after n place cs w body ∙ ap (λ os. heights_over w (heights os) body) says)
-          (counts_after n place cs w body ∙ ap (λ m. counts (all_owns body) + m) (for_one (counts (all_owns cs)) w body (wids_differ t) held ∙ ap counts says) ∙ ap (λ c. c + counts new) (counts_owns body))
-          (short_after n place cs w body short (is_short n (all_owns body) faultless_body))
+          (counts_after n place cs w body ∙ ap (λ m. counts (all_owns body) + m) (for_one (counts (all_owns cs)) w body once held ∙ ap counts says) ∙ ap (λ c. c + counts new) (counts_owns body))
+          (short_after n place cs w body short (is_short n (all_owns body) clean))
 
-    -- the first fault with what is brought among the children of the node
-    pub fault_of_insertion : first_cause (with_body t (grafted_at t parent place cs)) ≡ option_map fault_cause (insertion_fault t parent new)
-    fault_of_insertion =
-        elim (cases_Bool (is_root t parent)) [
-          | inl root ↦ ap (option_map fault_cause)
-              (ap (λ s. first_fault n (all_owns (cond s (put_in place cs body) (changed (among_children place cs) w body)))) root
+    -- the first fault with what is brought there
+    pub fault_told : first_fault n (all_owns (grafted w place cs body)) ≡ fault_among n body w siblings new
+    fault_told =
+        elim (cases_Bool (bytes_eq w root_wid)) [
+          | inl root ↦
+              ap (λ s. first_fault n (all_owns (cond s (put_in place cs body) (changed (among_children place cs) w body)))) root
               ∙ at_root
-              ∙ sym (ap (λ s. fault_by (begins_again n s new (all_owns body) || goes_on_again n s new (all_owns (below_at t parent))) (nat_lt 12 (cond s (max (heights body) (heights new)) (heights_over w (heights new) body))) (nat_lt 4096 (counts body + counts new)) false) root))
-          | inr not_root ↦ ap (option_map fault_cause)
-              (ap (λ s. first_fault n (all_owns (cond s (put_in place cs body) (changed (among_children place cs) w body)))) not_root
-              ∙ at_node (λ zero. absurd (
-              let told_root : bytes_eq w root_wid ≡ true = equal_text w root_wid (ap (λ k. (provision_at t k).wid) zero ∙ root_says t) in
-              cc))
-              ∙ sym (ap (λ s. fault_by (begins_again n s new (all_owns body) || goes_on_again n s new (all_owns (below_at t parent))) (nat_lt 12 (cond s (max (heights body) (heights new)) (heights_over w (heights new) body))) (nat_lt 4096 (counts body + counts new)) false) not_root))
+              ∙ sym (ap (λ s. fault_by (begins_again n s new (all_owns body) || goes_on_again n s new (all_owns siblings)) (nat_lt 12 (cond s (max (heights body) (heights new)) (heights_over w (heights new) body))) (nat_lt 4096 (counts body + counts new)) false) root)
+          | inr not_root ↦
+              ap (λ s. first_fault n (all_owns (cond s (put_in place cs body) (changed (among_children place cs) w body)))) not_root
+              ∙ at_node not_root
+              ∙ sym (ap (λ s. fault_by (begins_again n s new (all_owns body) || goes_on_again n s new (all_owns siblings)) (nat_lt 12 (cond s (max (heights body) (heights new)) (heights_over w (heights new) body))) (nat_lt 4096 (counts body + counts new)) false) not_root)
         ]
 
-    -- the text with what is brought
-    abbrev pub text : Branches Provision
-    text = grafted_at t parent place cs
-
-    pub held_by : (fault : BuildFault) → Some fault ≡ insertion_fault t parent new → within_limits (tree_view t) (Ok text) ≡ Err (fault_cause fault)
-    held_by fault is = ap (λ c. unless_for c text) (fault_of_insertion ∙ ap (option_map fault_cause) (sym is))
-
-    pub done_by : None ≡ insertion_fault t parent new → within_limits (tree_view t) (Ok text) ≡ Ok text
-    done_by is = ap (λ c. unless_for c text) (fault_of_insertion ∙ ap (option_map fault_cause) (sym is))
-
   -- two that are brought begin an eId by one level exactly where two would have one eId below the root
-  pub twice_told : (top : Bool) → one_twice (all_eids n None new) ≡ one_twice (all_beginning n top new)
+  twice_told : (top : Bool) → one_twice (all_eids n None new) ≡ one_twice (all_beginning n top new)
   twice_told top = at_top ∙ anywhere top
     where
       at_top : one_twice (all_eids n None new) ≡ one_twice (all_beginning n true new)
@@ -326,45 +303,71 @@ module _ (t : Tree) (by : Id) (new : Branches Own) (fits : first_cause (tree_vie
           ∙ ap (λ s. one_twice (all_beginning n false new) || s) (one_begun (all_going_on n false new) n false new ∙ none_on n new nums new nums)
           ∙ or_none (one_twice (all_beginning n false new))
 
-  -- a number is taken by what is told of it
-  pub taken_begun : (parent : ℕ) (top begun : Bool) → top ≡ is_root t parent → begun ≡ all_begun_among (levels_begun (tree_view t)) n top new → begun ≡ true → true ≡ number_taken t parent new
-  taken_begun parent top begun is told held =
-      let shared : one_among (all_beginning n (is_root t parent) new) (all_beginning n true (all_owns body)) ≡ true =
-      one_begun (levels_begun (tree_view t)) n (is_root t parent) new ∙ ap (λ s. all_begun_among (levels_begun (tree_view t)) n s new) (sym is) ∙ sym told ∙ held in
-      sym (or_left _ _ (or_right (one_twice (all_beginning n (is_root t parent) new)) _ shared))
-
-  pub taken_on : (parent : ℕ) (on : Bool) → on ≡ goes_on_again n (is_root t parent) new (all_owns (below_at t parent)) → on ≡ true → true ≡ number_taken t parent new
-  taken_on parent on told held = sym (or_right (begins_again n (is_root t parent) new (all_owns body)) _ (sym told ∙ held))
-
-  pub taken_twice : (parent : ℕ) (top begun on twice : Bool) → top ≡ is_root t parent → begun ≡ all_begun_among (levels_begun (tree_view t)) n top new → begun ≡ false
-      → on ≡ goes_on_again n (is_root t parent) new (all_owns (below_at t parent)) → on ≡ false → twice ≡ one_twice (all_eids n None new) → twice ≡ number_taken t parent new
-  taken_twice parent top begun on twice is told free also none twice_is =
-      let apart : one_among (all_beginning n (is_root t parent) new) (all_beginning n true (all_owns body)) ≡ false =
-      one_begun (levels_begun (tree_view t)) n (is_root t parent) new ∙ ap (λ s. all_begun_among (levels_begun (tree_view t)) n s new) (sym is) ∙ sym told ∙ free in
-      twice_is ∙ twice_told (is_root t parent)
-      ∙ sym (ap (λ s. (one_twice (all_beginning n (is_root t parent) new) || one_among (all_beginning n (is_root t parent) new) (all_beginning n true (all_owns body))) || s) (sym also ∙ none)
-      ∙ ap (λ s. (one_twice (all_beginning n (is_root t parent) new) || s) || false) apart
-      ∙ or_none (one_twice (all_beginning n (is_root t parent) new) || false) ∙ or_none (one_twice (all_beginning n (is_root t parent) new)))
-
-  -- the tree with what is brought below its root is not too deep
-  pub root_is_low : (parent : ℕ) → is_root t parent ≡ true → false ≡ nat_lt 12 (height_with (provision_at t parent).wid (heights new) body)
-  root_is_low parent root =
-      let placed : IsPlaced n (all_owns body) = is_placed n (all_owns body) faultless_body in
+  -- the text with what is brought below its root is not too deep
+  pub root_is_low : (w : List ℕ) → bytes_eq w root_wid ≡ true → false ≡ nat_lt 12 (height_with w (heights new) body)
+  root_is_low w root =
+      let placed : IsPlaced n (all_owns body) = is_placed n (all_owns body) clean in
       let brought_placed : IsPlaced NONE_THROUGHOUT new = is_placed NONE_THROUGHOUT new sound in
       let low : heights (all_owns body) ≤ 12 = placed.low in
       let low_new : heights new ≤ 12 = brought_placed.low in
-      sym (ap (λ s. nat_lt 12 (cond s (max (heights body) (heights new)) (heights_over (provision_at t parent).wid (heights new) body))) root
+      sym (ap (λ s. nat_lt 12 (cond s (max (heights body) (heights new)) (heights_over w (heights new) body))) root
       ∙ le-ltb 12 (max (heights body) (heights new)) (omega (arith, heights_owns body)))
 
   -- below another node, by the height that was told
-  pub node_is_told : (parent high told : ℕ) → is_root t parent ≡ false → high ≡ min (heights new) 4294967295 → told ≡ min (heights_over (provision_at t parent).wid high body) 4294967295
-      → nat_lt 12 told ≡ nat_lt 12 (height_with (provision_at t parent).wid (heights new) body)
-  node_is_told parent high told other is_high is =
+  pub node_is_told : (w : List ℕ) (high told_high : ℕ) → bytes_eq w root_wid ≡ false → high ≡ min (heights new) 4294967295 → told_high ≡ min (heights_over w high body) 4294967295
+      → nat_lt 12 told_high ≡ nat_lt 12 (height_with w (heights new) body)
+  node_is_told w high told_high other is_high is =
       let brought_placed : IsPlaced NONE_THROUGHOUT new = is_placed NONE_THROUGHOUT new sound in
       let low_new : heights new ≤ 12 = brought_placed.low in
       let same : high ≡ heights new = omega arith in
-      lt_most (heights_over (provision_at t parent).wid (heights new) body) told (is ∙ ap (λ h. min (heights_over (provision_at t parent).wid h body) 4294967295) same)
-      ∙ sym (ap (λ s. nat_lt 12 (cond s (max (heights body) (heights new)) (heights_over (provision_at t parent).wid (heights new) body))) other)
+      lt_most (heights_over w (heights new) body) told_high (is ∙ ap (λ h. min (heights_over w h body) 4294967295) same)
+      ∙ sym (ap (λ s. nat_lt 12 (cond s (max (heights body) (heights new)) (heights_over w (heights new) body))) other)
+
+  -- a number is taken by what is told of it
+  module _ (top : Bool) (siblings : Branches Provision) where
+    abbrev taken : Bool
+    taken = taken_among n top new (all_owns body) (all_owns siblings)
+
+    pub taken_begun : (begun : Bool) → begun ≡ all_begun_among (all_beginning n true (all_owns body)) n top new → begun ≡ true → true ≡ taken
+    taken_begun begun told_begun held =
+        let shared : one_among (all_beginning n top new) (all_beginning n true (all_owns body)) ≡ true = one_begun (all_beginning n true (all_owns body)) n top new ∙ sym told_begun ∙ held in
+        sym (or_left _ _ (or_right (one_twice (all_beginning n top new)) _ shared))
+
+    pub taken_on : (on : Bool) → on ≡ goes_on_again n top new (all_owns siblings) → on ≡ true → true ≡ taken
+    taken_on on told_on held = sym (or_right (begins_again n top new (all_owns body)) _ (sym told_on ∙ held))
+
+    pub taken_twice : (begun on twice : Bool) → begun ≡ all_begun_among (all_beginning n true (all_owns body)) n top new → begun ≡ false → on ≡ goes_on_again n top new (all_owns siblings) → on ≡ false
+        → twice ≡ one_twice (all_eids n None new) → twice ≡ taken
+    taken_twice begun on twice told_begun free told_on none twice_is =
+        let apart : one_among (all_beginning n top new) (all_beginning n true (all_owns body)) ≡ false = one_begun (all_beginning n true (all_owns body)) n top new ∙ sym told_begun ∙ free in
+        twice_is ∙ twice_told top
+        ∙ sym (ap (λ s. (one_twice (all_beginning n top new) || one_among (all_beginning n top new) (all_beginning n true (all_owns body))) || s) (sym told_on ∙ none)
+        ∙ ap (λ s. (one_twice (all_beginning n top new) || s) || false) apart
+        ∙ or_none (one_twice (all_beginning n top new) || false) ∙ or_none (one_twice (all_beginning n top new)))
+
+-- what is found by the wId of a node that is not the root
+pub found_below : (t : Tree) (parent : ℕ) → has_node t parent ≡ true → bytes_eq (provision_at t parent).wid root_wid ≡ false → found (provision_at t parent).wid (tree_view t).body ≡ Some (branch (provision_at t parent) (below_at t parent))
+found_below t parent node other =
+    found_at t parent node (λ zero. absurd (
+    let root : bytes_eq (provision_at t parent).wid root_wid ≡ true = equal_text (provision_at t parent).wid root_wid (ap (λ k. (provision_at t k).wid) zero ∙ root_says t) in
+    cc))
+    ∙ ap (λ b. Some b) (branch_is t parent)
+
+module _ (t : Tree) (by : Id) (new : Branches Own) (fits : first_cause (tree_view t) ≡ None) (sound : first_fault NONE_THROUGHOUT new ≡ None) (nums : have_nums new ≡ true) (parent place : ℕ) (node : has_node t parent ≡ true) where
+  -- the first fault with what is brought among the children of the node
+  pub fault_of_insertion : first_cause (with_body t (grafted_at t parent place (brought by new))) ≡ option_map fault_cause (insertion_fault t parent new)
+  fault_of_insertion =
+      ap (option_map fault_cause) (fault_told (tree_view t).numbering (tree_view t).body by new (faultless (tree_view t) fits) (nums_kept t) sound nums (provision_at t parent).wid place (provision_at t parent) (below_at t parent) (wids_differ t) (found_below t parent node))
+
+  -- the text with what is brought
+  abbrev pub text : Branches Provision
+  text = grafted_at t parent place (brought by new)
+
+  pub held_by : (fault : BuildFault) → Some fault ≡ insertion_fault t parent new → within_limits (tree_view t) (Ok text) ≡ Err (fault_cause fault)
+  held_by fault is = ap (λ c. unless_for c text) (fault_of_insertion ∙ ap (option_map fault_cause) (sym is))
+
+  pub done_by : None ≡ insertion_fault t parent new → within_limits (tree_view t) (Ok text) ≡ Ok text
+  done_by is = ap (λ c. unless_for c text) (fault_of_insertion ∙ ap (option_map fault_cause) (sym is))
 
 -- whether a node is the root
 pub root_told : (t : Tree) (parent root : ℕ) (top : Bool) → has_node t parent ≡ true → root ≡ 0 → top ≡ (parent == root) → top ≡ is_root t parent

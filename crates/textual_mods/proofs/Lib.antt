@@ -32,3 +32,7 @@ pub mod Swapping
 pub mod TreesAfter
 pub mod WidsDiffer
 pub mod Equality
+pub mod BodyReplaced
+pub mod PutInstead
+pub mod LeftNodes
+pub mod Substituted

@@ -1,14 +1,13 @@
 -- A split is held back as an insertion of its second part alone would be, and by the length of what it writes.
-use Rattle.std.proofs.Common.{◌≡◌, ◌∙◌, sym, ap, refl, ℕ, ◌+◌, ◌≤◌, Bool, true, false, cond, ◌||◌, max, List, [], ◌∷◌, ◌++◌, nat_lt, length, Some, None, inl, inr, arith}
-use Rattle.std.specs.Prelude.{option_map}
+use Rattle.std.proofs.Common.{◌≡◌, ◌∙◌, sym, ap, refl, ℕ, ◌+◌, ◌≤◌, Bool, true, false, cond, ◌||◌, max, List, [], ◌∷◌, ◌++◌, nat_lt, length, inl, inr, arith}
 use Rattle.std.specs.Str.{bytes_eq}
-use Rattle.std.proofs.lemmas.Bool.{cases_Bool, cond_both}
+use Rattle.std.proofs.lemmas.Bool.{cases_Bool}
 use Rattle.eid_paths.specs.declared.numbering.Numbering.{Numbering}
-use Rattle.act_tree.specs.Branches.{Branch, Branches, branch, no_branches, more_branches, heights, counts}
+use Rattle.act_tree.specs.Branches.{Branches, branch, no_branches, more_branches, heights, counts}
 use Rattle.act_tree.specs.Changes.{any_holds, changed, first, behind, parted, after}
 use Rattle.act_tree.specs.EidLevels.{begins, own_level, all_beginning, all_going_on, alike_inside, alike_beneath}
 use Rattle.act_tree.specs.Faults.{owns, all_owns, is_long, has_long, have_long}
-use Rattle.act_tree.specs.Provisions.{Own, Provision}
+use Rattle.act_tree.specs.Provisions.{Provision}
 use Rattle.act_tree.specs.Wids.{all_wids, one_twice}
 use Rattle.act_tree.proofs.Frames.{or_left, or_right, none_left, none_right, neither}
 use Rattle.act_tree.proofs.Texts.{same_text}

@@ -71,7 +71,7 @@ mutual
       (λ _. short_without w bs t.1)
       (λ _. or_false (has_long (owns (inside_without w b))) (have_long (all_owns (without w bs))) (short_inside w b t.0) (short_without w bs t.1))
 
-fits_without : (n : Numbering) (w : List ℕ) (bs : Branches Provision) → first_fault n (all_owns bs) ≡ None → first_fault n (all_owns (without w bs)) ≡ None
+pub fits_without : (n : Numbering) (w : List ℕ) (bs : Branches Provision) → first_fault n (all_owns bs) ≡ None → first_fault n (all_owns (without w bs)) ≡ None
 fits_without n w bs none =
     let placed : IsPlaced n (all_owns bs) = is_placed n (all_owns bs) none in
     let low : heights (all_owns bs) ≤ 12 = placed.low in

@@ -9,31 +9,30 @@ use Rattle.eid_paths.specs.Elements.{is_throughout}
 use Rattle.eid_paths.specs.Levels.{level_text}
 use Rattle.eid_paths.specs.Nums.{is_num}
 use Rattle.act_tree.specs.declared.build_fault.BuildFault.{BuildFault}
-use Rattle.act_tree.specs.declared.surveying.TheConstants.{NONE_THROUGHOUT}
 use Rattle.act_tree.specs.declared.tree.Tree.{Tree}
-use Rattle.act_tree.specs.Branches.{Branch, Branches, branch, no_branches, more_branches, heights, counts}
-use Rattle.act_tree.specs.Brought.{bringer, brought, brought_wid, second_part}
-use Rattle.act_tree.specs.Changes.{any_holds, changed, joined, parted, after}
-use Rattle.act_tree.specs.EidLevels.{begins, own_level, all_beginning, all_going_on, alike_beneath, levels_begun, levels_on}
-use Rattle.act_tree.specs.Faults.{owns, all_owns, all_eids, have_long, first_fault, first_cause, fault_cause}
+use Rattle.act_tree.specs.Branches.{Branches, branch, no_branches, more_branches, heights, counts}
+use Rattle.act_tree.specs.Brought.{bringer, brought, second_part}
+use Rattle.act_tree.specs.Changes.{any_holds, parted, after}
+use Rattle.act_tree.specs.EidLevels.{all_beginning, all_going_on, alike_beneath, levels_begun, levels_on}
+use Rattle.act_tree.specs.Faults.{all_owns, all_eids, have_long, first_fault, first_cause, fault_cause}
 use Rattle.act_tree.specs.Numbered.{are_numbered}
 use Rattle.act_tree.specs.Provisions.{Own, Provision}
 use Rattle.act_tree.specs.Seen.{tree_view, has_node, provision_at, below_at, with_body, grafted_at, changed_at}
 use Rattle.act_tree.specs.Wids.{is_among, one_twice}
 use Rattle.act_tree.proofs.BroughtWids.{none_throughout}
 use Rattle.act_tree.proofs.FoundNodes.{found_at, nums_kept}
-use Rattle.act_tree.proofs.Frames.{none_left, none_right}
+use Rattle.act_tree.proofs.Frames.{none_right}
 use Rattle.act_tree.proofs.LevelsDiffer.{levels_decide}
 use Rattle.act_tree.proofs.Nums.{KeepsNums, both, joined_kept, changed_kept, parted_keeps}
 use Rattle.act_tree.proofs.Walking.{branch_is}
 use Rattle.textual_mods.specs.Edits.{unless_for, within_limits}
-use Rattle.textual_mods.specs.Insertions.{one_among, begins_again, goes_on_again, height_with, is_root, number_taken, insertion_fault, have_nums, one_alone, split_fault}
+use Rattle.textual_mods.specs.Insertions.{one_among, begins_again, goes_on_again, height_with, is_root, number_taken, insertion_fault, one_alone, split_fault}
 use Rattle.textual_mods.proofs.InsertedTrees.{fault_of_insertion, counts_owns}
 use Rattle.textual_mods.proofs.InsertionLimits.{for_one}
 use Rattle.textual_mods.proofs.JoinLimits.{times, few_once, once_few, or_none}
 use Rattle.textual_mods.proofs.Limits.{IsPlaced, is_placed, is_short, fault_by, faultless}
 use Rattle.textual_mods.proofs.OnePlace.{held_found}
-use Rattle.textual_mods.proofs.PartedLimits.{bare, alone, split, added, begun_split, heights_split, counts_split, writes_long, short_split, long_split, alike_split}
+use Rattle.textual_mods.proofs.PartedLimits.{alone, split, added, begun_split, heights_split, counts_split, writes_long, short_split, long_split, alike_split}
 use Rattle.textual_mods.proofs.WidsDiffer.{wids_differ}
 
 -- texts that stand as often

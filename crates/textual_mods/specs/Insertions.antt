@@ -13,11 +13,10 @@ use Rattle.act_tree.specs.declared.build_fault.BuildFault.TheVariants.{EidTwice,
 use Rattle.act_tree.specs.declared.tree.Tree.{Tree}
 use Rattle.act_tree.specs.Branches.{Branch, Branches, branch, no_branches, more_branches, heights, counts}
 use Rattle.act_tree.specs.Changes.{root_wid}
-use Rattle.act_tree.specs.EidLevels.{all_beginning, all_going_on, levels_begun}
+use Rattle.act_tree.specs.EidLevels.{all_beginning, all_going_on}
 use Rattle.act_tree.specs.Faults.{all_owns}
 use Rattle.act_tree.specs.Provisions.{Own, Provision}
 use Rattle.act_tree.specs.Seen.{tree_view, provision_at, below_at}
-use Rattle.act_tree.specs.Trees.{TreeValue}
 use Rattle.act_tree.specs.Wids.{is_among, one_twice}
 
 -- one of these texts is among others
@@ -52,10 +51,6 @@ abbrev mutual
   all_begun_among levels numbering top (more_branches b bs) =
       begun_among levels numbering top b || all_begun_among levels numbering top bs
 
--- the same of the levels that begin an eId in a text
-abbrev pub begun_in : TreeValue → Bool → Branches Own → Bool
-begun_in tree top new = all_begun_among (levels_begun tree) tree.numbering top new
-
 -- and one of the levels that begin none, of provisions that are no children of the root, is
 abbrev pub on_among : List (List ℕ) → Numbering → Branches Own → Bool
 on_among levels numbering no_branches = false
@@ -63,11 +58,16 @@ on_among levels numbering (more_branches (branch own below) bs) =
     (not (is_throughout numbering own.element) && is_among (level_text own.element own.num) levels)
     || on_among levels numbering bs
 
--- a number of provisions that are brought among the children of a node is taken
+-- a number of provisions that are brought among siblings in a text is taken
+abbrev pub taken_among : Numbering → Bool → Branches Own → Branches Own → Branches Own → Bool
+taken_among numbering top new body siblings =
+    begins_again numbering top new body || goes_on_again numbering top new siblings
+
+-- the same of provisions that are brought among the children of a node
 abbrev pub number_taken : Tree → ℕ → Branches Own → Bool
 number_taken t parent new =
-    begins_again (tree_view t).numbering (is_root t parent) new (all_owns (tree_view t).body)
-    || goes_on_again (tree_view t).numbering (is_root t parent) new (all_owns (below_at t parent))
+    taken_among (tree_view t).numbering (is_root t parent) new (all_owns (tree_view t).body)
+    (all_owns (below_at t parent))
 
 -- how high provisions are that have others of this height beneath each that has the wId
 abbrev mutual
@@ -83,12 +83,17 @@ abbrev mutual
 abbrev pub height_with : List ℕ → ℕ → Branches Provision → ℕ
 height_with wid high body = if bytes_eq wid root_wid then max (heights body) high else heights_over wid high body
 
+-- the first fault of a text with provisions that are brought among these, the children of the one of a wId
+abbrev pub fault_among : Numbering → Branches Provision → List ℕ → Branches Provision → Branches Own → Option BuildFault
+fault_among numbering body wid siblings new =
+    if taken_among numbering (bytes_eq wid root_wid) new (all_owns body) (all_owns siblings) then Some EidTwice
+    else (if nat_lt 12 (height_with wid (heights new) body) then Some TooDeep
+    else (if nat_lt 4096 (counts body + counts new) then Some TooManyNodes else None))
+
 -- the first fault of a tree with provisions that are brought among the children of a node
 abbrev pub insertion_fault : Tree → ℕ → Branches Own → Option BuildFault
 insertion_fault t parent new =
-    if number_taken t parent new then Some EidTwice
-    else (if nat_lt 12 (height_with (provision_at t parent).wid (heights new) (tree_view t).body) then Some TooDeep
-    else (if nat_lt 4096 (counts (tree_view t).body + counts new) then Some TooManyNodes else None))
+    fault_among (tree_view t).numbering (tree_view t).body (provision_at t parent).wid (below_at t parent) new
 
 -- the num of each provision that is brought keeps the rule of nums
 abbrev pub have_nums : Branches Own → Bool

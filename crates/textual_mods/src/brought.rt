@@ -1,13 +1,16 @@
 //! What an insertion brings: how high and how many its nodes are, and whether their levels are taken.
 
-ghost use Rattle.std.specs.Prelude.{◌≡◌, ◌-◌, ◌^◌, min, true, false};
+ghost use Rattle.std.specs.Prelude.{◌≡◌, ◌-◌, ◌^◌, min, true, false, IfSome};
 ghost use Rattle.act_tree.specs.Branches.{branches_of, count, counts, height, heights};
-ghost use Rattle.act_tree.specs.EidLevels.{levels_begun, levels_on};
-ghost use Rattle.act_tree.specs.Seen.{tree_view, has_node, below_at};
+ghost use Rattle.act_tree.specs.EidLevels.{all_beginning, levels_on};
+ghost use Rattle.act_tree.specs.Faults.{all_owns};
+ghost use Rattle.act_tree.specs.Seen.{tree_view, has_node};
 ghost use Rattle.act_tree.specs.Specs.{own_of, spec_view};
 ghost use Rattle.eid_paths.specs.Nums.{is_num};
-ghost use Rattle.textual_mods.specs.Insertions.{begun_among, begun_in, have_nums, on_among};
+ghost use Rattle.textual_mods.specs.Insertions.{all_begun_among, begun_among, have_nums, on_among};
+ghost use Rattle.textual_mods.specs.Substitutions.{left_below, text_left};
 
+use crate::staying::{has_child_level_left, has_level_left};
 use act_tree::{NodeId, NodeSpec, Nodes, Tree};
 
 // The num of a node, and those beneath it, keep the rule of nums: each num carries it.
@@ -70,27 +73,31 @@ pub fn count_of_all(nodes: &Nodes) -> u32
     total
 }
 
-// Whether a node, or one beneath it, begins an eId by a level by which one of the tree begins one; `top` says that the
-// node comes to stand right below the root.
+// Whether a node, or one beneath it, begins an eId by a level by which one that is left of the tree begins one; `top`
+// says that the node comes to stand right below the root.
 #[cycle(begins)]
-fn begins_again(tree: &Tree, top: bool, node: &NodeSpec) -> bool
-    ensures { result
-        ≡ begun_among (levels_begun (tree_view tree.now)) (tree_view tree.now).numbering top (spec_view node.now) }
+fn begins_again(tree: &Tree, gone: &Option<NodeId>, top: bool, node: &NodeSpec) -> bool
+    requires { IfSome gone.now (λ other. has_node tree.now other ≡ true) }
+    ensures { let n = (tree_view tree.now).numbering in result
+        ≡ begun_among (all_beginning n true (all_owns (text_left tree.now gone.now))) n top (spec_view node.now) }
 {
-    if (top || tree.numbering().has(node.element)) && tree.has_level(node.element, &node.num) {
+    let begins = top || tree.numbering().has(node.element);
+    if begins && has_level_left(tree, gone, node.element, &node.num) {
         return true;
     }
-    begin_again(tree, false, &node.children)
+    begin_again(tree, gone, false, &node.children)
 }
 
-/// Whether one of these nodes, or of those beneath them, begins an eId by a level by which one of the tree begins one;
-/// `top` says that they come to stand right below the root.
+/// Whether one of these nodes, or of those beneath them, begins an eId by a level by which one that is left of the tree
+/// begins one; `top` says that they come to stand right below the root.
 #[cycle(begins)]
-pub fn begin_again(tree: &Tree, top: bool, nodes: &Nodes) -> bool
-    ensures { result ≡ begun_in (tree_view tree.now) top (branches_of nodes.now) }
+pub fn begin_again(tree: &Tree, gone: &Option<NodeId>, top: bool, nodes: &Nodes) -> bool
+    requires { IfSome gone.now (λ other. has_node tree.now other ≡ true) }
+    ensures { let n = (tree_view tree.now).numbering in result
+        ≡ all_begun_among (all_beginning n true (all_owns (text_left tree.now gone.now))) n top (branches_of nodes.now) }
 {
     for node in &nodes.items {
-        if begins_again(tree, top, node) {
+        if begins_again(tree, gone, top, node) {
             return true;
         }
     }
@@ -98,15 +105,16 @@ pub fn begin_again(tree: &Tree, top: bool, nodes: &Nodes) -> bool
 }
 
 /// Whether one of these nodes begins no eId, below a node that is not the root, and has the level of a child of that
-/// node that begins none.
-pub fn go_on_again(tree: &Tree, parent: NodeId, nodes: &Nodes) -> bool
-    requires { has_node tree.now parent ≡ true }
-    ensures { result ≡ on_among (levels_on (tree_view tree.now).numbering (below_at tree.now parent))
+/// node that is left and begins none.
+pub fn go_on_again(tree: &Tree, gone: &Option<NodeId>, parent: NodeId, nodes: &Nodes) -> bool
+    requires gone { IfSome gone.now (λ other. has_node tree.now other ≡ true) }
+    requires node { has_node tree.now parent ≡ true }
+    ensures { result ≡ on_among (levels_on (tree_view tree.now).numbering (left_below tree.now gone.now parent))
         (tree_view tree.now).numbering (branches_of nodes.now) }
 {
     for node in &nodes.items {
         let on = !tree.numbering().has(node.element);
-        if on && tree.has_child_level(parent, node.element, &node.num) {
+        if on && has_child_level_left(tree, gone, parent, node.element, &node.num) {
             return true;
         }
     }

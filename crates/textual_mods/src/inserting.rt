@@ -1,69 +1,44 @@
 //! Inserting: whether nodes may stand among the children of a node, which is known before they are put there.
 
-ghost use Rattle.std.specs.Prelude.{◌≡◌, ◌+◌, ◌-◌, ◌≤◌, ◌^◌, ◌||◌, min, length, map, nat_lt, true, false, None, Ok, IfOk, OnOk, OnErr, if◌then◌else◌};
-ghost use Rattle.std.specs.List.{All};
-ghost use Rattle.std.specs.Str.{bytes_eq};
+ghost use Rattle.std.specs.Prelude.{◌≡◌, ◌+◌, ◌≤◌, ◌||◌, length, nat_lt, true, false, None, Ok, IfOk, IfSome, OnOk, OnErr};
 ghost use Rattle.act_tree.specs.Branches.{branches_of, heights};
 ghost use Rattle.act_tree.specs.Brought.{brought, has_brought};
 ghost use Rattle.act_tree.specs.Faults.{all_eids, all_owns, first_cause, first_fault};
-ghost use Rattle.act_tree.specs.Seen.{tree_view, has_node, provision_at, branch_at, below_at, children_at, grafted_at};
+ghost use Rattle.act_tree.specs.Seen.{tree_view, has_node, provision_at, children_at, grafted_at};
 ghost use Rattle.act_tree.specs.Wids.{one_twice};
 ghost use Rattle.act_tree.specs.declared.surveying.TheConstants.{NONE_THROUGHOUT};
 ghost use Rattle.eid_paths.specs.Elements.{is_throughout};
 ghost use Rattle.textual_mods.specs.Edits.{answer_to, settled};
 ghost use Rattle.textual_mods.specs.Insertions as spec;
-ghost use Rattle.textual_mods.specs.Insertions.{goes_on_again, have_nums, heights_over, insertion_fault, is_root, number_taken, one_alone, split_fault};
+ghost use Rattle.textual_mods.specs.Insertions.{goes_on_again, have_nums, is_root, number_taken, one_alone, split_fault, taken_among};
+ghost use Rattle.textual_mods.specs.Substitutions.{bringing_fault, left_below, text_left};
 
 use crate::Outcome;
 use crate::brought::{begin_again, count_of_all, go_on_again, height_of_all, nums_are_kept};
 use crate::held_back::{held_back, or_step};
+use crate::staying::{count_left, height_left};
 use act_tree::{BuildFault, NodeId, Nodes, Tree, fault_of};
 use desk_base::{Id, Memory, Steps};
 use eid_paths::{Element, Num};
 use std::alloc::Global;
 use std::sync::ledger::Ledger;
 
-// The height of what is put beneath a node, if it has the wId, and else none.
-fn height_beneath(tree: &Tree, wid: &str, high: u32, id: NodeId) -> u32
-    requires { has_node tree.now id ≡ true }
-    ensures { result ≡ (if bytes_eq (provision_at tree.now id).wid wid.now then high else 0) }
-{
-    if tree.provision(id).wid.as_str() == wid {
-        high
-    } else {
-        0
-    }
-}
-
-// How high nodes are that have others of this height beneath each that has the wId. The number stands still at 2^32 - 1.
-fn height_over(tree: &Tree, wid: &str, high: u32, ids: &[NodeId]) -> u32
-    requires { All (λ id. has_node tree.now id ≡ true) ids.now }
-    ensures { result ≡ min (heights_over wid.now high (branches_of (map (branch_at tree.now) ids.now))) (2 ^ 32 - 1) }
-{
-    let mut tallest: u32 = 0;
-    for id in ids {
-        let own = height_beneath(tree, wid, high, *id);
-        let beneath = height_over(tree, wid, high, tree.children(*id));
-        tallest = tallest.max(own.max(beneath).saturating_add(1));
-    }
-    tallest
-}
-
-// Whether a tree is too deep with nodes among the children of a node.
-fn is_too_deep(tree: &Tree, parent: NodeId, new: &Nodes) -> bool
+// Whether what is left of a tree is too deep with nodes among the children of a node.
+fn is_too_deep(tree: &Tree, gone: &Option<NodeId>, parent: NodeId, new: &Nodes) -> bool
     requires fits { first_cause (tree_view tree.now) ≡ None }
+    requires gone { IfSome gone.now (λ other. has_node tree.now other ≡ true) }
     requires node { has_node tree.now parent ≡ true }
     requires payload { first_fault NONE_THROUGHOUT (branches_of new.now) ≡ None }
     requires nums { have_nums (branches_of new.now) ≡ true }
     ensures { result ≡ nat_lt 12 (spec.height_with (provision_at tree.now parent).wid
-        (heights (branches_of new.now)) (tree_view tree.now).body) }
+        (heights (branches_of new.now)) (text_left tree.now gone.now)) }
 {
     if parent == tree.root() {
         return false;
     }
     let wid = tree.provision(parent).wid;
     let high = height_of_all(new);
-    height_over(tree, wid.as_str(), high, tree.children(tree.root())) > 12
+    height_left(tree, gone, wid.as_str(), high, tree.children(tree.root())) > 12
 }
 
 // Whether two nodes would have one eId right below the root of the tree.
@@ -77,31 +52,41 @@ fn has_eid_twice(alloc: Global, tree: &Tree, nodes: &Nodes) -> Result<bool, Memo
     }
 }
 
-// Whether one of some nodes, among the children of a node, has the level of a child and begins no eId, as that child.
-fn goes_on_taken(tree: &Tree, parent: NodeId, new: &Nodes) -> bool
-    requires { has_node tree.now parent ≡ true }
+// Whether one of some nodes, among the children of a node, has the level of a child that is left and begins no eId, as
+// that child.
+fn goes_on_taken(tree: &Tree, gone: &Option<NodeId>, parent: NodeId, new: &Nodes) -> bool
+    requires gone { IfSome gone.now (λ other. has_node tree.now other ≡ true) }
+    requires node { has_node tree.now parent ≡ true }
     ensures { result ≡ goes_on_again (tree_view tree.now).numbering (is_root tree.now parent)
-        (branches_of new.now) (all_owns (below_at tree.now parent)) }
+        (branches_of new.now) (all_owns (left_below tree.now gone.now parent)) }
 {
     if parent == tree.root() {
         return false;
     }
-    go_on_again(tree, parent, new)
+    go_on_again(tree, gone, parent, new)
 }
 
-// Whether a number of nodes is taken, among the children of a node.
-fn is_number_taken(alloc: Global, tree: &Tree, parent: NodeId, new: &Nodes) -> Result<bool, Memory>
+// Whether a number of nodes is taken, among the children of a node, by what is left of the tree.
+fn is_number_taken(
+    alloc: Global,
+    tree: &Tree,
+    gone: &Option<NodeId>,
+    parent: NodeId,
+    new: &Nodes,
+) -> Result<bool, Memory>
     requires fits { first_cause (tree_view tree.now) ≡ None }
+    requires gone { IfSome gone.now (λ other. has_node tree.now other ≡ true) }
     requires node { has_node tree.now parent ≡ true }
     requires payload { first_fault NONE_THROUGHOUT (branches_of new.now) ≡ None }
     requires nums { have_nums (branches_of new.now) ≡ true }
-    ensures { IfOk result (λ taken. taken ≡ number_taken tree.now parent (branches_of new.now)) }
+    ensures { IfOk result (λ taken. taken ≡ taken_among (tree_view tree.now).numbering (is_root tree.now parent)
+        (branches_of new.now) (all_owns (text_left tree.now gone.now)) (all_owns (left_below tree.now gone.now parent))) }
 {
     let top = parent == tree.root();
-    if begin_again(tree, top, new) {
+    if begin_again(tree, gone, top, new) {
         return Ok(true);
     }
-    if goes_on_taken(tree, parent, new) {
+    if goes_on_taken(tree, gone, parent, new) {
         return Ok(true);
     }
     let twice = has_eid_twice(alloc, tree, new)?;
@@ -155,28 +140,31 @@ pub fn fault_of_split(
     None
 }
 
-/// The first fault of a tree with nodes among the children of a node, if it would have one. The nodes of the tree are
-/// searched for the levels that are brought; nothing of it is copied, and none of its eIds is spelled.
-pub fn fault_of_insertion(
+/// The first fault of a tree with nodes among the children of a node, if it would have one; `gone`: that node goes for
+/// them. The nodes of the tree are searched for the levels that are brought; nothing of it is copied, and none of its
+/// eIds is spelled.
+pub fn fault_of_bringing(
     alloc: Global,
     tree: &Tree,
+    gone: &Option<NodeId>,
     parent: NodeId,
     new: &Nodes,
 ) -> Result<Option<BuildFault>, Memory>
     requires fits { first_cause (tree_view tree.now) ≡ None }
+    requires gone { IfSome gone.now (λ other. has_node tree.now other ≡ true) }
     requires node { has_node tree.now parent ≡ true }
     requires payload { first_fault NONE_THROUGHOUT (branches_of new.now) ≡ None }
     requires nums { have_nums (branches_of new.now) ≡ true }
-    ensures { IfOk result (λ fault. fault ≡ insertion_fault tree.now parent (branches_of new.now)) }
+    ensures { IfOk result (λ fault. fault ≡ bringing_fault tree.now gone.now parent (branches_of new.now)) }
 {
-    let taken = is_number_taken(alloc, tree, parent, new)?;
+    let taken = is_number_taken(alloc, tree, gone, parent, new)?;
     if taken {
         return Ok(Some(BuildFault::EidTwice));
     }
-    if is_too_deep(tree, parent, new) {
+    if is_too_deep(tree, gone, parent, new) {
         return Ok(Some(BuildFault::TooDeep));
     }
-    if tree.count().saturating_add(count_of_all(new)) > 4096 {
+    if count_left(tree, gone).saturating_add(count_of_all(new)) > 4096 {
         return Ok(Some(BuildFault::TooManyNodes));
     }
     Ok(None)
@@ -205,7 +193,8 @@ pub fn insert_at<L: Ledger>(
     ensures step { steps.new ≡ steps.old + 1 }
 {
     nums_are_kept(new);
-    let fault = or_step(fault_of_insertion(alloc, tree, parent, new), steps)?;
+    let none = None;
+    let fault = or_step(fault_of_bringing(alloc, tree, &none, parent, new), steps)?;
     match fault {
         Some(fault) => Ok(held_back(fault.cause(), steps)),
         None => {

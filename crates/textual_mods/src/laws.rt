@@ -1,13 +1,13 @@
 //! What holds of every edit. Each law is a function that does nothing, whose clause is the law.
 
-ghost use Rattle.std.specs.Prelude.{◌≡◌, ◌↔◌, ◌||◌, ◌++◌, ℕ, IsTrue, List, [], ◌∷◌, None, false, true, nat_eq, option_map};
+ghost use Rattle.std.specs.Prelude.{◌≡◌, ◌↔◌, ◌||◌, ◌++◌, ℕ, IsTrue, List, [], ◌∷◌, None, Some, false, true, nat_eq, option_map, slice_get};
 ghost use Rattle.std.specs.List.{list_all, starts_with};
 ghost use Rattle.act_tree.specs.Branches.{branches_of};
 ghost use Rattle.act_tree.specs.Brought.{bringer, brought, has_brought};
 ghost use Rattle.act_tree.specs.Changes.{Step, any_holds, changed, renumbered};
 ghost use Rattle.act_tree.specs.Eids.{all_enacted};
 ghost use Rattle.act_tree.specs.Faults.{fault_cause, first_cause, first_fault};
-ghost use Rattle.act_tree.specs.Seen.{tree_view, has_node, grafted_at, with_body};
+ghost use Rattle.act_tree.specs.Seen.{tree_view, has_node, children_at, grafted_at, substituted_at, with_body};
 ghost use Rattle.act_tree.specs.declared.surveying.TheConstants.{NONE_THROUGHOUT};
 ghost use Rattle.act_tree.specs.Trees.{unchanged};
 ghost use Rattle.act_tree.specs.Wids.{all_wids, is_among, one_twice};
@@ -16,6 +16,7 @@ ghost use Rattle.textual_mods.specs.Edits.{applied, outcome_of};
 ghost use Rattle.textual_mods.specs.Insertions.{have_nums, insertion_fault};
 ghost use Rattle.textual_mods.specs.Laws.{tree_with, IsMade, twice_changed, wid_of_second, nums_before, stand_apart, edits_apart, LooksAtNoSibling, made_of};
 ghost use Rattle.textual_mods.specs.NumChanges.{renumbering_fault};
+ghost use Rattle.textual_mods.specs.Substitutions.{substitution_fault};
 ghost use Rattle.textual_mods.specs.Targets.{provision_named};
 ghost use Rattle.textual_mods.specs.declared.edit.TextualMod.{TextualMod as EditValue};
 ghost use Rattle.textual_mods.specs.declared.edit.TextualMod.TheVariants.{Join, Renumber, Split};
@@ -132,6 +133,28 @@ pub fn faults_of_insertions_are_told_before(tree: &Tree, parent: NodeId, by: Id,
     ensures { (place : ℕ) → first_cause (with_body tree.now (grafted_at tree.now parent place
         (brought by (branches_of nodes.now))))
         ≡ option_map fault_cause (insertion_fault tree.now parent (branches_of nodes.now)) }
+{}
+
+/// What can be held against a substitution of a provision is told before it is made: others in its place are an
+/// insertion, among the children of the node right above it, into the text that is left without it. So a level of what
+/// goes may come again, and what goes makes room in height and number.
+pub fn faults_of_substitutions_are_told_before(
+    tree: &Tree,
+    id: NodeId,
+    parent: NodeId,
+    place: usize,
+    by: Id,
+    nodes: &Nodes,
+)
+    requires fits { first_cause (tree_view tree.now) ≡ None }
+    requires node { has_node tree.now id ≡ true }
+    requires provision { id ≡ 0 → ⊥ }
+    requires parent { has_node tree.now parent ≡ true }
+    requires child { slice_get (children_at tree.now parent) place ≡ Some id }
+    requires payload { first_fault NONE_THROUGHOUT (branches_of nodes.now) ≡ None }
+    requires nums { have_nums (branches_of nodes.now) ≡ true }
+    ensures { first_cause (with_body tree.now (substituted_at tree.now id (brought by (branches_of nodes.now))))
+        ≡ option_map fault_cause (substitution_fault tree.now id parent (branches_of nodes.now)) }
 {}
 
 /// What can be held against a renumbering is told before it is made, by the levels that provisions get: of those that

@@ -143,8 +143,8 @@ fn note_on(
     Ok(())
 }
 
-// Whether two levels are one. (The copies carry the rule of nums, by which equal levels have equal parts.)
-fn is_level(element: Element, num: &Num, other: Element, other_num: &Num) -> bool
+/// Whether two levels are one. (The copies carry the rule of nums, by which equal levels have equal parts.)
+pub fn is_level(element: Element, num: &Num, other: Element, other_num: &Num) -> bool
     ensures { result ≡ bytes_eq (level_text element num.now) (level_text other other_num.now) }
 {
     let num = num.copy();

@@ -1,22 +1,22 @@
 //! Edits of structure: repeal, and substitution and insertion of provisions.
 
-ghost use Rattle.std.specs.Prelude.{◌≡◌, ◌+◌, ◌≤◌, None, false, true, length, is_some, IfOk, IfSome, OnOk, OnErr};
+ghost use Rattle.std.specs.Prelude.{◌≡◌, ◌+◌, ◌≤◌, None, Ok, false, true, length, is_some, IfOk, IfSome, OnOk, OnErr};
 ghost use Rattle.act_tree.specs.Branches.{Branches, branches_of};
-ghost use Rattle.act_tree.specs.Brought.{has_brought};
+ghost use Rattle.act_tree.specs.Brought.{brought, has_brought};
 ghost use Rattle.act_tree.specs.Changes.{after};
 ghost use Rattle.act_tree.specs.Faults.{first_cause, first_fault};
 ghost use Rattle.act_tree.specs.Provisions.{Provision};
-ghost use Rattle.act_tree.specs.Seen.{tree_view, has_node, children_at, grafted_at, changed_at};
+ghost use Rattle.act_tree.specs.Seen.{tree_view, has_node, children_at, grafted_at, changed_at, substituted_at};
 ghost use Rattle.act_tree.specs.declared.surveying.TheConstants.{NONE_THROUGHOUT};
 ghost use Rattle.textual_mods.specs.Edits.{answer_to, settled};
 ghost use Rattle.textual_mods.specs.StructureEdits.{repealed, nodes_substituted, nodes_inserted, is_anchor, placed};
 
+use crate::brought::nums_are_kept;
 use crate::held_back::{held_back, or_step};
-use crate::inserting::insert_at;
-use crate::settling::settle;
+use crate::inserting::{fault_of_bringing, insert_at};
 use crate::targets::provision_named;
 use crate::{Outcome, Pos};
-use act_tree::{Cause, NodeId, Nodes, Tree};
+use act_tree::{Cause, NodeId, Nodes, Tree, fault_of};
 use desk_base::{Id, Memory, Steps};
 use std::alloc::Global;
 use std::sync::ledger::Ledger;
@@ -47,6 +47,7 @@ pub fn substitute_nodes<L: Ledger>(
     new: &Nodes,
     steps: &mut Steps<L>,
 ) -> Result<Outcome, Memory>
+    requires fits { first_cause (tree_view tree.old) ≡ None }
     requires payload { first_fault NONE_THROUGHOUT (branches_of new.now) ≡ None }
     requires fresh { has_brought by (tree_view tree.old).body ≡ false }
     ensures outcome { IfOk result (λ o. o ≡ answer_to tree.old (nodes_substituted by wid.now (branches_of new.now))) }
@@ -58,9 +59,70 @@ pub fn substitute_nodes<L: Ledger>(
     let Some(id) = tree.find(wid.as_bytes()) else {
         return Ok(held_back(Cause::TargetMissing, steps));
     };
-    let before = or_step(tree.copy(alloc), steps)?;
-    tree.replace(alloc, id, new, by, steps)?;
-    settle(alloc, tree, before)
+    if id == tree.root() {
+        return substitute_all(alloc, tree, by, new, steps);
+    }
+    substitute_node(alloc, tree, by, id, new, steps)
+}
+
+// Puts nodes in the place of a node that is not the root, unless the tree would not be well-formed with them.
+fn substitute_node<L: Ledger>(
+    alloc: Global,
+    tree: &mut Tree,
+    by: Id,
+    id: NodeId,
+    new: &Nodes,
+    steps: &mut Steps<L>,
+) -> Result<Outcome, Memory>
+    requires fits { first_cause (tree_view tree.old) ≡ None }
+    requires node { has_node tree.old id ≡ true }
+    requires provision { id ≡ 0 → ⊥ }
+    requires payload { first_fault NONE_THROUGHOUT (branches_of new.now) ≡ None }
+    requires fresh { has_brought by (tree_view tree.old).body ≡ false }
+    ensures outcome { IfOk result (λ o. o
+        ≡ answer_to tree.old (λ _. Ok (substituted_at tree.old id (brought by (branches_of new.now))))) }
+    ensures tree { OnOk result (tree_view tree.new
+        ≡ settled tree.old (λ _. Ok (substituted_at tree.old id (brought by (branches_of new.now))))) }
+    ensures kept { OnErr result (tree_view tree.new ≡ tree_view tree.old) }
+    ensures step { steps.new ≡ steps.old + 1 }
+{
+    nums_are_kept(new);
+    let (parent, _place) = tree.place_of(id);
+    let gone = Some(id);
+    let fault = or_step(fault_of_bringing(alloc, tree, &gone, parent, new), steps)?;
+    match fault {
+        Some(fault) => Ok(held_back(fault.cause(), steps)),
+        None => {
+            tree.replace(alloc, id, new, by, steps)?;
+            Ok(Outcome::Done)
+        }
+    }
+}
+
+// Puts nodes in the place of all provisions, unless they make no tree of this numbering: nothing of the text stays.
+fn substitute_all<L: Ledger>(
+    alloc: Global,
+    tree: &mut Tree,
+    by: Id,
+    new: &Nodes,
+    steps: &mut Steps<L>,
+) -> Result<Outcome, Memory>
+    requires payload { first_fault NONE_THROUGHOUT (branches_of new.now) ≡ None }
+    requires fresh { has_brought by (tree_view tree.old).body ≡ false }
+    ensures outcome { IfOk result (λ o. o ≡ answer_to tree.old (λ _. Ok (brought by (branches_of new.now)))) }
+    ensures tree { OnOk result (tree_view tree.new ≡ settled tree.old (λ _. Ok (brought by (branches_of new.now)))) }
+    ensures kept { OnErr result (tree_view tree.new ≡ tree_view tree.old) }
+    ensures step { steps.new ≡ steps.old + 1 }
+{
+    let fault = or_step(fault_of(alloc, tree.numbering(), new), steps)?;
+    match fault {
+        Some(fault) => Ok(held_back(fault.cause(), steps)),
+        None => {
+            let root = tree.root();
+            tree.replace(alloc, root, new, by, steps)?;
+            Ok(Outcome::Done)
+        }
+    }
 }
 
 /// Puts nodes beside a provision, or among its children.

@@ -1,4 +1,4 @@
-use Rattle.std.proofs.Common.{◌≡◌, ◌∙◌, sym, false, true, ◌||◌}
+use Rattle.std.proofs.Common.{◌≡◌, ◌∙◌, sym, false, ◌||◌}
 use Rattle.eid_paths.specs.Elements.{is_throughout}
 use Rattle.act_tree.specs.Seen.{tree_view}
 use Rattle.act_tree.proofs.Frames.{none_left, none_right}

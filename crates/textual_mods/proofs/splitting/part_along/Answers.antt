@@ -1,5 +1,5 @@
 -- A split is held back by what is told before, or made.
-use Rattle.std.proofs.Common.{◌≡◌, ◌∙◌, sym, ap, None, Some}
+use Rattle.std.proofs.Common.{◌∙◌, sym, ap}
 use Rattle.eid_paths.specs.declared.element.Element.{Element}
 use Rattle.act_tree.specs.Seen.{tree_view}
 use Rattle.textual_mods.specs.Edits.{tree_after, outcome_of}
