@@ -12,6 +12,7 @@ pub mod Directed
 pub mod OneMore
 pub mod Continued
 pub mod RowFronts
+pub mod Points
 pub mod Adding
 pub mod LateDays
 pub mod Revised

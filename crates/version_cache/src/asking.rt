@@ -1,9 +1,10 @@
 //! Asking a table: the version of a day, lent or copied.
 
-ghost use Rattle.std.specs.Prelude.{◌≡◌, ◌≤◌, ◌-◌, ◌^◌, IfOk, length, min};
+ghost use Rattle.std.specs.Prelude.{◌≡◌, ◌≤◌, ◌-◌, ◌^◌, IfOk, length, min, nat_le, true};
 ghost use Rattle.act_tree.specs.Seen.{tree_view};
 ghost use Rattle.law_register.specs.Answer.Versions.{version_view};
-ghost use Rattle.version_cache.specs.Rows.{rows_view};
+ghost use Rattle.version_cache.specs.Days.{is_ascending};
+ghost use Rattle.version_cache.specs.Rows.{days_in, rows_view};
 ghost use Rattle.version_cache.specs.Seen.{table_view};
 ghost use Rattle.version_cache.specs.Tables.{rows_until, version_on};
 
@@ -15,16 +16,15 @@ use law_register::{Reading, Version};
 use std::alloc::Global;
 
 fn count_until(rows: &[Row], day: Day) -> usize
+    requires { is_ascending (days_in rows.now) ≡ true }
     ensures count { result ≡ length (rows_until day (rows_view rows.now)) }
     ensures most { result ≤ length rows.now }
 {
-    let mut count = 0;
-    for row in rows {
-        if row.day <= day {
-            count += 1;
-        }
-    }
-    count
+    rows.partition_point(
+        |row: &Row| -> bool
+            ensures { result ≡ nat_le row.now.day day }
+        { row.day <= day },
+    )
 }
 
 impl Table {
