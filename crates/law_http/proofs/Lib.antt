@@ -3,6 +3,7 @@ pub mod Answered
 pub mod Buffers
 pub mod Determined
 pub mod EmptyLines
+pub mod Faultless
 pub mod Growing
 pub mod HeadEnds
 pub mod Kept

@@ -1,5 +1,6 @@
 pub mod Asking
 pub mod Cutting
+pub mod Faultless
 pub mod Framing
 pub mod Heads
 pub mod Hearing

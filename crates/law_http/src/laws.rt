@@ -1,17 +1,19 @@
 //! Laws of what is heard, what is put and what is served, each as the contract of a function with an empty body.
 
-ghost use Rattle.std.specs.Prelude.{◌≡◌, ◌≤◌, ◌<◌, ◌^◌, ℕ, List, length};
+ghost use Rattle.std.specs.Prelude.{◌≡◌, ◌≤◌, ◌<◌, ◌^◌, ℕ, List, Option, None, Some, length};
 ghost use Rattle.law_register.specs.Desk.States.{Found};
 ghost use Rattle.law_register.specs.Register.Entering.{entered};
 ghost use Rattle.law_register.specs.Register.Verdicts.{request_of};
 ghost use Rattle.law_register.specs.declared.law.command.Command.{Command};
 ghost use Rattle.law_register.specs.declared.register.entry.Entry.{Entry};
 ghost use Rattle.law_register.specs.declared.register.verdict.Reply.{Reply as Outcome};
+ghost use Rattle.law_http.specs.Faultless.{IsDetermined, IsFaultless};
 ghost use Rattle.law_http.specs.Hearing.{AreHeard, IsFirstHeard};
 ghost use Rattle.law_http.specs.Lasting as lasting;
 ghost use Rattle.law_http.specs.Responses.{ReadsBack, Reply};
-ghost use Rattle.law_http.specs.Streaming.{AreServed, Exchange, RoseBy, faults_told};
+ghost use Rattle.law_http.specs.Streaming.{AreServed, Exchange, IsStreamed, RoseBy, faults_told};
 ghost use Rattle.law_http.specs.declared.heard.Heard.{Heard};
+ghost use Rattle.law_http.specs.declared.streaming.Served.{Served};
 
 use law_register::Desk;
 
@@ -93,4 +95,25 @@ pub fn repeat_changes_nothing()
     ensures { (entries : List Entry) (drafter : List ℕ) (request day : ℕ) (command : Command) (entry : Entry)
         (reply : Outcome) → request_of entries drafter request ≡ Some (entry, reply) → entry.command ≡ command
         → entered entries drafter request day command ≡ Ok (entries, reply) }
+{}
+
+/// What is served without a fault is determined: over a desk where nothing is pending, the bytes that are written and
+/// the entries that are left are functions of the entries at the start, of all that is heard of the bytes of the stream,
+/// which these determine, and of the days that the clock gives, one for each command with a good form. Then nothing is
+/// pending.
+pub fn served_without_fault_is_determined<D: Desk>()
+    ensures { (left before now : Option (List ℕ)) (old new : D) (steps later : ℕ) (served : Served)
+        → IsStreamed D.state D.crashes left before now old new steps later served
+        → (D.state old).pending ≡ None → IsFaultless served
+        → IsDetermined left before now (D.state old).entries (D.state old).days (D.state new).entries
+        × ((D.state new).pending ≡ None) }
+{}
+
+/// Two streams of the same bytes, over desks with the same entries and the same days to come, that are both served
+/// without a fault: the same is written, and the same entries are left.
+pub fn same_stream_is_served_alike()
+    ensures { (bytes before : List ℕ) (now other : Option (List ℕ)) (entries : List Entry) (told : ℕ → ℕ)
+        (later others : List Entry) → IsDetermined (Some bytes) (Some before) now entries (Some told) later
+        → IsDetermined (Some bytes) (Some before) other entries (Some told) others
+        → (now ≡ other) × (later ≡ others) }
 {}
