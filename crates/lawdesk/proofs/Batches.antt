@@ -5,7 +5,7 @@ use Rattle.law_http.specs.Streaming.{HasReadCause, HasWriteCause, RoseBy, faults
 use Rattle.law_http.specs.declared.streaming.Served.{Served}
 use Rattle.law_http.specs.declared.streaming.StreamEnd.{StreamEnd}
 use Rattle.law_http.specs.declared.streaming.StreamEnd.TheVariants as ends
-use Rattle.law_keeper.specs.Keepers.{Holding, Keeps}
+use Rattle.law_keeper.specs.Keepers.{Holding, Keeps, LeavesOldOrSame}
 use Rattle.law_office.specs.Crashing.{crashes_of}
 use Rattle.law_office.specs.Offices.{OfficeState, desk_of}
 use Rattle.law_office.specs.Opening.{HasDamageCause, HasRefusalCause, Refuses, opened_of}
@@ -14,6 +14,7 @@ use Rattle.law_register.specs.declared.desk.open_fault.OpenFault.{OpenFault}
 use Rattle.law_register.specs.declared.desk.open_fault.OpenFault.TheVariants as fails
 use Rattle.law_register.specs.declared.register.entry.Entry.{Entry}
 use Rattle.lawdesk.specs.Batching.{IsBatchStatus, IsServed, RanBatch, ServesOver, TellsRefusal, stream_status}
+use Rattle.lawdesk.proofs.Beginning.{since_began}
 use Rattle.lawdesk.proofs.Stepping.{served_faults}
 
 -- the statuses of a stream
@@ -135,6 +136,7 @@ module _ {S W K C : Type 0} (left : S → Option (List ℕ)) (read_faults : S �
       → ((holding keeper).tells → Refuses fault (opened_of (holding keeper).list))
       → HasRefusalCause (keeper_faults keeper) (keeper_faults keeper_new) fault
       → Keeps (holding keeper) (holding keeper_new)
+      → LeavesOldOrSame (holding keeper) (holding keeper_new)
       → TellsRefusal fault (written sink) (written sink_new) status
       → ((status ≡ 5) ⊎ (status ≡ 7) → sink_new ≡ sink)
       → (status ≡ 4 → Rose (write_faults sink) (write_faults sink_new))
@@ -142,7 +144,7 @@ module _ {S W K C : Type 0} (left : S → Option (List ℕ)) (read_faults : S �
       → source_new ≡ source → clock_new ≡ clock
       → RanBatch left read_faults written write_faults holding keeper_faults days
       source source_new sink sink_new keeper keeper_new clock clock_new steps later status
-  ran_unopened status fault opened cause same told unwritten rose stays same_source same_clock =
+  ran_unopened status fault opened cause same crash told unwritten rose stays same_source same_clock =
       let among : (status ≡ 4) ⊎ ((status ≡ 5) ⊎ ((status ≡ 6) ⊎ (status ≡ 7))) =
       refusal_status_is fault (written sink) (written sink_new) status told in
       record {
@@ -154,6 +156,7 @@ module _ {S W K C : Type 0} (left : S → Option (List ℕ)) (read_faults : S �
           told = told;
           unwritten = unwritten;
           same = same;
+          crash = crash;
           same_source = same_source;
           same_clock = same_clock;
         });
@@ -172,6 +175,7 @@ module _ {S W K C : Type 0} (left : S → Option (List ℕ)) (read_faults : S �
   pub ran_served : (status : ℕ) (opened : K) (entries : List Entry) (served : Served)
       → ((holding keeper).tells → opened_of (holding keeper).list ≡ Ok entries)
       → Keeps (holding keeper) (holding opened)
+      → LeavesOldOrSame (holding keeper) (holding opened)
       → keeper_faults opened ≡ keeper_faults keeper
       → ServesOver left written holding keeper_faults days source sink sink_new opened keeper_new clock steps later entries served
       → HasReadCause served.end (read_faults source) (read_faults source_new)
@@ -179,7 +183,7 @@ module _ {S W K C : Type 0} (left : S → Option (List ℕ)) (read_faults : S �
       → status ≡ stream_status served.end served.faulted
       → RanBatch left read_faults written write_faults holding keeper_faults days
       source source_new sink sink_new keeper keeper_new clock clock_new steps later status
-  ran_served status opened entries served stand_for same faults serves reads writes is =
+  ran_served status opened entries served stand_for same crash faults serves reads writes is =
       let began : keeper_faults (serves.office).keeper ≡ keeper_faults keeper =
       ap keeper_faults (serves.is_new).keeper_is ∙ faults in
       let ended : keeper_faults keeper_new ≡ keeper_faults (serves.closed).keeper = ap keeper_faults serves.kept in
@@ -190,6 +194,8 @@ module _ {S W K C : Type 0} (left : S → Option (List ℕ)) (read_faults : S �
           entries = entries;
           stand_for = stand_for;
           same = same;
+          crash = since_began left written holding keeper_faults days source sink sink_new keeper opened keeper_new
+              clock steps later entries served stand_for same crash serves;
           faults = faults;
           served = served;
           serves = serves;

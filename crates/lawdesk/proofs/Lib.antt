@@ -2,6 +2,7 @@ pub mod Reading
 pub mod Stepping
 pub mod Outliving
 pub mod Serving
+pub mod Beginning
 pub mod Batches
 pub mod Wholes
 pub mod Telling

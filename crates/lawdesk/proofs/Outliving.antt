@@ -20,7 +20,7 @@ use Rattle.lawdesk.specs.Outliving.{BeginWith, IsFaulted, IsKept, IsOneMore, Out
 use Rattle.lawdesk.proofs.Stepping.{asking_begin, begin_same, begin_then, served_begins}
 
 -- a run behind a run
-then_runs : {A : Type 0} (P : A → Type 0) (o m n : Crashes A) → LeavesOnly P o m → LeavesOnly P m n → LeavesOnly P o n
+pub then_runs : {A : Type 0} (P : A → Type 0) (o m n : Crashes A) → LeavesOnly P o m → LeavesOnly P m n → LeavesOnly P o n
 then_runs P o m n first second = record {
   tells = second.tells;
   now = second.now;
@@ -36,7 +36,7 @@ then_runs P o m n first second = record {
 }
 
 -- what has P has Q
-weaker : {A : Type 0} (P Q : A → Type 0) (o n : Crashes A) → ((thing : A) → P thing → Q thing) → LeavesOnly P o n
+pub weaker : {A : Type 0} (P Q : A → Type 0) (o n : Crashes A) → ((thing : A) → P thing → Q thing) → LeavesOnly P o n
     → LeavesOnly Q o n
 weaker P Q o n leads run = record {
   tells = run.tells;

@@ -1,11 +1,12 @@
 -- What a run of `batch` leaves: the requests that a source has are served over the register that a keeper keeps.
 use Rattle.std.specs.Prelude.{ℕ, ◌≡◌, ◌≢◌, ◌++◌, List, [], Option, None, Ok, ◌⊎◌, Bool, if◌then◌else◌}
+use Rattle.desk_base.specs.Crashes.{LeavesOnly}
 use Rattle.desk_base.specs.Streams.{AppendsFront, Rose}
 use Rattle.law_http.specs.Streaming.{IsStreamed}
 use Rattle.law_http.specs.declared.streaming.Served.{Served}
 use Rattle.law_http.specs.declared.streaming.StreamEnd.{StreamEnd}
 use Rattle.law_http.specs.declared.streaming.StreamEnd.TheVariants as ends
-use Rattle.law_keeper.specs.Keepers.{Holding, Keeps}
+use Rattle.law_keeper.specs.Keepers.{Holding, Keeps, LeavesOldOrSame}
 use Rattle.law_office.specs.Crashing.{crashes_of}
 use Rattle.law_office.specs.Offices.{OfficeState, desk_of}
 use Rattle.law_office.specs.Opening.{HasRefusalCause, Refuses, opened_of}
@@ -15,7 +16,7 @@ use Rattle.law_register.specs.declared.desk.open_fault.OpenFault.{OpenFault}
 use Rattle.law_register.specs.declared.desk.open_fault.OpenFault.TheVariants as fails
 use Rattle.law_register.specs.declared.register.entry.Entry.{Entry}
 use Rattle.lawdesk.specs.Checking.{told_damage}
-use Rattle.lawdesk.specs.Outliving.{BeginWith, OutliveAll}
+use Rattle.lawdesk.specs.Outliving.{BeginWith, IsOldOrKept, OutliveAll}
 use Rattle.lawdesk.specs.Runs.{IsWritten}
 
 -- the statuses of `batch`: 0 each request was answered, 1 what came behind the last was refused as no request, 3 and 4
@@ -93,8 +94,10 @@ module _ {S W K C : Type 0} (left : S → Option (List ℕ)) (read_faults : S �
     pub cause : HasRefusalCause (keeper_faults keeper) (keeper_faults keeper_new) fault
     pub told : TellsRefusal fault (written sink) (written sink_new) status
     pub unwritten : (status ≡ 5) ⊎ (status ≡ 7) → sink_new ≡ sink
-    -- the payloads stay, and nothing was asked of the source and the clock
+    -- the payloads stay, and where the keeper tells it, a crash at any moment since the run began leaves a list that
+    -- it could leave before, or the list itself; nothing was asked of the source and the clock
     pub same : Keeps (holding keeper) (holding keeper_new)
+    pub crash : LeavesOldOrSame (holding keeper) (holding keeper_new)
     pub same_source : source_new ≡ source
     pub same_clock : clock_new ≡ clock
 
@@ -109,6 +112,12 @@ module _ {S W K C : Type 0} (left : S → Option (List ℕ)) (read_faults : S �
     pub served : Served
     pub serves : ServesOver left written holding keeper_faults days
         source sink sink_new opened keeper_new clock steps later entries served
+    -- where the keeper tells it, a crash at any moment since the run began, in the midst of the opening too, leaves what
+    -- it could leave before, or the entries that were opened with a front of those that came behind them, or with one
+    -- more that was answered 503
+    pub crash : (holding keeper).tells → (holding keeper).tells_crash
+        → LeavesOnly (IsOldOrKept (crashes_of (holding keeper)) entries (serves.closed).entries
+        (serves.streamed).exchanges) (crashes_of (holding keeper)) (crashes_of (holding keeper_new))
     pub status_told : status ≡ stream_status served.end served.faulted
 
   -- what a run of `batch` leaves

@@ -44,6 +44,10 @@ pub record IsKept (first final : List Entry) (exchanges : List Exchange) (found 
   pub holds : BeginWith entries first
   pub among : BeginWith final entries ⊎ IsOneMore final exchanges entries
 
+-- what is found could be found before, or is kept
+abbrev pub IsOldOrKept : Crashes Found → List Entry → List Entry → List Exchange → Found → Type 0
+IsOldOrKept old first final exchanges found = old.may_leave found ⊎ IsKept first final exchanges found
+
 module _ {D : Type 0} (state : D → DeskState) (crashes : D → Crashes Found) (all : List Exchange) where
   -- a crash at any moment from old to new leaves entries that begin with those of old
   abbrev pub Outlives : D → D → Type 0

@@ -2,7 +2,7 @@
 
 ghost use Rattle.std.specs.Prelude.{◌≡◌, ◌≢◌, ◌⊎◌, ℕ, IfOk, Result, List};
 ghost use Rattle.desk_base.specs.Streams.{Rose};
-ghost use Rattle.law_keeper.specs.Keepers.{Keeps};
+ghost use Rattle.law_keeper.specs.Keepers.{Keeps, LeavesOldOrSame};
 ghost use Rattle.law_office.specs.Opening.{HasOpenCause, Opens};
 ghost use Rattle.law_register.specs.declared.desk.damage.Damage.{Damage};
 ghost use Rattle.law_register.specs.declared.register.entry.Entry.{Entry};
@@ -60,6 +60,7 @@ fn report_kept<K: Keeper>(alloc: Global, keeper: &mut K) -> Result<Report, OpenF
         → IfOk result (λ report. report_view report ≡ checked (K.holding keeper.old).list) }
     ensures cause { HasCheckCause (K.faults keeper.old) (K.faults keeper.new) result }
     ensures same { Keeps (K.holding keeper.old) (K.holding keeper.new) }
+    ensures crash { LeavesOldOrSame (K.holding keeper.old) (K.holding keeper.new) }
 {
     let opened = Book::open(alloc, keeper);
     let report = report_opened(alloc, &opened);
@@ -80,6 +81,7 @@ pub fn check<W: Sink, K: Keeper>(alloc: Global, sink: &mut W, keeper: &mut K) ->
     ensures keeper_stays { result ≡ 0 → K.faults keeper.new ≡ K.faults keeper.old }
     ensures sink_stays { result ≢ 4 → W.faults sink.new ≡ W.faults sink.old }
     ensures same { Keeps (K.holding keeper.old) (K.holding keeper.new) }
+    ensures crash { LeavesOldOrSame (K.holding keeper.old) (K.holding keeper.new) }
 {
     match report_kept(alloc, keeper) {
         Ok(report) => match sink.write_all(report.bytes.as_slice()) {
