@@ -1,0 +1,4 @@
+pub mod FoundEids
+pub mod ListedWids
+pub mod Rows
+pub mod WorksInTurn

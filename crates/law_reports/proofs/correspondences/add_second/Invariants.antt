@@ -1,0 +1,15 @@
+-- What is written, with the rows of the wIds that are left, is what was written before and the rows of all.
+use Rattle.std.proofs.Common.{◌≡◌, ◌++◌, not, map, filter, drop}
+use Rattle.act_tree.specs.Changes.{is_in}
+use Rattle.act_tree.specs.Seen.{tree_view}
+use Rattle.act_tree.specs.Wids.{all_wids}
+use Rattle.law_reports.specs.Correspondences.{row_of_second}
+use Rattle.law_reports.specs.Tables.{IsOpen, rows_text, written}
+use Rattle.law_reports.proofs.correspondences.add_second.Given as goal
+
+abbrev pub invariant-loop-wid : goal.invariant-loop-wid
+invariant-loop-wid l = record {
+  ready : IsOpen l.table;
+  rows : written l.table ++ rows_text (map (row_of_second (tree_view l.second)) (filter (λ wid. not (is_in wid (tree_view l.first).body)) (drop l.wid-index l.wid-items)))
+      ≡ written l.initial.table ++ rows_text (map (row_of_second (tree_view l.second)) (filter (λ wid. not (is_in wid (tree_view l.first).body)) (all_wids (tree_view l.second).body)));
+}

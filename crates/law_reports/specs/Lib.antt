@@ -1,0 +1,4 @@
+pub mod Correspondences
+pub mod Lifecycles
+pub mod Tables
+pub mod Unapplied

@@ -1,0 +1,13 @@
+//! Reports: tables of what became of acts, as text that a spreadsheet opens.
+#![tactic(auto)]
+
+mod correspondences;
+mod events;
+mod lifecycles;
+mod table;
+mod unapplied_mods;
+
+pub use correspondences::correspondence;
+pub use events::EventKind;
+pub use lifecycles::lifecycle;
+pub use unapplied_mods::unapplied;
