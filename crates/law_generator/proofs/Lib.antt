@@ -1,0 +1,4 @@
+pub mod Readings
+pub mod Sending
+pub mod Spelled
+pub mod Steps

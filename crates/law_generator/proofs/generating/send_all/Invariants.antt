@@ -1,0 +1,16 @@
+-- So far the desk has the entries of the course, the draws have its state, and no fault was counted.
+use Rattle.std.proofs.Common.{◌≡◌, ◌≤◌}
+use Rattle.law_register.specs.Desk.States.{standing}
+use Rattle.law_generator.specs.Courses as spec
+use Rattle.law_generator.specs.Courses.{IsReady}
+use Rattle.law_generator.proofs.generating.send_all.Given as goal
+
+abbrev pub invariant-loop-done : goal.invariant-loop-done
+invariant-loop-done g l = record {
+  entries : (g.D.Desk.state l.desk).entries ≡ (spec.course l.seed l.done).entries;
+  draws : l.draws.state ≡ (spec.course l.seed l.done).state;
+  ready : IsReady (standing (g.D.Desk.state l.desk));
+  counted : (g.D.Desk.state l.desk).faults ≡ (g.D.Desk.state l.initial.desk).faults;
+  stepped : l.steps ≡ l.initial.steps;
+  within : l.done ≤ l.count;
+}

@@ -1,0 +1,5 @@
+pub mod Acts
+pub mod Courses
+pub mod Drawn
+pub mod Draws
+pub mod Named
