@@ -27,3 +27,6 @@ pub mod ApartIds
 pub mod Continuing
 pub mod DueOnce
 pub mod NamedDays
+pub mod Previews
+pub mod Apart
+pub mod ApartVerdicts

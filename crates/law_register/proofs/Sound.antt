@@ -234,3 +234,16 @@ pub known_is_sound : (w : List ℕ) (v front : ℕ) (es : List Entry) → is_leg
 known_is_sound w v front es h =
     let sound = legal_sound es h in
     known_by_sound w v front (laws es) (enacted w (laws es)) (sound.acts w) sound.facts
+
+-- what is known of a work once one more law entry records a drafter's items in it
+pub drafted_is_sound : (w d : List ℕ) (v front : ℕ) (es : List Entry) → is_legal es ≡ true
+    → IfSome (known_by w v front (laws es ++ Record w (map (λ (i : DraftItem). i.body) (items_of w (draft_of d es))) ∷ [])
+    (enacted w (laws es ++ Record w (map (λ (i : DraftItem). i.body) (items_of w (draft_of d es))) ∷ []))) IsSound
+drafted_is_sound w d v front es h =
+    let sound = legal_sound es h in
+    let items = items_of w (draft_of d es) in
+    let bodies : List Modification = map (λ (i : DraftItem). i.body) items in
+    let new : AreSound bodies = sound_items items (sound_filter (λ i. bytes_eq i.work w) (draft_of d es) (sound.drafts d)) in
+    known_by_sound w v front (laws es ++ Record w bodies ∷ []) (enacted w (laws es ++ Record w bodies ∷ []))
+    (more_sound w (laws es) (Record w bodies) (sound.acts w) tt)
+    (λ id. subst FactsSound (sym (facts_more id (laws es) (Record w bodies))) (recorded_sound id (length (laws es) + 1) w bodies (facts_of id (laws es)) new (sound.facts id)))

@@ -6,6 +6,7 @@ pub mod Costs
 pub mod Counted
 pub mod Flags
 pub mod Order
+pub mod Previews
 pub mod Queries
 pub mod Questions
 pub mod Replay

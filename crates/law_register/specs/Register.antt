@@ -8,6 +8,7 @@ pub mod LawList
 pub mod Listing
 pub mod Marks
 pub mod Registers
+pub mod Room
 pub mod Requests
 pub mod Rulebook
 pub mod Verdicts

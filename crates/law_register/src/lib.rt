@@ -5,6 +5,7 @@ mod answer;
 mod desk;
 mod law;
 pub mod laws;
+pub mod preview_laws;
 mod register;
 pub mod replay_laws;
 mod series;

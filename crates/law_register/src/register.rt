@@ -3,6 +3,7 @@
 pub(crate) mod contents;
 mod draft;
 mod drafter;
+mod drafting;
 mod entering;
 mod entry;
 pub(crate) mod indexes;

@@ -1,0 +1,107 @@
+//! Previewing: a drafter's draft, and the answer by what is known with it.
+
+ghost use Rattle.std.specs.Prelude.{◌≡◌, ◌+◌, ◌≤◌, IfOk, IfSome, IsSome};
+ghost use Rattle.law_register.specs.Answer.Answers.{Answers, answer_on};
+ghost use Rattle.law_register.specs.Answer.Costs.{bearing_by};
+ghost use Rattle.law_register.specs.Answer.Previews.{known_previewed, law_previewed, preview_at, previewing_at, question_by};
+ghost use Rattle.law_register.specs.Answer.Soundness.{IsSound};
+ghost use Rattle.law_register.specs.Register.Drafts.{draft_of as items_drafted};
+
+use crate::recording::with_items;
+use desk_base::{Memory, Steps};
+use frbr_names::WorkName;
+use law_register::preview_laws::{previews_add_items, previews_are_sound};
+use law_register::{
+    Answer, AskFault, Draft, Drafter, Known, QueryRule, Question, Register, Replayer, known_at,
+};
+use std::alloc::Global;
+use std::sync::ledger::Ledger;
+
+/// The items of a drafter's draft, in order.
+pub fn draft_of(alloc: Global, register: &Register, drafter: &Drafter) -> Result<Draft, Memory>
+    ensures { IfOk result (λ draft. draft ≡ items_drafted drafter.now register.now.entries) }
+{
+    register.draft(alloc, drafter)
+}
+
+// What a drafter's preview knows of a work: what the whole register knows of it, with the items of his draft that modify it.
+fn known_previewed(
+    alloc: Global,
+    register: &Register,
+    drafter: &Drafter,
+    work: &WorkName,
+) -> Result<Option<Known>, Memory>
+    ensures known { IfOk result
+        (λ known. known ≡ known_previewed register.now.entries drafter.now work.now) }
+    ensures sound { IfOk result (λ known. IfSome known IsSound) }
+{
+    previews_add_items(register, drafter, work);
+    previews_are_sound(register, drafter, work);
+    match known_at(alloc, register, work, register.front())? {
+        Some(known) => {
+            let items = register.draft_on(alloc, drafter, work)?;
+            Ok(Some(with_items(alloc, known, &items)?))
+        }
+        None => Ok(None),
+    }
+}
+
+// The answer to a question, by what is known of its work.
+#[tactic(auto, unfolding(law_register::specs::Answer::Answers::answer_on))]
+fn answer_known<P: Replayer, L: Ledger>(
+    alloc: Global,
+    replayer: &P,
+    known: &Known,
+    question: &Question,
+    steps: &mut Steps<L>,
+) -> Result<Answer, AskFault>
+    requires { IsSound known.now }
+    ensures answer { Answers result (answer_on known.now question.now) }
+    ensures steps { steps.new ≤ steps.old + bearing_by question.now known.now }
+{
+    match question.first_rule(known)? {
+        Some(rule) => Err(AskFault::Query(rule)),
+        None => {
+            let day = question.asked_day(&known.act);
+            let version = replayer.replay(alloc, known, question.reading, day, steps)?;
+            replayer.answer_of(alloc, known, version, question)
+        }
+    }
+}
+
+// A question at a viewpoint.
+fn question_at(question: &Question, viewpoint: u32) -> Result<Question, Memory>
+    ensures { IfOk result (λ asked. asked ≡ record question.now { viewpoint = viewpoint }) }
+{
+    let mut asked = question.copy()?;
+    asked.viewpoint = viewpoint;
+    Ok(asked)
+}
+
+/// What a version of a work will say once a drafter's draft of the work is filed, or the first rule that the question breaks. The
+/// viewpoint of the question is not read: it is answered at one law entry more than there are, which records the items of the draft and
+/// is not judged, or at the front where there are none. It takes one step at most for each modification that bears. Of the register it
+/// copies what is known of the work, and those items.
+pub fn preview<P: Replayer, L: Ledger>(
+    alloc: Global,
+    replayer: &P,
+    register: &Register,
+    drafter: &Drafter,
+    question: &Question,
+    steps: &mut Steps<L>,
+) -> Result<Answer, AskFault>
+    requires { IsSome question.now.version }
+    ensures answer { Answers result (preview_at register.now.entries drafter.now question.now) }
+    ensures steps { steps.new ≤ steps.old + previewing_at register.now.entries drafter.now question.now }
+{
+    match known_previewed(alloc, register, drafter, &question.work)? {
+        Some(known) => {
+            let asked = question_at(question, known.viewpoint)?;
+            answer_known(alloc, replayer, &known, &asked, steps)
+        }
+        None => {
+            let work = question.work.copy()?;
+            Err(AskFault::Query(QueryRule::UnknownWork(work)))
+        }
+    }
+}

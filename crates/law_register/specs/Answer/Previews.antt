@@ -1,0 +1,67 @@
+-- Previews: what an act will say with a drafter's draft, before it is filed.
+use Rattle.std.specs.Prelude.{ℕ, ◌+◌, true, List, [], ◌∷◌, ◌++◌, length, map, filter, Option, Result}
+use Rattle.law_register.specs.declared.answer.answer.Answer.{Answer}
+use Rattle.law_register.specs.declared.answer.question.Question.{Question}
+use Rattle.law_register.specs.declared.answer.queries.QueryRule.{QueryRule}
+use Rattle.law_register.specs.declared.law.command.Command.{Command}
+use Rattle.law_register.specs.declared.law.command.Command.TheVariants.{Record}
+use Rattle.law_register.specs.declared.register.draft.DraftItem.{DraftItem}
+use Rattle.law_register.specs.declared.register.entry.Entry.{Entry}
+use Rattle.law_register.specs.declared.register.known.Known.{Known}
+use Rattle.law_register.specs.declared.register.known.KnownMod.{KnownMod}
+use Rattle.law_register.specs.Answer.Asking.{answer_by}
+use Rattle.law_register.specs.Answer.Costs.{bearing_for}
+use Rattle.law_register.specs.Register.Drafts.{draft_of, is_by, items_of}
+use Rattle.law_register.specs.Register.KnownIds.{enacted, known_by}
+use Rattle.law_register.specs.Register.LawList.{laws}
+
+-- the law with one more entry, which records these items of a draft in a work and is not judged; without items, the law as it is
+abbrev pub law_with : List Command → List ℕ → List DraftItem → List Command
+law_with law work [] = law
+law_with law work (item ∷ items) = law ++ Record work (map (λ i. i.body) (item ∷ items)) ∷ []
+
+-- what the whole of a law makes known of a work
+abbrev pub known_by_law : List Command → List ℕ → Option Known
+known_by_law law work = known_by work (length law) (length law) law (enacted work law)
+
+-- a question at the viewpoint that knows the whole of a law
+abbrev pub question_by : List Command → Question → Question
+question_by law q = record q { viewpoint = length law }
+
+-- the law with what a drafter's draft holds of a work
+abbrev pub law_previewed : List Entry → List ℕ → List ℕ → List Command
+law_previewed entries drafter work = law_with (laws entries) work (items_of work (draft_of drafter entries))
+
+-- what a drafter's preview knows of a work
+abbrev pub known_previewed : List Entry → List ℕ → List ℕ → Option Known
+known_previewed entries drafter work = known_by_law (law_previewed entries drafter work) work
+
+-- a drafter's preview: the answer to a question about a version by the law with his draft of that work, and the whole of it known;
+-- the viewpoint that the question names is not read
+unfoldable pub preview_at : List Entry → List ℕ → Question → Result Answer QueryRule
+preview_at entries drafter q =
+    answer_by (question_by (law_previewed entries drafter q.work) q) (known_previewed entries drafter q.work)
+
+-- how many modifications bear on the day that a drafter's preview asks for, those of his draft among them
+unfoldable pub previewing_at : List Entry → List ℕ → Question → ℕ
+previewing_at entries drafter q =
+    bearing_for (question_by (law_previewed entries drafter q.work) q) (known_previewed entries drafter q.work)
+
+-- items of a draft as they are known once a law entry of this number records them, the first of them as this item
+abbrev pub items_known : ℕ → ℕ → List DraftItem → List KnownMod
+items_known law item [] = []
+items_known law item (i ∷ items) =
+    record { id = record { law = law; item = item }; live = true; body = i.body } ∷ items_known law (item + 1) items
+
+-- what is known of a work once one more law entry records these items in it; without items, what was known
+abbrev pub with_items : List DraftItem → Known → Known
+with_items [] known = known
+with_items (i ∷ items) known = record known {
+  viewpoint = known.front + 1;
+  front = known.front + 1;
+  mods = known.mods ++ items_known (known.front + 1) 1 (i ∷ items);
+}
+
+-- the entries of a drafter
+abbrev pub own_entries : List ℕ → List Entry → List Entry
+own_entries drafter entries = filter (is_by drafter) entries
