@@ -5,7 +5,7 @@ ghost use Rattle.std.specs.Prelude.{◌≡◌, ◌≢◌, ◌↔◌, [], None, O
 ghost use Rattle.law_keeper.specs.Keepers.{Keeps, LeavesOldOrSame};
 ghost use Rattle.law_register.specs.Desk.States.{Found, IsFoundOf};
 ghost use Rattle.law_office.specs.Crashing.{crashes_of};
-ghost use Rattle.law_office.specs.Offices.{HoldsBook, IsNamed, IsRight, names_of, pending_of};
+ghost use Rattle.law_office.specs.Offices.{HoldsBook, IsNamed, IsRight, Spells, names_of, pending_of};
 ghost use Rattle.law_office.specs.Opening.{HasRefusalCause, Refuses, opened_of};
 
 use crate::acting::command as do_command;
@@ -114,11 +114,13 @@ impl<'a, K: Keeper, C: Clock> Office<'a, K, C> {
         }
     }
 
-    /// Gives the keeper back. What it has, and what a crash leaves of it, is opened as the entries, with the one that is
-    /// pending behind them or not.
+    /// Gives the keeper back. Its list spells the entries, with the one that is pending behind them or not, and that
+    /// list, and what a crash leaves of it, is opened so.
     pub fn close(self) -> &'a mut K
         ensures keeper { result.now ≡ self.entry.keeper }
         ensures name { IsNamed self.entry.origin result.ghost_name }
+        ensures list { (K.holding result.now).tells → Spells self.entry.entries self.entry.pending
+            (K.holding result.now).list }
         ensures found { (K.holding result.now).tells → IsFoundOf self.entry.entries self.entry.pending
             (opened_of (K.holding result.now).list) }
         ensures durable { let crashes = crashes_of (K.holding result.now) in

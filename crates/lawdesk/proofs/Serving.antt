@@ -6,7 +6,7 @@ use Rattle.law_http.specs.declared.streaming.Served.{Served}
 use Rattle.law_keeper.specs.Keepers.{Holding, IsHolding, IsSettled}
 use Rattle.law_keeper.specs.declared.readiness.Readiness.{Readiness}
 use Rattle.law_office.specs.Crashing.{IsFoundIn, crashes_are, crashes_of}
-use Rattle.law_office.specs.Offices.{Holds, HoldsBook, IsRight, OfficeState, desk_of, pending_of}
+use Rattle.law_office.specs.Offices.{Holds, HoldsBook, IsRight, OfficeState, Spells, desk_of, pending_of}
 use Rattle.law_office.specs.Opening.{opened_of}
 use Rattle.law_office.specs.declared.book.Book.{Book}
 use Rattle.law_office.specs.declared.book.Pending.{Pending}
@@ -53,10 +53,11 @@ module _ {S W K C : Type 0} (left : S → Option (List ℕ)) (written : W → Op
       → IsStreamed (desk_of keeper_faults days) (λ (o : OfficeState K C). crashes_of (holding o.keeper))
       (left source) (written sink) (written sink_new) office closed steps later served
       → keeper_new ≡ closed.keeper
+      → ((holding keeper_new).tells → Spells closed.entries closed.pending (holding keeper_new).list)
       → ((holding keeper_new).tells → IsFoundOf closed.entries closed.pending (opened_of (holding keeper_new).list))
       → ServesOver left written holding keeper_faults days source sink sink_new keeper keeper_new clock steps later
       book.register.entries served
-  serves_over source sink sink_new keeper_new steps later served closed streamed kept found = record {
+  serves_over source sink sink_new keeper_new steps later served closed streamed kept list found = record {
     office = office;
     closed = closed;
     is_new = new;
@@ -65,6 +66,7 @@ module _ {S W K C : Type 0} (left : S → Option (List ℕ)) (written : W → Op
         (served_begins (desk_of keeper_faults days) (λ (o : OfficeState K C). crashes_of (holding o.keeper))
         streamed.exchanges office closed streamed.answered);
     kept = kept;
+    list = list;
     found = found;
     outlives = λ told crash.
         outlive_all streamed.exchanges (desk_of keeper_faults days)

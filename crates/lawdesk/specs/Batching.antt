@@ -8,7 +8,7 @@ use Rattle.law_http.specs.declared.streaming.StreamEnd.{StreamEnd}
 use Rattle.law_http.specs.declared.streaming.StreamEnd.TheVariants as ends
 use Rattle.law_keeper.specs.Keepers.{Holding, Keeps, LeavesOldOrSame}
 use Rattle.law_office.specs.Crashing.{crashes_of}
-use Rattle.law_office.specs.Offices.{OfficeState, desk_of}
+use Rattle.law_office.specs.Offices.{OfficeState, Spells, desk_of}
 use Rattle.law_office.specs.Opening.{HasRefusalCause, Refuses, opened_of}
 use Rattle.law_register.specs.Desk.States.{IsFoundOf}
 use Rattle.law_register.specs.declared.desk.damage.Damage.{Damage}
@@ -70,10 +70,11 @@ pub record ServesOver {S W K C : Type 0} (left : S → Option (List ℕ)) (writt
   -- what was heard of all that the source had left, how each request was answered, and what was written
   pub streamed : IsStreamed (desk_of keeper_faults days) (λ o. crashes_of (holding o.keeper))
       (left source) (written sink) (written sink_new) office closed steps later served
-  -- at the end the entries begin with those that were opened, and an opening would find them, with the one that is
-  -- pending behind them or without it
+  -- at the end the entries begin with those that were opened, the keeper's list spells them, with the one that is
+  -- pending behind them or without it, and an opening would find them so
   pub begin : BeginWith closed.entries entries
   pub kept : keeper_new ≡ closed.keeper
+  pub list : (holding keeper_new).tells → Spells closed.entries closed.pending (holding keeper_new).list
   pub found : (holding keeper_new).tells
       → IsFoundOf closed.entries closed.pending (opened_of (holding keeper_new).list)
   -- where the keeper tells it: from the opening on a crash at any moment leaves a front of the entries at the end, or

@@ -1,6 +1,6 @@
 -- The office that is closed is the one that was opened, with what was served over it.
 use Rattle.std.proofs.Common.{◌∙◌, ap, subst, sym, ℕ, List}
-use Rattle.law_office.specs.Offices.{IsNamed, pending_of}
+use Rattle.law_office.specs.Offices.{IsNamed, Spells, pending_of}
 use Rattle.law_office.specs.Opening.{opened_of}
 use Rattle.law_register.specs.Desk.States.{IsFoundOf}
 use Rattle.lawdesk.proofs.Serving.{serves_over}
@@ -24,6 +24,8 @@ returns-clause-served g c =
       no_marks = c.new-office.ensures.marks ∙ c.requires.no_marks;
     })
     _ _ _ _ _ _ _ closed c.serve_desk-served.ensures.served (kept ∙ c.close-keeper.ensures.keeper)
+    (subst (λ (k : g.row.K.Denot). (g.K.Keeper.holding k).tells
+    → Spells closed.entries closed.pending (g.K.Keeper.holding k).list) (sym kept) c.close-keeper.ensures.list)
     (subst (λ (k : g.row.K.Denot). (g.K.Keeper.holding k).tells
     → IsFoundOf closed.entries closed.pending (opened_of (g.K.Keeper.holding k).list))
     (sym kept) c.close-keeper.ensures.found)

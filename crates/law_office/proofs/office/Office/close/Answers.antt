@@ -2,6 +2,9 @@ use Rattle.std.proofs.Common.{sym}
 use Rattle.law_office.proofs.Images.{found_now, found_after}
 use Rattle.law_office.proofs.office.Office.close.Goals as goal
 
+pub returns-clause-list : goal.returns-clause-list
+returns-clause-list g c = rw (sym c.self.view_is) (c.self.invariant.1).list
+
 pub returns-clause-found : goal.returns-clause-found
 returns-clause-found g c =
     let office = c.self.inside in
