@@ -13,8 +13,8 @@ use law_register::{Answer, AskFault, Desk, Question};
 use std::alloc::Global;
 use std::sync::ledger::Ledger;
 
-// The line of an answer, or of the rule that a question breaks.
-fn answer_line(alloc: Global, told: Result<Answer, AskFault>) -> Result<Vec<u8>, Memory>
+/// The line of an answer, or of the rule that a question breaks.
+pub fn answer_line(alloc: Global, told: Result<Answer, AskFault>) -> Result<Vec<u8>, Memory>
     ensures { (answer : Result Answer QueryRule) → Answers told answer
         → IfOk result (λ line. line.items ≡ spec.answer_line answer) }
 {

@@ -4,6 +4,7 @@ use crate::answering::{told_by_value, told_of_question};
 use crate::bearing::{told_of_days, told_of_flag, told_of_order};
 use crate::bytes::{told_of_bytes, told_of_entry};
 use crate::commanding::told_of_command;
+use crate::drafting::told_of_drafter;
 use crate::knowing::told_of_known;
 use crate::questions::{read_known, read_question};
 use crate::replies::front_line;
@@ -79,6 +80,9 @@ fn told_of_words<D: Desk, L: Ledger>(
         };
     };
     if let Some(told) = told_as_bytes(alloc, desk.register(), word, words)? {
+        return Ok(told);
+    }
+    if let Some(told) = told_of_drafter(alloc, desk, word, words, steps)? {
         return Ok(told);
     }
     if let Some(question) = read_question(alloc, words)? {

@@ -6,6 +6,7 @@ mod answering;
 mod bearing;
 mod bytes;
 mod commanding;
+mod drafting;
 mod knowing;
 mod lines;
 mod questions;

@@ -10,6 +10,7 @@ use Rattle.law_register.proofs.Equality.{commands_decide}
 use Rattle.law_register.proofs.Puts.{bytes_same, left_true, number_same, right_true}
 use Rattle.desk_base.specs.Crashes.{AreCrashes, Crashes}
 use Rattle.law_register.specs.Answer.Asking.{answer_at}
+use Rattle.law_register.specs.Answer.Previews.{preview_at}
 use Rattle.law_register.specs.Desk.Commands.{Ends}
 use Rattle.law_register.specs.Desk.States.{DeskState, Found, standing}
 use Rattle.law_register.specs.Law.Same.{same_command}
@@ -28,7 +29,7 @@ use Rattle.law_register.specs.declared.register.rules.Rule.{Rule}
 use Rattle.law_register.specs.declared.register.rules.Rule.TheVariants as rules
 use Rattle.law_register.specs.declared.register.verdict.Reply.{Reply as Outcome}
 use Rattle.law_register.specs.declared.register.verdict.Verdict.TheVariants.{Accepted, Repeat, Refused}
-use Rattle.law_http.specs.Asking.{asking_of, question_at}
+use Rattle.law_http.specs.Asking.{asking_of, question_at, question_previewed}
 use Rattle.law_http.specs.Lasting.{AreAcknowledged, BeginWith, Holds, HoldsAsked, IsKept, is_created}
 use Rattle.law_http.specs.Refusals.{request_reply}
 use Rattle.law_http.specs.Responses.{Reply, Says, reply, reply_bytes}
@@ -195,6 +196,9 @@ asking_holds state crashes last (Ok asks.Front) old new response (stays, says) i
     no_other response is (says_other (front_reply last (front (state old).entries)) response refl says)
 asking_holds state crashes last (Ok (asks.Text text)) old new response (stays, says) is =
     no_other response is (says_other (answer_reply last (answer_at (state old).entries (question_at (front (state old).entries) text))) response (answer_other last (answer_at (state old).entries (question_at (front (state old).entries) text))) says)
+asking_holds state crashes last (Ok (asks.Preview preview)) old new response (stays, says) is =
+    let answer = preview_at (state old).entries preview.drafter (question_previewed preview) in
+    no_other response is (says_other (answer_reply last answer) response (answer_other last answer) says)
 asking_holds state crashes last (Ok (asks.Command asked)) old new response (inl (stays, says)) is = no_other response is (ap is_created says ∙ memory_other)
 asking_holds state crashes last (Ok (asks.Command asked)) old new response (inr (result, does, says)) is =
     (asked, refl, outcome_holds state crashes last asked old new result response does says is)

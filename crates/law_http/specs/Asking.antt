@@ -5,6 +5,7 @@ use Rattle.desk_base.specs.Decimals.{decimal_up_to}
 use Rattle.frbr_names.specs.Expressions.{Expression, expression_of}
 use Rattle.law_register.specs.Answer.Questions.{reading_named}
 use Rattle.law_register.specs.Law.Spelling.{is_well_spelled}
+use Rattle.law_register.specs.Register.Drafters.{drafter_of}
 use Rattle.law_register.specs.declared.answer.question.Question.{Question}
 use Rattle.law_register.specs.declared.answer.question.Reading.{Reading}
 use Rattle.law_register.specs.declared.answer.question.Reading.TheVariants.{Force}
@@ -13,7 +14,7 @@ use Rattle.akn_json.specs.Reading.Commands as commands
 use Rattle.akn_json.specs.Reading.Reads.{Read, broken}
 use Rattle.akn_json.specs.declared.fault.FormFault.{FormFault}
 use Rattle.akn_json.specs.declared.fault.FormRule.{FormRule}
-use Rattle.akn_json.specs.declared.fault.FormRule.TheVariants.{WrongShape, BadName, BadNumber, UnknownWord}
+use Rattle.akn_json.specs.declared.fault.FormRule.TheVariants.{WrongShape, BadName, BadDay, BadNumber, UnknownWord}
 use Rattle.law_http.specs.Queries.{value_of}
 use Rattle.law_http.specs.Routes.{asked_of, route_of}
 use Rattle.law_http.specs.declared.asking.AskFail.{AskFail}
@@ -21,6 +22,7 @@ use Rattle.law_http.specs.declared.asking.AskFail.TheVariants as fails
 use Rattle.law_http.specs.declared.asking.Asking.{Asking}
 use Rattle.law_http.specs.declared.asking.Asking.TheVariants as asks
 use Rattle.law_http.specs.declared.asking.TextAsked.{TextAsked}
+use Rattle.law_http.specs.declared.drafts.PreviewAsked.{PreviewAsked}
 use Rattle.law_http.specs.declared.heard.Request.{Request}
 use Rattle.law_http.specs.declared.refusal.RequestRefusal.{RequestRefusal}
 use Rattle.law_http.specs.declared.refusal.RequestRefusal.TheVariants.{BadForm}
@@ -36,6 +38,17 @@ question_at front t = record {
   portion = t.portion;
   viewpoint = unwrap_or t.viewpoint front;
   reading = t.reading;
+}
+
+-- the question that a preview asks; its viewpoint is not read
+abbrev pub question_previewed : PreviewAsked → Question
+question_previewed p = record {
+  work = p.work;
+  language = p.language;
+  version = Some p.day;
+  portion = p.portion;
+  viewpoint = 0;
+  reading = p.reading;
 }
 
 -- what a request or a part of it says, or why the request gets no answer of the desk
@@ -99,12 +112,47 @@ text_in pairs = do
   expression ← or_broken BadName (result_ok (expression_of name))
   text_of expression pairs
 
+-- the drafter whom a query names
+unfoldable pub drafter_in : List (List ℕ × List ℕ) → ReadOf (List ℕ)
+drafter_in pairs = do
+  name ← or_broken WrongShape (value_of (codes "drafter") pairs)
+  or_broken BadName (drafter_of name)
+
+-- the preview of an expression that is asked for
+abbrev pub preview_asked : List ℕ → Expression → ℕ → Reading → PreviewAsked
+preview_asked drafter e day reading = record {
+  drafter = drafter;
+  work = e.work.text;
+  language = e.language;
+  day = day;
+  portion = e.portion;
+  reading = reading;
+}
+
+-- what a drafter asks of an expression, which has to have the day of a version
+unfoldable pub preview_of : List ℕ → Expression → List (List ℕ × List ℕ) → ReadOf PreviewAsked
+preview_of drafter e pairs = do
+  day ← or_broken BadDay e.version
+  reading ← reading_in (value_of (codes "reading") pairs)
+  Ok (preview_asked drafter e day reading)
+
+-- the preview that a query asks for
+unfoldable pub preview_in : List (List ℕ × List ℕ) → ReadOf PreviewAsked
+preview_in pairs = do
+  drafter ← drafter_in pairs
+  name ← or_broken WrongShape (value_of (codes "expression") pairs)
+  expression ← or_broken BadName (result_ok (expression_of name))
+  preview_of drafter expression pairs
+
 -- what a query and a body ask of a route
 abbrev pub asking_in : Route → List (List ℕ × List ℕ) → List ℕ → ReadOf Asking
 asking_in route.Front pairs body = Ok asks.Front
 asking_in route.Text pairs body = do
   text ← text_in pairs
   Ok (asks.Text text)
+asking_in route.Preview pairs body = do
+  preview ← preview_in pairs
+  Ok (asks.Preview preview)
 asking_in route.Commands pairs body = do
   asked ← or_bad_form (commands.asked_of body)
   Ok (asks.Command asked)
@@ -120,6 +168,7 @@ asking_of request = do
 abbrev pub IsSpelled : Asking → Type 0
 IsSpelled asks.Front = Unit {0}
 IsSpelled (asks.Text text) = Unit {0}
+IsSpelled (asks.Preview preview) = Unit {0}
 IsSpelled (asks.Command asked) = is_well_spelled asked.command ≡ true
 
 -- the same of what a request asks, if it asks anything

@@ -5,6 +5,7 @@ use Rattle.serde_json.specs.Written.{compact_text}
 use Rattle.desk_base.specs.Crashes.{Crashes}
 use Rattle.law_register.specs.Answer.Asking.{answer_at}
 use Rattle.law_register.specs.Answer.Costs.{bearing_at}
+use Rattle.law_register.specs.Answer.Previews.{preview_at, previewing_at}
 use Rattle.law_register.specs.Desk.Commands.{Ends, HasCommandCause, LeavesBetween, LeavesNoMore, mark_of, marks_after}
 use Rattle.law_register.specs.Desk.States.{DeskState, Found, IsDurable, IsSound, standing}
 use Rattle.law_register.specs.Register.LawList.{front}
@@ -21,7 +22,7 @@ use Rattle.law_register.specs.declared.register.verdict.Reply.TheVariants as out
 use Rattle.akn_json.specs.Printing.Answers.{answer_data}
 use Rattle.akn_json.specs.Printing.Refusals.{query_data, rule_data}
 use Rattle.akn_json.specs.declared.asked.Asked.{Asked}
-use Rattle.law_http.specs.Asking.{asking_of, question_at}
+use Rattle.law_http.specs.Asking.{asking_of, question_at, question_previewed}
 use Rattle.law_http.specs.Refusals.{request_reply}
 use Rattle.law_http.specs.Responses.{Reply, Says, reply, reply_bytes}
 use Rattle.law_http.specs.declared.asking.Asking.{Asking}
@@ -119,6 +120,8 @@ module _ {D : Type 0} (state : D → DeskState) (crashes : D → Crashes Found) 
       Stays old new × Says (front_reply last (front (state old).entries)) response
   ServesAsking last (Ok (asks.Text text)) old new response = Stays old new
       × Says (answer_reply last (answer_at (state old).entries (question_at (front (state old).entries) text))) response
+  ServesAsking last (Ok (asks.Preview preview)) old new response = Stays old new
+      × Says (answer_reply last (preview_at (state old).entries preview.drafter (question_previewed preview))) response
   ServesAsking last (Ok (asks.Command asked)) old new response = ServesCommand last asked old new response
 
   -- a request is answered by a response, and the desk goes from old to new
@@ -130,6 +133,7 @@ abbrev pub asking_cost : List Entry → Result Asking RequestRefusal → ℕ
 asking_cost entries (Err refusal) = 0
 asking_cost entries (Ok asks.Front) = 0
 asking_cost entries (Ok (asks.Text text)) = bearing_at entries (question_at (front entries) text)
+asking_cost entries (Ok (asks.Preview preview)) = previewing_at entries preview.drafter (question_previewed preview)
 asking_cost entries (Ok (asks.Command asked)) = 0
 
 -- the steps that the answer to a request may take

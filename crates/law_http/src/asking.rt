@@ -9,6 +9,7 @@ ghost use Rattle.law_http.specs.Asking as spec;
 ghost use Rattle.law_register.specs.Law.Spelling.{is_well_spelled};
 ghost use Rattle.law_http.specs.declared.asking.AskFail.TheVariants as fails;
 
+use crate::drafts::{PreviewAsked, preview_in};
 use crate::{Bytes, Query, Request, RequestRefusal, Route};
 use akn_json::{Asked, FormFault, FormRule, ReadFail, read_command};
 use desk_base::{Day, Memory, Text, decimal_number};
@@ -40,14 +41,18 @@ pub enum Asking {
     Front,
     /// The text of a work.
     Text(TextAsked),
+    /// The text of a work as it will be once a drafter's draft of it is filed.
+    Preview(PreviewAsked),
     /// A command.
     Command(Asked),
 }
 
-// Why a request asks nothing.
+/// Why a request asks nothing.
 #[derive(Clone, Copy, Debug)]
-enum AskFail {
+pub enum AskFail {
+    /// It gets this refusal.
     Refused(RequestRefusal),
+    /// There was not enough memory.
     Memory,
 }
 
@@ -76,8 +81,8 @@ fn bad_form(fault: FormFault) -> AskFail
     })
 }
 
-// A value of a query breaks a rule.
-fn broken(rule: FormRule) -> AskFail
+/// A value of a query breaks a rule.
+pub fn broken(rule: FormRule) -> AskFail
     ensures { result ≡ fails.Refused (spec.bad_form (at_no_place rule)) }
 {
     bad_form(FormFault { rule, place: 0 })
@@ -95,7 +100,8 @@ fn viewpoint_in(value: Option<&str>) -> Result<Option<u32>, AskFail>
     }
 }
 
-fn reading_in(value: Option<&str>) -> Result<Reading, AskFail>
+/// The reading that a value names, and else that of what is in force.
+pub fn reading_in(value: Option<&str>) -> Result<Reading, AskFail>
     ensures { spec.Gives result (spec.reading_in (option_copied value.entry)) }
 {
     let Some(word) = value else {
@@ -107,7 +113,8 @@ fn reading_in(value: Option<&str>) -> Result<Reading, AskFail>
     }
 }
 
-fn portion_of(alloc: Global, portion: Option<&str>) -> Result<Option<Text>, Memory>
+/// The portion of an expression, if it has one.
+pub fn portion_of(alloc: Global, portion: Option<&str>) -> Result<Option<Text>, Memory>
     ensures { IfOk result (λ text. text ≡ option_copied portion.entry) }
 {
     match portion {
@@ -185,12 +192,13 @@ impl Request {
         match route {
             Route::Front => Ok(Asking::Front),
             Route::Text => Ok(Asking::Text(text_in(alloc, &query)?)),
+            Route::Preview => Ok(Asking::Preview(preview_in(alloc, &query)?)),
             Route::Commands => Ok(Asking::Command(command_in(alloc, &self.body)?)),
         }
     }
 
     /// What the request asks, or why it gets no answer. Its route is judged first, then the keys of its query, then
-    /// their values in the order expression, viewpoint, reading, and then its body. A command that is asked for is
+    /// their values in the order drafter, expression, viewpoint, reading, and then its body. A command that is asked for is
     /// well spelled.
     pub fn asking(&self, alloc: Global) -> Result<Result<Asking, RequestRefusal>, Memory>
         ensures value { IfOk result (λ asked. asked ≡ spec.asking_of self.now) }

@@ -6,6 +6,7 @@ mod asking;
 mod buffer;
 mod bytes;
 mod cutting;
+mod drafts;
 mod framing;
 mod head;
 mod heard;
@@ -23,6 +24,7 @@ mod streaming;
 
 pub use asking::{Asking, TextAsked};
 pub use bytes::Bytes;
+pub use drafts::PreviewAsked;
 pub use heard::{HearFault, Heard, Request};
 pub use hearing::read_request;
 pub use query::Query;

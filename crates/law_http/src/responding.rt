@@ -4,17 +4,18 @@ ghost use Rattle.std.specs.Prelude.{◌≡◌, ◌≤◌, ◌+◌, true, None, R
 ghost use Rattle.law_register.specs.Answer.Answers.{Answers};
 ghost use Rattle.law_register.specs.Answer.Asking.{answer_at};
 ghost use Rattle.law_register.specs.Answer.Costs.{bearing_at};
+ghost use Rattle.law_register.specs.Answer.Previews.{preview_at, previewing_at};
 ghost use Rattle.law_register.specs.Law.Spelling.{is_well_spelled};
 ghost use Rattle.law_register.specs.Register.LawList.{front};
 ghost use Rattle.law_register.specs.declared.answer.answer.Answer.{Answer as AnswerValue};
 ghost use Rattle.law_register.specs.declared.answer.queries.QueryRule.{QueryRule as RuleOfQuestion};
-ghost use Rattle.law_http.specs.Asking.{IsSpelled, question_at};
+ghost use Rattle.law_http.specs.Asking.{IsSpelled, question_at, question_previewed};
 ghost use Rattle.law_http.specs.Responses.{Says, first_lines};
 ghost use Rattle.law_http.specs.Serving as spec;
 ghost use Rattle.law_http.specs.declared.status.Status.TheVariants as status;
 
 use crate::acknowledging::{acknowledged, begun};
-use crate::{Asking, Request, Response, Status, TextAsked, refused_request};
+use crate::{Asking, PreviewAsked, Request, Response, Status, TextAsked, refused_request};
 use akn_json::{Asked, put_answer, put_query_rule, put_rule};
 use desk_base::{Memory, Steps};
 use law_register::{Answer, AskFault, CommandFault, Desk, QueryRule, Question, Reply, Rule};
@@ -148,6 +149,24 @@ fn text_response<D: Desk, L: Ledger>(
     answer_response(alloc, told, last)
 }
 
+fn preview_response<D: Desk, L: Ledger>(
+    alloc: Global,
+    desk: &mut D,
+    preview: PreviewAsked,
+    last: bool,
+    steps: &mut Steps<L>,
+) -> Response
+    ensures says { Says (spec.answer_reply last (preview_at (D.state desk.old).entries preview.drafter
+        (question_previewed preview))) result }
+    ensures stays { spec.Stays D.state D.crashes desk.old desk.new }
+    ensures steps { steps.new ≤ steps.old + previewing_at (D.state desk.old).entries preview.drafter
+        (question_previewed preview) }
+{
+    let (drafter, question) = preview.question();
+    let told = desk.preview(alloc, &drafter, &question, steps);
+    answer_response(alloc, told, last)
+}
+
 // Makes the room for the response to a command that is accepted, and then has the command done.
 fn command_response<D: Desk, L: Ledger>(
     alloc: Global,
@@ -186,6 +205,7 @@ fn answered<D: Desk, L: Ledger>(
     match asking {
         Asking::Front => front_response(alloc, desk.front(), last),
         Asking::Text(text) => text_response(alloc, desk, text, last, steps),
+        Asking::Preview(preview) => preview_response(alloc, desk, preview, last, steps),
         Asking::Command(asked) => command_response(alloc, desk, asked, last, steps),
     }
 }

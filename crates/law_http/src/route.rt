@@ -15,6 +15,8 @@ pub enum Route {
     Front,
     /// GET /text
     Text,
+    /// GET /preview
+    Preview,
     /// POST /commands
     Commands,
 }
@@ -25,7 +27,7 @@ impl Route {
         ensures { result ≡ spec.method_of self }
     {
         match self {
-            Route::Front | Route::Text => Allow::Get,
+            Route::Front | Route::Text | Route::Preview => Allow::Get,
             Route::Commands => Allow::Post,
         }
     }
@@ -48,6 +50,7 @@ fn route_at(path: &str) -> Option<Route>
     match path {
         "/front" => Some(Route::Front),
         "/text" => Some(Route::Text),
+        "/preview" => Some(Route::Preview),
         "/commands" => Some(Route::Commands),
         _ => None,
     }
@@ -80,6 +83,11 @@ fn has_keys_of(query: &Query, route: Route) -> bool
         Route::Front | Route::Commands => query.has_keys(&[]),
         Route::Text => {
             query.has_keys(&["expression", "viewpoint", "reading"])
+                && query.value("expression").is_some()
+        }
+        Route::Preview => {
+            query.has_keys(&["drafter", "expression", "reading"])
+                && query.value("drafter").is_some()
                 && query.value("expression").is_some()
         }
     }

@@ -12,9 +12,10 @@ use crate::acting::command as do_command;
 use crate::book::Book;
 use crate::sent::Sent;
 use desk_base::{Clock, Memory, Steps};
+use draft_sessions::{draft_of, preview};
 use law_keeper::Keeper;
 use law_register::{
-    Answer, AskFault, Command, CommandFault, Desk, Drafter, FaultMark, OpenFault, Question,
+    Answer, AskFault, Command, CommandFault, Desk, Draft, Drafter, FaultMark, OpenFault, Question,
     Register, Reply,
 };
 use replay_core::FromEnacted;
@@ -202,6 +203,21 @@ impl<'a, K: Keeper, C: Clock> Desk for Office<'a, K, C> {
         self.book
             .past
             .answer_past(alloc, &FromEnacted, &self.book.register, question, steps)
+    }
+
+    fn preview<L: Ledger>(
+        &self,
+        alloc: Global,
+        drafter: &Drafter,
+        question: &Question,
+        steps: &mut Steps<L>,
+    ) -> Result<Answer, AskFault> {
+        let register = &self.book.register;
+        preview(alloc, &FromEnacted, register, drafter, question, steps)
+    }
+
+    fn draft(&self, alloc: Global, drafter: &Drafter) -> Result<Draft, Memory> {
+        draft_of(alloc, &self.book.register, drafter)
     }
 
     fn front(&self) -> u32 {

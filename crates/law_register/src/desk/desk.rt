@@ -2,18 +2,20 @@
 //! faults, its keeper's count of faults, the days that its clock tells, the names of what it was lent, and what a crash
 //! leaves of it.
 
-ghost use Rattle.std.specs.Prelude.{◌≡◌, ◌+◌, ◌<◌, ◌≤◌, true};
+ghost use Rattle.std.specs.Prelude.{◌≡◌, ◌+◌, ◌<◌, ◌≤◌, true, IfOk, IsSome};
 ghost use Rattle.desk_base.specs.Crashes.{AreCrashes, Crashes};
 ghost use Rattle.law_register.specs.Answer.Answers.{Answers};
 ghost use Rattle.law_register.specs.Answer.Asking.{answer_at};
 ghost use Rattle.law_register.specs.Answer.Costs.{bearing_at};
+ghost use Rattle.law_register.specs.Answer.Previews.{preview_at, previewing_at};
 ghost use Rattle.law_register.specs.Desk.Commands.{Ends, HasCommandCause, LeavesBetween, LeavesNoMore, mark_of, marks_after};
 ghost use Rattle.law_register.specs.Desk.States.{DeskState, Found, IsDurable, IsSound, standing};
 ghost use Rattle.law_register.specs.Law.Spelling.{is_well_spelled};
+ghost use Rattle.law_register.specs.Register.Drafts.{draft_of};
 ghost use Rattle.law_register.specs.Register.LawList.{front};
 
-use crate::{Answer, AskFault, Command, CommandFault, Drafter, Question, Register, Reply};
-use desk_base::Steps;
+use crate::{Answer, AskFault, Command, CommandFault, Draft, Drafter, Question, Register, Reply};
+use desk_base::{Memory, Steps};
 use std::alloc::Global;
 use std::sync::ledger::Ledger;
 
@@ -75,6 +77,25 @@ pub trait Desk {
         ensures same { state self.new ≡ state self.old }
         ensures crash { LeavesNoMore (crashes self.old) (crashes self.new) }
         ensures steps { steps.new ≤ steps.old + bearing_at (state self.old).entries question.now };
+
+    /// What a version of a work will say once a drafter's draft of the work is filed, or the first rule that the question
+    /// breaks: the answer at one law entry more than there are, or at the front where the draft has nothing of the work.
+    /// The viewpoint of the question is not read. An entry that is pending is not seen, nor is any other drafter's
+    /// draft. It takes one step at most for each modification that bears.
+    fn preview<L: Ledger>(
+        &self,
+        alloc: Global,
+        drafter: &Drafter,
+        question: &Question,
+        steps: &mut Steps<L>,
+    ) -> Result<Answer, AskFault>
+        requires { IsSome question.now.version }
+        ensures answer { Answers result (preview_at (state self.now).entries drafter.now question.now) }
+        ensures steps { steps.new ≤ steps.old + previewing_at (state self.now).entries drafter.now question.now };
+
+    /// The items of a drafter's draft, in order. An entry that is pending is not seen.
+    fn draft(&self, alloc: Global, drafter: &Drafter) -> Result<Draft, Memory>
+        ensures { IfOk result (λ draft. draft ≡ draft_of drafter.now (state self.now).entries) };
 
     /// How many law entries there are.
     fn front(&self) -> u32
