@@ -5,3 +5,4 @@ pub mod Placing
 pub mod Places
 pub mod Spelling
 pub mod Printed
+pub mod ReadBack

@@ -1,3 +1,9 @@
 pub mod Answers
 pub mod Damages
 pub mod Refusals
+pub mod Nodes
+pub mod Parts
+pub mod Edits
+pub mod Bearings
+pub mod Drafts
+pub mod Typed

@@ -27,7 +27,9 @@ pub use bytes::MAX_DOSSIER_BYTES;
 use bytes::value_of;
 use commands::asked;
 use dossiers::dossier;
+pub(super) use modifications::{EditKind, EfficacyKind, ForceKind};
 use std::alloc::Global;
+pub(super) use word::Worded;
 
 /// The dossier that bytes are.
 ///

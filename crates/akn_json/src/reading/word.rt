@@ -4,7 +4,7 @@ ghost use Rattle.std.specs.Prelude.{◌≡◌, ℕ, List, find};
 ghost use Rattle.std.specs.Str.{bytes_eq};
 
 /// One of several things that have words.
-pub(super) trait Worded: Copy {
+pub(crate) trait Worded: Copy {
     /// The word for each.
     ghost spelled: { Self → List ℕ };
 

@@ -7,7 +7,7 @@ use crate::reading::word::{Worded, named};
 
 /// A kind of force modification.
 #[derive(Clone, Copy)]
-pub(super) enum ForceKind {
+pub(crate) enum ForceKind {
     Entry,
     Postponement,
     End,
@@ -48,7 +48,7 @@ impl Worded for ForceKind {
 
 /// A kind of efficacy modification.
 #[derive(Clone, Copy)]
-pub(super) enum EfficacyKind {
+pub(crate) enum EfficacyKind {
     Entry,
     End,
     Retroactivity,

@@ -7,7 +7,7 @@ use crate::reading::word::{Worded, named};
 
 /// A kind of textual modification.
 #[derive(Clone, Copy)]
-pub(super) enum EditKind {
+pub(crate) enum EditKind {
     Repeal,
     Substitution,
     Insertion,

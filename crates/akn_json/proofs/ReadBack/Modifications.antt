@@ -1,0 +1,18 @@
+-- A modification, as it is printed, is read as that modification.
+use Rattle.std.proofs.Common.{◌≡◌, true, Ok}
+use Rattle.law_register.specs.Law.Spelling.{is_spelled_modification}
+use Rattle.law_register.specs.declared.law.modification.Modification.{Modification}
+use Rattle.law_register.specs.declared.law.modification.Modification.TheVariants.{Textual, Force, Efficacy}
+use Rattle.akn_json.specs.Printing.Drafts.{modification_data}
+use Rattle.akn_json.specs.Printing.Typed.{IsTypedModification}
+use Rattle.akn_json.specs.Reading.Fields.{has_members, members_in, field_in}
+use Rattle.akn_json.specs.Reading.Modifications.{single_in, bearing_in, modification_in}
+use Rattle.akn_json.proofs.ReadBack.Edits.{textual_back}
+use Rattle.akn_json.proofs.ReadBack.Bearings.{force_back, efficacy_back}
+
+pub modification_back : (m : Modification) → IsTypedModification m → is_spelled_modification m ≡ true
+    → modification_in (modification_data m) ≡ Ok m
+unfolding modification_data modification_in members_in has_members field_in single_in bearing_in
+modification_back (Textual source force edit) typed well = textual_back source force edit typed.0 typed.1 typed.2 well
+modification_back (Force source to on effect) typed well = force_back source to on effect typed.0 typed.1 typed.2 typed.3
+modification_back (Efficacy source to on effect) typed well = efficacy_back source to on effect typed.0 typed.1 typed.2 typed.3 well

@@ -1,0 +1,16 @@
+use Rattle.std.proofs.Common.{append_assoc}
+use Rattle.akn_json.specs.Printing.Edits.{textual_data}
+use Rattle.akn_json.proofs.printing.edits.put_repeal.Goals as goal
+
+pub returns-clause-tokens : goal.returns-clause-tokens
+unfolding textual_data
+returns-clause-tokens c =
+    rw (
+      c.in_ok-put_kind.ensures.tokens,
+      c.in_ok-put_target.ensures.tokens,
+      append_assoc,
+      c.in_ok-begin_object.ensures.ok,
+      append_assoc,
+      c.word.ensures,
+      c.as_str.ensures,
+    )
