@@ -30,7 +30,8 @@ fn add_one(
     cause: Cause,
 ) -> Result<(), Memory>
     requires { IsOpen table.old }
-    ensures rows { OnOk result (written table.new ≡ written table.old ++ row (spec.unapplied_row work.now (id, cause))) }
+    ensures rows { OnOk result
+        (written table.new ≡ written table.old ++ row (spec.unapplied_row work.now (id, cause))) }
     ensures ready { OnOk result (IsOpen table.new) }
 {
     let id = id.spelled(alloc)?;
