@@ -1,5 +1,5 @@
 """Drafts and previews, asked over `batch`: histories of two drafters with the responses that are to come, which were written by hand from
-docs/PROTOCOL.md, docs/RULES.md and docs/MODEL.md; queries of previews with what is wrong about them; and drafters side by side, of whom
+docs/PROTOCOL.md, docs/RULES.md and docs/MODEL.md; queries of both paths with what is wrong about them; and drafters side by side, of whom
 each is to see what he would see alone.
 """
 import random
@@ -13,6 +13,7 @@ from register import (FIRST, ONE, SECOND, SECTIONS, THIRD, TWO, add, answer, cor
 
 DAY = "2011-01-01"
 ON_DAY = f"{ONE}/eng@{DAY}"
+NOBODY = response(200, '{"draft":[]}')
 
 
 def preview(drafter, expression=ON_DAY, reading=None):
@@ -31,6 +32,16 @@ def unseen(drafter, expression, rule, kept):
     return get(preview(drafter, expression)), response(STATUS_OF_QUERY[rule], compact({"kept": kept, "name": QUERY_NAMES[rule], "query": rule}))
 
 
+def item(number, modification, work=ONE):
+    """An item of a draft, as it is printed."""
+    return {"item": number, "modification": modification, "work": work}
+
+
+def holds(drafter, *items):
+    """A question for a draft, and the draft."""
+    return get(f"/draft?drafter={drafter}"), response(200, compact({"draft": list(items)}))
+
+
 def counted(number):
     return get("/front"), front(number)
 
@@ -41,7 +52,6 @@ def without(applied, *parts, viewpoint, day=DAY):
 
 
 ALL = (FIRST, SECOND, THIRD)
-AS_ENACTED = response(200, without("[]", *ALL, viewpoint=1))
 THIRD_GOES, SECOND_GOES, FIRST_GOES = repeal("sec_3"), repeal("sec_2"), repeal("sec_1")
 TEN = substituted("Ten", "sec_2", old="Two", occurrence=1)
 EARLY = repeal("sec_3", "2010-07-01")
@@ -60,10 +70,13 @@ ROWS = {
         accepted(add("ada", 2, THIRD_GOES), draft(1)),
         seen("ada", without('["2.1"]', FIRST, SECOND, viewpoint=2)),
         seen("bob", without("[]", *ALL, viewpoint=1)),
+        holds("ada", item(1, THIRD_GOES)),
+        holds("bob"),
         accepted(record("bob", 1, FIRST_GOES), law(2)),
         broken(file("ada", 3, 1), 12, 2),
         accepted(file("ada", 4, 2), law(3)),
         broken(file("ada", 5, 3), 13, ONE),
+        holds("ada"),
     ],
     "a draft is no law": [
         accepted(ENACTED, law(1)),
@@ -80,11 +93,13 @@ ROWS = {
     "a preview of one whom nobody knows": [
         accepted(ENACTED, law(1)),
         seen("zoe", without("[]", *ALL, viewpoint=1)),
+        holds("zoe"),
     ],
     "items in their order, numbered from 1": [
         accepted(ENACTED, law(1)),
         accepted(add("ada", 2, THIRD_GOES), draft(1)),
         accepted(add("ada", 3, SECOND_GOES), draft(2)),
+        holds("ada", item(1, THIRD_GOES), item(2, SECOND_GOES)),
         seen("ada", without('["2.1","2.2"]', FIRST, viewpoint=2)),
     ],
     "an item that was dropped is gone, and its number with it": [
@@ -92,8 +107,10 @@ ROWS = {
         accepted(add("ada", 2, THIRD_GOES), draft(1)),
         accepted(add("ada", 3, SECOND_GOES), draft(2)),
         accepted(drop("ada", 4, 1), draft(1)),
+        holds("ada", item(2, SECOND_GOES)),
         seen("ada", without('["2.1"]', FIRST, THIRD, viewpoint=2)),
         accepted(add("ada", 5, FIRST_GOES), draft(3)),
+        holds("ada", item(2, SECOND_GOES), item(3, FIRST_GOES)),
         seen("ada", without('["2.1","2.2"]', THIRD, viewpoint=2)),
         broken(drop("ada", 6, 1), 8, "0.1"),
     ],
@@ -101,23 +118,31 @@ ROWS = {
         accepted(ENACTED, law(1)),
         accepted(add("ada", 2, THIRD_GOES), draft(1)),
         accepted(drop("ada", 3, 1), draft(1)),
+        holds("ada"),
         seen("ada", without("[]", *ALL, viewpoint=1)),
         accepted(add("ada", 4, THIRD_GOES), draft(2)),
+        holds("ada", item(2, THIRD_GOES)),
     ],
     "an item of another drafter is none": [
         accepted(ENACTED, law(1)),
         accepted(add("ada", 2, THIRD_GOES), draft(1)),
         broken(drop("bob", 1, 1), 8, "0.1"),
         accepted(add("bob", 2, SECOND_GOES), draft(1)),
+        holds("ada", item(1, THIRD_GOES)),
+        holds("bob", item(1, SECOND_GOES)),
         seen("ada", without('["2.1"]', FIRST, SECOND, viewpoint=2)),
         seen("bob", without('["2.1"]', FIRST, THIRD, viewpoint=2)),
         accepted(drop("bob", 3, 1), draft(1)),
+        holds("ada", item(1, THIRD_GOES)),
+        holds("bob"),
     ],
     "a filing takes one's own items alone": [
         accepted(ENACTED, law(1)),
         accepted(add("ada", 2, THIRD_GOES), draft(1)),
         accepted(add("bob", 1, SECOND_GOES), draft(1)),
         accepted(file("bob", 2, 1), law(2)),
+        holds("ada", item(1, THIRD_GOES)),
+        holds("bob"),
         seen("bob", without('["2.1"]', FIRST, THIRD, viewpoint=2)),
         seen("ada", without('["2.1","3.1"]', FIRST, viewpoint=3)),
     ],
@@ -127,6 +152,7 @@ ROWS = {
         accepted(add("ada", 3, THIRD_GOES), draft(1)),
         accepted(add("ada", 4, FIRST_GOES, TWO), draft(2)),
         accepted(add("ada", 5, SECOND_GOES), draft(3)),
+        holds("ada", item(1, THIRD_GOES), item(2, FIRST_GOES, TWO), item(3, SECOND_GOES)),
         seen("ada", without('["3.1","3.2"]', FIRST, viewpoint=3)),
         seen("ada", OTHER_EMPTY, f"{TWO}/eng@{DAY}"),
         seen("bob", OTHER_TEXT, f"{TWO}/eng@{DAY}"),
@@ -137,8 +163,10 @@ ROWS = {
         accepted(add("ada", 3, FIRST_GOES, TWO), draft(1)),
         accepted(add("ada", 4, THIRD_GOES), draft(2)),
         accepted(file("ada", 5, 2), law(3)),
+        holds("ada", item(1, FIRST_GOES, TWO)),
         seen("ada", without('["3.1"]', FIRST, SECOND, viewpoint=3)),
         accepted(add("ada", 6, SECOND_GOES), draft(3)),
+        holds("ada", item(1, FIRST_GOES, TWO), item(3, SECOND_GOES)),
         seen("ada", without('["3.1","4.1"]', FIRST, viewpoint=4)),
     ],
     "a work of which the draft has nothing, beside one of which it has": [
@@ -181,6 +209,7 @@ ROWS = {
     "a work that nobody enacts": [
         unseen("ada", ON_DAY, 1, ONE),
         broken(add("ada", 1, THIRD_GOES), 3, ONE),
+        holds("ada"),
         unseen("ada", ON_DAY, 1, ONE),
         accepted(ENACTED, law(1)),
         unseen("ada", f"{TWO}/eng@{DAY}", 1, TWO),
@@ -198,6 +227,7 @@ ROWS = {
         accepted(add("ada", 2, ON_ENTRY), draft(1)),
         seen("ada", without('["2.1"]', FIRST, SECOND, viewpoint=3, day="2010-10-01"), f"{ONE}/eng@2010-10-01"),
         seen("bob", without("[]", *ALL, viewpoint=2, day="2010-10-01"), f"{ONE}/eng@2010-10-01"),
+        holds("ada", item(1, ON_ENTRY)),
     ],
     "both readings": [
         accepted(ENACTED, law(1)),
@@ -216,13 +246,16 @@ ROWS = {
         accepted(ENACTED, law(1)),
         broken(add("ada", 2, repeal("sec_3", "2011-01-01", until="2011-01-01")), 7, 1),
         broken(add("ada", 3, force(destination=to("9.1"), on=DAY, date=DAY)), 8, "9.1"),
+        holds("ada"),
         accepted(add("ada", 4, THIRD_GOES), draft(1)),
     ],
     "a repeat adds nothing": [
         accepted(ENACTED, law(1)),
         accepted(add("ada", 2, THIRD_GOES), draft(1)),
         accepted(add("ada", 2, THIRD_GOES), draft(1)),
+        holds("ada", item(1, THIRD_GOES)),
         broken(add("ada", 2, SECOND_GOES), 1, 1),
+        holds("ada", item(1, THIRD_GOES)),
     ],
     "an item of a correction, a withdrawal and a restoring in between": [
         accepted(ENACTED, law(1)),
@@ -239,15 +272,19 @@ ROWS = {
     "a preview names the drafter by his whole name": [
         accepted(ENACTED, law(1)),
         accepted(add("ada", 2, THIRD_GOES), draft(1)),
+        holds("ad"),
+        holds("ada2"),
         seen("ad", without("[]", *ALL, viewpoint=1)),
         seen("ada.", without("[]", *ALL, viewpoint=1)),
     ],
     "a draft over the end of a stream's first half": [
         accepted(ENACTED, law(1)),
         accepted(add("bob", 1, THIRD_GOES), draft(1)),
+        holds("bob", item(1, THIRD_GOES)),
         accepted(file("bob", 2, 1), law(2)),
         accepted(add("bob", 3, SECOND_GOES), draft(2)),
         seen("bob", without('["2.1","3.1"]', FIRST, viewpoint=3)),
+        holds("bob", item(2, SECOND_GOES)),
     ],
 }
 
@@ -259,13 +296,14 @@ def numbered(count):
 
 FULL = ([accepted(ENACTED, law(1))] + [accepted(add("ada", k + 2, m), draft(k + 1)) for k, m in enumerate(numbered(64))]
         + [broken(add("ada", 100, THIRD_GOES), 14, 64),
+           holds("ada", *[item(k + 1, m) for k, m in enumerate(numbered(64))]),
            accepted(add("bob", 1, SECOND_GOES), draft(1)),
            accepted(drop("ada", 101, 64), draft(64)),
            accepted(add("ada", 102, SECOND_GOES), draft(65)),
            broken(add("ada", 103, THIRD_GOES), 14, 64),
            seen("ada", without('["2.1","2.64"]', FIRST, viewpoint=2))])
 
-# What is wrong about a query: the keys first, then the drafter, the expression, the day and the reading.
+# What is wrong about the query of a path: the keys first, then the drafter, the expression, the day and the reading.
 WRONG = [
     ("no query", "/preview", 2),
     ("no drafter", f"/preview?expression={ON_DAY}", 2),
@@ -283,6 +321,13 @@ WRONG = [
     ("no expression's name", preview("ada", ONE), 3),
     ("no expression's name, and no reading", preview("ada", ONE, "x"), 3),
     ("no reading", preview("ada", reading="x"), 7),
+    ("no query for a draft", "/draft", 2),
+    ("an empty key of a draft", "/draft?=ada", 2),
+    ("an expression for a draft", f"/draft?drafter=ada&expression={ON_DAY}", 2),
+    ("a draft twice", "/draft?drafter=ada&drafter=ada", 2),
+    ("a draft of no drafter's name", "/draft?drafter=a%20b", 3),
+    ("a draft of an empty name", "/draft?drafter=", 3),
+    ("a draft of 33 bytes", "/draft?drafter=" + "a" * 33, 3),
 ]
 
 
@@ -297,13 +342,12 @@ def histories():
 
 
 def queries():
-    """Queries of previews that are refused, and methods that the path does not have."""
+    """Queries of both paths that are refused, and methods that they do not have."""
     begun, reply = accepted(ENACTED, law(1))
     rows = [(name, get(target), bad_form(rule)) for name, target, rule in WRONG]
-    rows += [(f"{path} by POST", post(path, b""), refused(7, "GET")) for path in ("/preview", "/preview?drafter=ada", "/preview?x")]
-    rows += [(path, get(path), refused(6)) for path in ("/previews", "/Preview?drafter=ada", "/preview/?drafter=ada")]
-    rows += [("a longest name", get(preview("a" * 32)), AS_ENACTED),
-             ("an encoded key", get(preview("ada").replace("drafter", "%64rafter")), AS_ENACTED)]
+    rows += [(f"{path} by POST", post(path, b""), refused(7, "GET")) for path in ("/preview", "/draft?drafter=ada", "/preview?x")]
+    rows += [(path, get(path), refused(6)) for path in ("/previews", "/draft/", "/Draft?drafter=ada", "/preview/?drafter=ada")]
+    rows += [("a longest name", get("/draft?drafter=" + "a" * 32), NOBODY), ("an encoded key", get("/draft?%64rafter=a%64a"), NOBODY)]
     for name, given, wanted in rows:
         check_written(f"drafts, {name}", batch(begun + given), (0, reply + wanted))
 
@@ -343,7 +387,7 @@ def some_draft_command(chance, drafter, number):
 
 def some_question(chance, drafter):
     day = f"{chance.choice([ONE, ONE, TWO])}/eng@{chance.choice(DAYS)}"
-    return chance.choice([get(preview(drafter, day)), get(preview(drafter, day, "efficacy")), get(text(day)),
+    return chance.choice([get(f"/draft?drafter={drafter}"), get(preview(drafter, day)), get(preview(drafter, day, "efficacy")), get(text(day)),
                           get("/front")])
 
 
@@ -355,8 +399,7 @@ def some_own(chance, number):
     if made == 3:
         return command(file("ada", number, chance.randrange(1, 9), chance.choice([ONE, TWO])))
     if made == 4:
-        return command(chance.choice([record("ada", number, some_modification(chance)), withdraw("ada", number, "2.1"),
-                                      restore("ada", number, "2.1")]))
+        return command(chance.choice([record("ada", number, some_modification(chance)), withdraw("ada", number, "2.1"), restore("ada", number, "2.1")]))
     return some_question(chance, "ada")
 
 

@@ -1,4 +1,4 @@
-//! What a drafter sees: what will be answered once his draft is filed.
+//! What a drafter sees: his draft, and what will be answered once it is filed.
 
 ghost use Rattle.std.specs.Prelude.{◌≡◌, IfOk, IsSome};
 ghost use Rattle.law_register.specs.Answer.Previews.{preview_at};
@@ -6,6 +6,7 @@ ghost use Rattle.desk_trial.specs.Knowing as spec;
 
 use crate::answering::answer_line;
 use crate::questions::read_question;
+use akn_json::put_draft;
 use desk_base::{Memory, Steps};
 use law_register::{Desk, Drafter, Question};
 use std::alloc::Global;
@@ -45,7 +46,18 @@ fn told_of_preview<D: Desk, L: Ledger>(
     }
 }
 
-/// What is told of `preview DRAFTER EXPRESSION VIEWPOINT READING`. `None`: a line asks for none.
+// The line of a drafter's draft.
+fn told_of_draft<D: Desk>(alloc: Global, desk: &D, name: &str) -> Result<Option<Vec<u8>>, Memory> {
+    match Drafter::from_text(alloc, name)? {
+        Some(drafter) => {
+            let draft = desk.draft(alloc, &drafter)?;
+            Ok(Some(put_draft(alloc, &draft)?))
+        }
+        None => Ok(None),
+    }
+}
+
+/// What is told of `draft DRAFTER` or `preview DRAFTER EXPRESSION VIEWPOINT READING`. `None`: a line asks for neither.
 pub fn told_of_drafter<D: Desk, L: Ledger>(
     alloc: Global,
     desk: &D,
@@ -53,6 +65,9 @@ pub fn told_of_drafter<D: Desk, L: Ledger>(
     words: &str,
     steps: &mut Steps<L>,
 ) -> Result<Option<Vec<u8>>, Memory> {
+    if word == "draft" {
+        return told_of_draft(alloc, desk, words);
+    }
     if word != "preview" {
         return Ok(None);
     }

@@ -14,7 +14,7 @@ use Rattle.law_register.specs.Answer.Previews.{preview_at}
 use Rattle.law_register.specs.Desk.Commands.{Ends}
 use Rattle.law_register.specs.Desk.States.{DeskState, Found, standing}
 use Rattle.law_register.specs.Law.Same.{same_command}
-use Rattle.law_register.specs.Register.Drafts.{is_by}
+use Rattle.law_register.specs.Register.Drafts.{draft_of, is_by}
 use Rattle.law_register.specs.Register.Entering.{entered, entered_by, entry_of}
 use Rattle.law_register.specs.Register.LawList.{front}
 use Rattle.law_register.specs.Register.Verdicts.{again, broken_where, first_rule, law_number, newly, reply_number, reply_to, request_from, request_of, verdict}
@@ -33,7 +33,7 @@ use Rattle.law_http.specs.Asking.{asking_of, question_at, question_previewed}
 use Rattle.law_http.specs.Lasting.{AreAcknowledged, BeginWith, Holds, HoldsAsked, IsKept, is_created}
 use Rattle.law_http.specs.Refusals.{request_reply}
 use Rattle.law_http.specs.Responses.{Reply, Says, reply, reply_bytes}
-use Rattle.law_http.specs.Serving.{Does, SaysOutcome, Serves, ServesAsking, ServesCommand, answer_reply, front_reply, query_status, rule_reply, rule_status}
+use Rattle.law_http.specs.Serving.{Does, SaysOutcome, Serves, ServesAsking, ServesCommand, answer_reply, draft_reply, front_reply, query_status, rule_reply, rule_status}
 use Rattle.law_http.specs.Streaming.{AreServed, Exchange}
 use Rattle.law_http.specs.declared.asking.Asking.{Asking}
 use Rattle.law_http.specs.declared.asking.Asking.TheVariants as asks
@@ -199,6 +199,8 @@ asking_holds state crashes last (Ok (asks.Text text)) old new response (stays, s
 asking_holds state crashes last (Ok (asks.Preview preview)) old new response (stays, says) is =
     let answer = preview_at (state old).entries preview.drafter (question_previewed preview) in
     no_other response is (says_other (answer_reply last answer) response (answer_other last answer) says)
+asking_holds state crashes last (Ok (asks.Draft drafter)) old new response (stays, says) is =
+    no_other response is (says_other (draft_reply last (draft_of drafter (state old).entries)) response refl says)
 asking_holds state crashes last (Ok (asks.Command asked)) old new response (inl (stays, says)) is = no_other response is (ap is_created says ∙ memory_other)
 asking_holds state crashes last (Ok (asks.Command asked)) old new response (inr (result, does, says)) is =
     (asked, refl, outcome_holds state crashes last asked old new result response does says is)

@@ -105,6 +105,7 @@ asking_step state crashes last (Err refusal) old new response (stays, says) = st
 asking_step state crashes last (Ok asks.Front) old new response (stays, says) = stays_step state crashes old new stays
 asking_step state crashes last (Ok (asks.Text text)) old new response (stays, says) = stays_step state crashes old new stays
 asking_step state crashes last (Ok (asks.Preview preview)) old new response (stays, says) = stays_step state crashes old new stays
+asking_step state crashes last (Ok (asks.Draft drafter)) old new response (stays, says) = stays_step state crashes old new stays
 asking_step state crashes last (Ok (asks.Command asked)) old new response (inl (stays, says)) = stays_step state crashes old new stays
 asking_step state crashes last (Ok (asks.Command asked)) old new response (inr (result, does, says)) = does_step state crashes asked old new result does
 

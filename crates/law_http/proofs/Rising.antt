@@ -8,11 +8,12 @@ use Rattle.law_register.specs.declared.desk.command_fault.CommandFault.TheVarian
 use Rattle.law_register.specs.declared.register.verdict.Reply.{Reply as Outcome}
 use Rattle.law_register.specs.Answer.Asking.{answer_at}
 use Rattle.law_register.specs.Answer.Previews.{preview_at}
+use Rattle.law_register.specs.Register.Drafts.{draft_of}
 use Rattle.law_register.specs.Register.LawList.{front}
 use Rattle.law_http.specs.Asking.{asking_of, question_at, question_previewed}
 use Rattle.law_http.specs.Refusals.{request_reply}
 use Rattle.law_http.specs.Responses.{Reply, Says}
-use Rattle.law_http.specs.Serving.{SaysOutcome, Serves, ServesAsking, ServesCommand, answer_reply, front_reply, rule_reply}
+use Rattle.law_http.specs.Serving.{SaysOutcome, Serves, ServesAsking, ServesCommand, answer_reply, draft_reply, front_reply, rule_reply}
 use Rattle.law_http.specs.Streaming.{AreServed, Exchange, RoseBy, fault_told, faults_told}
 use Rattle.law_http.specs.declared.asking.Asking.{Asking}
 use Rattle.law_http.specs.declared.asking.Asking.TheVariants as asks
@@ -58,6 +59,8 @@ asking_rises state crashes last (Ok (asks.Text text)) old new response (stays, s
 asking_rises state crashes last (Ok (asks.Preview preview)) old new response (stays, says) =
     let answer = preview_at (state old).entries preview.drafter (question_previewed preview) in
     unmoved (2 ^ 64 - 1) (fault_told response) (state old).faults (state new).faults (quiet (answer_reply last answer) response says) (ap (λ (s : DeskState). s.faults) stays.same)
+asking_rises state crashes last (Ok (asks.Draft drafter)) old new response (stays, says) =
+    unmoved (2 ^ 64 - 1) (fault_told response) (state old).faults (state new).faults (quiet (draft_reply last (draft_of drafter (state old).entries)) response says) (ap (λ (s : DeskState). s.faults) stays.same)
 asking_rises state crashes last (Ok (asks.Command asked)) old new response serves = command_rises state crashes last asked old new response serves
 
 pub faults_rise : {D : Type 0} (state : D → DeskState) (crashes : D → Crashes Found) (exchanges : List Exchange) (old new : D)
@@ -80,6 +83,7 @@ asking_origin state crashes last (Err refusal) old new response (stays, says) = 
 asking_origin state crashes last (Ok asks.Front) old new response (stays, says) = ap (λ (s : DeskState). s.origin) stays.same
 asking_origin state crashes last (Ok (asks.Text text)) old new response (stays, says) = ap (λ (s : DeskState). s.origin) stays.same
 asking_origin state crashes last (Ok (asks.Preview preview)) old new response (stays, says) = ap (λ (s : DeskState). s.origin) stays.same
+asking_origin state crashes last (Ok (asks.Draft drafter)) old new response (stays, says) = ap (λ (s : DeskState). s.origin) stays.same
 asking_origin state crashes last (Ok (asks.Command asked)) old new response serves = command_origin state crashes last asked old new response serves
 
 pub origin_stays : {D : Type 0} (state : D → DeskState) (crashes : D → Crashes Found) (exchanges : List Exchange) (old new : D)

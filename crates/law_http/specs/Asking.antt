@@ -153,6 +153,9 @@ asking_in route.Text pairs body = do
 asking_in route.Preview pairs body = do
   preview ← preview_in pairs
   Ok (asks.Preview preview)
+asking_in route.Draft pairs body = do
+  drafter ← drafter_in pairs
+  Ok (asks.Draft drafter)
 asking_in route.Commands pairs body = do
   asked ← or_bad_form (commands.asked_of body)
   Ok (asks.Command asked)
@@ -169,6 +172,7 @@ abbrev pub IsSpelled : Asking → Type 0
 IsSpelled asks.Front = Unit {0}
 IsSpelled (asks.Text text) = Unit {0}
 IsSpelled (asks.Preview preview) = Unit {0}
+IsSpelled (asks.Draft drafter) = Unit {0}
 IsSpelled (asks.Command asked) = is_well_spelled asked.command ≡ true
 
 -- the same of what a request asks, if it asks anything

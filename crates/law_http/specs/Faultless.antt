@@ -3,16 +3,18 @@
 use Rattle.std.specs.Prelude.{◌≡◌, ℕ, Bool, List, [], ◌∷◌, ◌++◌, Option, None, Some, Result, Ok, Err, IsFalse, ⊤}
 use Rattle.desk_base.specs.Clocks.{later_days}
 use Rattle.law_register.specs.Answer.Asking.{answer_at}
+use Rattle.law_register.specs.Answer.Previews.{preview_at}
+use Rattle.law_register.specs.Register.Drafts.{draft_of}
 use Rattle.law_register.specs.Register.Entering.{entered}
 use Rattle.law_register.specs.Register.LawList.{front}
 use Rattle.law_register.specs.declared.register.entry.Entry.{Entry}
 use Rattle.law_register.specs.declared.register.rules.Rule.{Rule}
 use Rattle.law_register.specs.declared.register.verdict.Reply.{Reply as Outcome}
-use Rattle.law_http.specs.Asking.{asking_of, question_at}
+use Rattle.law_http.specs.Asking.{asking_of, question_at, question_previewed}
 use Rattle.law_http.specs.Hearing.{AreHeard}
 use Rattle.law_http.specs.Refusals.{message_reply, request_reply}
 use Rattle.law_http.specs.Responses.{Reply, reply_bytes}
-use Rattle.law_http.specs.Serving.{accepted_reply, answer_reply, front_reply, rule_reply}
+use Rattle.law_http.specs.Serving.{accepted_reply, answer_reply, draft_reply, front_reply, rule_reply}
 use Rattle.law_http.specs.Streaming.{AppendsAll}
 use Rattle.law_http.specs.declared.asking.Asking.{Asking}
 use Rattle.law_http.specs.declared.asking.Asking.TheVariants as asks
@@ -39,6 +41,9 @@ reply_on entries day last (Err refusal) = request_reply refusal last
 reply_on entries day last (Ok asks.Front) = front_reply last (front entries)
 reply_on entries day last (Ok (asks.Text text)) =
     answer_reply last (answer_at entries (question_at (front entries) text))
+reply_on entries day last (Ok (asks.Preview preview)) =
+    answer_reply last (preview_at entries preview.drafter (question_previewed preview))
+reply_on entries day last (Ok (asks.Draft drafter)) = draft_reply last (draft_of drafter entries)
 reply_on entries day last (Ok (asks.Command asked)) =
     entered_reply last (entered entries asked.drafter asked.request day asked.command)
 

@@ -27,13 +27,15 @@ route_at path =
     if bytes_eq path (codes "/front") then Some route.Front
     else (if bytes_eq path (codes "/text") then Some route.Text
     else (if bytes_eq path (codes "/preview") then Some route.Preview
-    else (if bytes_eq path (codes "/commands") then Some route.Commands else None)))
+    else (if bytes_eq path (codes "/draft") then Some route.Draft
+    else (if bytes_eq path (codes "/commands") then Some route.Commands else None))))
 
 -- the one method of a path
 abbrev pub method_of : Route → Allow
 method_of route.Front = Get
 method_of route.Text = Get
 method_of route.Preview = Get
+method_of route.Draft = Get
 method_of route.Commands = Post
 
 abbrev pub has_method : List ℕ → Allow → Bool
@@ -55,6 +57,7 @@ abbrev pub known_keys : Route → List (List ℕ)
 known_keys route.Front = []
 known_keys route.Text = codes "expression" ∷ codes "viewpoint" ∷ codes "reading" ∷ []
 known_keys route.Preview = codes "drafter" ∷ codes "expression" ∷ codes "reading" ∷ []
+known_keys route.Draft = codes "drafter" ∷ []
 known_keys route.Commands = []
 
 -- the keys that a route needs are there
@@ -63,6 +66,7 @@ has_needed route.Front pairs = true
 has_needed route.Text pairs = is_some (value_of (codes "expression") pairs)
 has_needed route.Preview pairs =
     is_some (value_of (codes "drafter") pairs) && is_some (value_of (codes "expression") pairs)
+has_needed route.Draft pairs = is_some (value_of (codes "drafter") pairs)
 has_needed route.Commands pairs = true
 
 -- no key is unknown, none is there twice, and none is missing

@@ -8,18 +8,21 @@ use Rattle.law_register.specs.Answer.Costs.{bearing_at}
 use Rattle.law_register.specs.Answer.Previews.{preview_at, previewing_at}
 use Rattle.law_register.specs.Desk.Commands.{Ends, HasCommandCause, LeavesBetween, LeavesNoMore, mark_of, marks_after}
 use Rattle.law_register.specs.Desk.States.{DeskState, Found, IsDurable, IsSound, standing}
+use Rattle.law_register.specs.Register.Drafts.{draft_of}
 use Rattle.law_register.specs.Register.LawList.{front}
 use Rattle.law_register.specs.declared.answer.answer.Answer.{Answer}
 use Rattle.law_register.specs.declared.answer.queries.QueryRule.{QueryRule}
 use Rattle.law_register.specs.declared.answer.queries.QueryRule.TheVariants as query
 use Rattle.law_register.specs.declared.desk.command_fault.CommandFault.{CommandFault}
 use Rattle.law_register.specs.declared.desk.command_fault.CommandFault.TheVariants as fails
+use Rattle.law_register.specs.declared.register.draft.DraftItem.{DraftItem}
 use Rattle.law_register.specs.declared.register.entry.Entry.{Entry}
 use Rattle.law_register.specs.declared.register.rules.Rule.{Rule}
 use Rattle.law_register.specs.declared.register.rules.Rule.TheVariants as rules
 use Rattle.law_register.specs.declared.register.verdict.Reply.{Reply as Outcome}
 use Rattle.law_register.specs.declared.register.verdict.Reply.TheVariants as outcome
 use Rattle.akn_json.specs.Printing.Answers.{answer_data}
+use Rattle.akn_json.specs.Printing.Drafts.{draft_value}
 use Rattle.akn_json.specs.Printing.Refusals.{query_data, rule_data}
 use Rattle.akn_json.specs.declared.asked.Asked.{Asked}
 use Rattle.law_http.specs.Asking.{asking_of, question_at, question_previewed}
@@ -68,6 +71,10 @@ query_reply last rule = reply (query_status rule) None last (compact_text (query
 abbrev pub answer_reply : Bool → Result Answer QueryRule → Reply
 answer_reply last (Ok answer) = shown_reply last answer
 answer_reply last (Err rule) = query_reply last rule
+
+-- the items of a draft
+abbrev pub draft_reply : Bool → List DraftItem → Reply
+draft_reply last draft = reply status.Ok None last (compact_text (draft_value draft))
 
 -- the law number of a law entry, or the item number of an entry of a draft
 abbrev pub outcome_text : Outcome → List ℕ
@@ -122,6 +129,8 @@ module _ {D : Type 0} (state : D → DeskState) (crashes : D → Crashes Found) 
       × Says (answer_reply last (answer_at (state old).entries (question_at (front (state old).entries) text))) response
   ServesAsking last (Ok (asks.Preview preview)) old new response = Stays old new
       × Says (answer_reply last (preview_at (state old).entries preview.drafter (question_previewed preview))) response
+  ServesAsking last (Ok (asks.Draft drafter)) old new response = Stays old new
+      × Says (draft_reply last (draft_of drafter (state old).entries)) response
   ServesAsking last (Ok (asks.Command asked)) old new response = ServesCommand last asked old new response
 
   -- a request is answered by a response, and the desk goes from old to new
@@ -134,6 +143,7 @@ asking_cost entries (Err refusal) = 0
 asking_cost entries (Ok asks.Front) = 0
 asking_cost entries (Ok (asks.Text text)) = bearing_at entries (question_at (front entries) text)
 asking_cost entries (Ok (asks.Preview preview)) = previewing_at entries preview.drafter (question_previewed preview)
+asking_cost entries (Ok (asks.Draft drafter)) = 0
 asking_cost entries (Ok (asks.Command asked)) = 0
 
 -- the steps that the answer to a request may take

@@ -9,12 +9,12 @@ ghost use Rattle.law_http.specs.Asking as spec;
 ghost use Rattle.law_register.specs.Law.Spelling.{is_well_spelled};
 ghost use Rattle.law_http.specs.declared.asking.AskFail.TheVariants as fails;
 
-use crate::drafts::{PreviewAsked, preview_in};
+use crate::drafts::{PreviewAsked, drafter_in, preview_in};
 use crate::{Bytes, Query, Request, RequestRefusal, Route};
 use akn_json::{Asked, FormFault, FormRule, ReadFail, read_command};
 use desk_base::{Day, Memory, Text, decimal_number};
 use frbr_names::{ExpressionIri, WorkName, parse_expression};
-use law_register::{Question, Reading};
+use law_register::{Drafter, Question, Reading};
 use std::alloc::Global;
 
 /// A question about the text of a work. Its viewpoint may be left out.
@@ -43,6 +43,8 @@ pub enum Asking {
     Text(TextAsked),
     /// The text of a work as it will be once a drafter's draft of it is filed.
     Preview(PreviewAsked),
+    /// The items of a drafter's draft.
+    Draft(Drafter),
     /// A command.
     Command(Asked),
 }
@@ -193,6 +195,7 @@ impl Request {
             Route::Front => Ok(Asking::Front),
             Route::Text => Ok(Asking::Text(text_in(alloc, &query)?)),
             Route::Preview => Ok(Asking::Preview(preview_in(alloc, &query)?)),
+            Route::Draft => Ok(Asking::Draft(drafter_in(alloc, &query)?)),
             Route::Commands => Ok(Asking::Command(command_in(alloc, &self.body)?)),
         }
     }

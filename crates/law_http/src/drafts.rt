@@ -1,4 +1,4 @@
-//! What a drafter asks: a preview.
+//! What a drafter asks: the items of his draft, or a preview.
 
 ghost use Rattle.std.specs.Prelude.{◌≡◌};
 ghost use Rattle.frbr_names.specs.ExpressionViews.{expression_view};
@@ -48,9 +48,9 @@ impl PreviewAsked {
     }
 }
 
-// The drafter whom a query names.
+/// The drafter whom a query names.
 #[tactic(auto, unfolding(crate::specs::Asking::drafter_in))]
-fn drafter_in(alloc: Global, query: &Query) -> Result<Drafter, AskFail>
+pub fn drafter_in(alloc: Global, query: &Query) -> Result<Drafter, AskFail>
     ensures { spec.Gives result (spec.drafter_in query.now) }
 {
     let Some(name) = query.value("drafter") else {

@@ -6,6 +6,7 @@ ghost use Rattle.law_register.specs.Answer.Asking.{answer_at};
 ghost use Rattle.law_register.specs.Answer.Costs.{bearing_at};
 ghost use Rattle.law_register.specs.Answer.Previews.{preview_at, previewing_at};
 ghost use Rattle.law_register.specs.Law.Spelling.{is_well_spelled};
+ghost use Rattle.law_register.specs.Register.Drafts.{draft_of};
 ghost use Rattle.law_register.specs.Register.LawList.{front};
 ghost use Rattle.law_register.specs.declared.answer.answer.Answer.{Answer as AnswerValue};
 ghost use Rattle.law_register.specs.declared.answer.queries.QueryRule.{QueryRule as RuleOfQuestion};
@@ -16,9 +17,11 @@ ghost use Rattle.law_http.specs.declared.status.Status.TheVariants as status;
 
 use crate::acknowledging::{acknowledged, begun};
 use crate::{Asking, PreviewAsked, Request, Response, Status, TextAsked, refused_request};
-use akn_json::{Asked, put_answer, put_query_rule, put_rule};
+use akn_json::{Asked, put_answer, put_draft, put_query_rule, put_rule};
 use desk_base::{Memory, Steps};
-use law_register::{Answer, AskFault, CommandFault, Desk, QueryRule, Question, Reply, Rule};
+use law_register::{
+    Answer, AskFault, CommandFault, Desk, Draft, Drafter, QueryRule, Question, Reply, Rule,
+};
 use std::alloc::Global;
 use std::sync::ledger::Ledger;
 
@@ -167,6 +170,25 @@ fn preview_response<D: Desk, L: Ledger>(
     answer_response(alloc, told, last)
 }
 
+fn items_response(alloc: Global, draft: &Draft, last: bool) -> Response
+    ensures { Says (spec.draft_reply last draft.now) result }
+{
+    match put_draft(alloc, draft) {
+        Ok(object) => Response::of(alloc, Status::Ok, None, last, object.as_slice()),
+        Err(_) => Response::MemoryFault,
+    }
+}
+
+fn draft_response<D: Desk>(alloc: Global, desk: &mut D, drafter: Drafter, last: bool) -> Response
+    ensures says { Says (spec.draft_reply last (draft_of drafter (D.state desk.old).entries)) result }
+    ensures stays { spec.Stays D.state D.crashes desk.old desk.new }
+{
+    match desk.draft(alloc, &drafter) {
+        Ok(draft) => items_response(alloc, &draft, last),
+        Err(_) => Response::MemoryFault,
+    }
+}
+
 // Makes the room for the response to a command that is accepted, and then has the command done.
 fn command_response<D: Desk, L: Ledger>(
     alloc: Global,
@@ -206,6 +228,7 @@ fn answered<D: Desk, L: Ledger>(
         Asking::Front => front_response(alloc, desk.front(), last),
         Asking::Text(text) => text_response(alloc, desk, text, last, steps),
         Asking::Preview(preview) => preview_response(alloc, desk, preview, last, steps),
+        Asking::Draft(drafter) => draft_response(alloc, desk, drafter, last),
         Asking::Command(asked) => command_response(alloc, desk, asked, last, steps),
     }
 }

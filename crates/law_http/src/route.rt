@@ -17,6 +17,8 @@ pub enum Route {
     Text,
     /// GET /preview
     Preview,
+    /// GET /draft
+    Draft,
     /// POST /commands
     Commands,
 }
@@ -27,7 +29,7 @@ impl Route {
         ensures { result ≡ spec.method_of self }
     {
         match self {
-            Route::Front | Route::Text | Route::Preview => Allow::Get,
+            Route::Front | Route::Text | Route::Preview | Route::Draft => Allow::Get,
             Route::Commands => Allow::Post,
         }
     }
@@ -51,6 +53,7 @@ fn route_at(path: &str) -> Option<Route>
         "/front" => Some(Route::Front),
         "/text" => Some(Route::Text),
         "/preview" => Some(Route::Preview),
+        "/draft" => Some(Route::Draft),
         "/commands" => Some(Route::Commands),
         _ => None,
     }
@@ -90,6 +93,7 @@ fn has_keys_of(query: &Query, route: Route) -> bool
                 && query.value("drafter").is_some()
                 && query.value("expression").is_some()
         }
+        Route::Draft => query.has_keys(&["drafter"]) && query.value("drafter").is_some(),
     }
 }
 

@@ -176,6 +176,7 @@ module _ (all : List Exchange) where
     asking_on e (Ok asks.Front) old new is faulted serves stands = stays_on old new serves.0 stands
     asking_on e (Ok (asks.Text text)) old new is faulted serves stands = stays_on old new serves.0 stands
     asking_on e (Ok (asks.Preview preview)) old new is faulted serves stands = stays_on old new serves.0 stands
+    asking_on e (Ok (asks.Draft drafter)) old new is faulted serves stands = stays_on old new serves.0 stands
     asking_on e (Ok (asks.Command asked)) old new is faulted (inl nothing) stands = stays_on old new nothing.0 stands
     asking_on e (Ok (asks.Command asked)) old new is faulted (inr done) stands =
         let does : Does state crashes asked old new done.0 = done.1 in

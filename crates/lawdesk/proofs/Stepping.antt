@@ -107,6 +107,7 @@ module _ {D : Type 0} (state : D → DeskState) (crashes : D → Crashes Found) 
   asking_step last (Ok asks.Front) old new response serves = stays_step old new response serves.0
   asking_step last (Ok (asks.Text text)) old new response serves = stays_step old new response serves.0
   asking_step last (Ok (asks.Preview preview)) old new response serves = stays_step old new response serves.0
+  asking_step last (Ok (asks.Draft drafter)) old new response serves = stays_step old new response serves.0
   asking_step last (Ok (asks.Command asked)) old new response (inl nothing) = stays_step old new response nothing.0
   asking_step last (Ok (asks.Command asked)) old new response (inr done) =
       let does : Does state crashes asked old new done.0 = done.1 in
