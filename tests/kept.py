@@ -63,9 +63,11 @@ def bytes_of_entries():
 
 
 EXAMPLE = journal(desks.EXAMPLE)
+CAPITAL = journal(desks.CAPITAL)
 TWO = journal(desks.ENACTED, desks.RECORDED)
 DAMAGED = '{"byte":%s,"damaged":"journal","place":%d}\n'
 ORDER = '{"damaged":"order","number":1,"rule":8}\n'
+ENTRY = '{"byte":65,"damaged":"entry","number":1,"place":2}\n'
 
 
 def opened(entries_count, file):
@@ -94,6 +96,7 @@ FILES = [
     ("another first byte", b"\x00" * 10, (6, DAMAGED % (0, 0), b"\x00" * 10)),
     ("a length of nothing", NEW[:8] + b"\x01\x00\x00\x00\x00\x00", (6, DAMAGED % (0, 9), NEW[:8] + b"\x01\x00\x00\x00\x00\x00")),
     ("a length past the limit", MAGIC + b"\x01\x01\x00\x00\x01", (6, DAMAGED % (1, 9), MAGIC + b"\x01\x01\x00\x00\x01")),
+    ("a capital in a name", CAPITAL, (6, ENTRY, CAPITAL)),
     ("a withdrawal of nothing", EXAMPLE, (6, ORDER, EXAMPLE)),
     ("a withdrawal of nothing, of which a byte is cut", EXAMPLE[:41], (6, DAMAGED % ("null", 41), EXAMPLE[:41])),
     ("bytes behind the closed gate", TWO + b"\xff" * 5, opened(2, TWO)),

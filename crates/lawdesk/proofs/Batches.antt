@@ -1,6 +1,8 @@
 -- What a run of `batch` leaves follows of how its stream ended, or of why no register was opened.
 use Rattle.std.proofs.Common.{◌≡◌, ◌≢◌, ◌⊎◌, ◌<◌, refl, sym, ap, subst, ◌∙◌, inl, inr, ℕ, zero, suc, ◌+◌, Bool, true, false, List, Option, None, Result, Ok, Err, arith, rules}
 use Rattle.desk_base.specs.Streams.{AppendsFront, Rose}
+use Rattle.law_http.proofs.Faultless.{determined}
+use Rattle.law_http.specs.Faultless.{IsDetermined, IsFaultless, IsWhole}
 use Rattle.law_http.specs.Streaming.{HasReadCause, HasWriteCause, RoseBy, faults_told}
 use Rattle.law_http.specs.declared.streaming.Served.{Served}
 use Rattle.law_http.specs.declared.streaming.StreamEnd.{StreamEnd}
@@ -9,6 +11,7 @@ use Rattle.law_keeper.specs.Keepers.{Holding, Keeps, LeavesOldOrSame}
 use Rattle.law_office.specs.Crashing.{crashes_of}
 use Rattle.law_office.specs.Offices.{OfficeState, desk_of}
 use Rattle.law_office.specs.Opening.{HasDamageCause, HasRefusalCause, Refuses, opened_of}
+use Rattle.law_register.specs.Desk.States.{IsFoundOf}
 use Rattle.law_register.specs.declared.desk.damage.Damage.{Damage}
 use Rattle.law_register.specs.declared.desk.open_fault.OpenFault.{OpenFault}
 use Rattle.law_register.specs.declared.desk.open_fault.OpenFault.TheVariants as fails
@@ -87,6 +90,28 @@ low_is_not ends.WriteFault faulted status is (inl low) told = omega arith
 low_is_not ends.WriteFault faulted status is (inr low) told = omega arith
 low_is_not ends.Memory faulted status is (inl low) told = omega arith
 low_is_not ends.Memory faulted status is (inr low) told = omega arith
+
+low_is_whole : (end : StreamEnd) (faulted : Bool) (status : ℕ) → status ≡ stream_status end faulted
+    → (status ≡ 0) ⊎ (status ≡ 1) → IsWhole end
+low_is_whole ends.End faulted status is low = tt
+low_is_whole (ends.Refused refusal) faulted status is low = tt
+low_is_whole ends.ReadFault faulted status is (inl low) = omega arith
+low_is_whole ends.ReadFault faulted status is (inr low) = omega arith
+low_is_whole ends.WriteFault faulted status is (inl low) = omega arith
+low_is_whole ends.WriteFault faulted status is (inr low) = omega arith
+low_is_whole ends.Memory faulted status is (inl low) = omega arith
+low_is_whole ends.Memory faulted status is (inr low) = omega arith
+
+low_is_untold : (faulted : Bool) → (faulted ≡ true → ⊥) → faulted ≡ false
+low_is_untold true not = absurd (not refl)
+low_is_untold false not = refl
+
+low_is_faultless : (served : Served) (status : ℕ) → status ≡ stream_status served.end served.faulted
+    → (status ≡ 0) ⊎ (status ≡ 1) → IsFaultless served
+low_is_faultless served status is low = record {
+  whole = low_is_whole served.end served.faulted status is low;
+  none_told = low_is_untold served.faulted (low_is_not served.end served.faulted status is low);
+}
 
 none_told : (n : ℕ) → (n ≢ 0 → ⊥) → n ≡ 0
 none_told zero not = refl
@@ -187,6 +212,10 @@ module _ {S W K C : Type 0} (left : S → Option (List ℕ)) (read_faults : S �
       let began : keeper_faults (serves.office).keeper ≡ keeper_faults keeper =
       ap keeper_faults (serves.is_new).keeper_is ∙ faults in
       let ended : keeper_faults keeper_new ≡ keeper_faults (serves.closed).keeper = ap keeper_faults serves.kept in
+      let at_low = λ (low : (status ≡ 0) ⊎ (status ≡ 1)).
+          determined (desk_of keeper_faults days) (λ (o : OfficeState K C). crashes_of (holding o.keeper))
+          (left source) (written sink) (written sink_new) serves.office serves.closed steps later served serves.streamed
+          (serves.is_new).none_pending (low_is_faultless served status is low) in
       record {
         status_is = subst IsBatchStatus (sym is) (stream_status_is served.end served.faulted);
         went = inr (record {
@@ -200,6 +229,14 @@ module _ {S W K C : Type 0} (left : S → Option (List ℕ)) (read_faults : S �
           served = served;
           serves = serves;
           status_told = is;
+          determined = λ low.
+              subst (λ (es : List Entry). IsDetermined (left source) (written sink) (written sink_new) es (days clock) (serves.closed).entries)
+              (serves.is_new).entries_are
+              (subst (λ (c : C). IsDetermined (left source) (written sink) (written sink_new) (serves.office).entries (days c) (serves.closed).entries)
+              (serves.is_new).clock_is (at_low low).0);
+          kept = λ low told.
+              subst (λ (p : Option Entry). IsFoundOf (serves.closed).entries p (opened_of (holding keeper_new).list))
+              (at_low low).1 (serves.found told);
         });
         source_cause = λ three. read_cause served.end served.faulted _ _ reads (sym is ∙ three);
         sink_cause = λ four. write_cause served.end served.faulted _ _ writes (sym is ∙ four);

@@ -2,6 +2,7 @@
 use Rattle.std.specs.Prelude.{ℕ, ◌≡◌, ◌≢◌, ◌++◌, List, [], Option, None, Ok, ◌⊎◌, Bool, if◌then◌else◌}
 use Rattle.desk_base.specs.Crashes.{LeavesOnly}
 use Rattle.desk_base.specs.Streams.{AppendsFront, Rose}
+use Rattle.law_http.specs.Faultless.{IsDetermined}
 use Rattle.law_http.specs.Streaming.{IsStreamed}
 use Rattle.law_http.specs.declared.streaming.Served.{Served}
 use Rattle.law_http.specs.declared.streaming.StreamEnd.{StreamEnd}
@@ -120,6 +121,12 @@ module _ {S W K C : Type 0} (left : S → Option (List ℕ)) (read_faults : S �
         → LeavesOnly (IsOldOrKept (crashes_of (holding keeper)) entries (serves.closed).entries
         (serves.streamed).exchanges) (crashes_of (holding keeper)) (crashes_of (holding keeper_new))
     pub status_told : status ≡ stream_status served.end served.faulted
+    -- at 0 and 1 what was written and the entries at the end are functions of the entries that were opened, of all that
+    -- is heard of what the source had left, and of the days that the clock gave; and these entries are what is kept
+    pub determined : (status ≡ 0) ⊎ (status ≡ 1) → IsDetermined (left source) (written sink) (written sink_new)
+        entries (days clock) (serves.closed).entries
+    pub kept : (status ≡ 0) ⊎ (status ≡ 1) → (holding keeper_new).tells
+        → opened_of (holding keeper_new).list ≡ Ok (serves.closed).entries
 
   -- what a run of `batch` leaves
   pub record RanBatch (status : ℕ) : Type 0 where
