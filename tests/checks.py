@@ -9,6 +9,7 @@ PROGRAM = os.path.join(TOP, "crates", "lawdesk", "out", "lawdesk")
 DESK = os.path.join(TOP, "crates", "desk_trial", "out", "desk_trial")
 TRIAL = os.path.join(TOP, "crates", "journal_trial", "out", "journal_trial")
 TURNS = os.path.join(TOP, "crates", "turn_trial", "out", "turn_trial")
+TABLES = os.path.join(TOP, "crates", "table_trial", "out", "table_trial")
 SCRIPT = os.path.join(TOP, "lawdesk")
 
 passed = 0

@@ -1,22 +1,19 @@
-"""What the versions of a work by day cost: the steps that a table of it may take, made or revised from a touched day on. The days and the
-orders are told by `desk_trial`; what they cost is reckoned here anew, from docs/MODEL.md.
+"""The versions of a work by day: what a table of it costs, made or revised from a touched day on, and what it gives on each day, beside a
+replay from scratch. The days and the orders of `ROWS` are told by `desk_trial`, and what they cost is reckoned by `table_model`, from
+docs/MODEL.md; `table_trial` makes and revises the tables themselves.
 """
-from cases import force, node, repeal, to
-from checks import check
+import json
+import subprocess
+import tempfile
+import time
+
+import table_histories
+from cases import force, form, node, repeal, to
+from checks import TABLES, check, over_a_folder, to_a_full_device
 from histories import CHANGES, CORRECTED_CHANGE, PARTS, lettered
-from register import ONE, correct, enact, record, withdraw
+from register import FIRST, ONE, SECOND, SECTIONS, THIRD, again, answer, correct, enact, law, record, refused, restore, withdraw
 from sessions import lines_of
-
-
-def cost(orders, touched):
-    """How many ids are applied over the breakpoints from a day on: those that are new where the list before is a front of the list, or
-    else all. Before the first breakpoint the list is empty."""
-    steps, before = 0, []
-    for day, ids in orders:
-        if touched <= day:
-            steps += len(ids) - (len(before) if ids[:len(before)] == before else 0)
-        before = ids
-    return steps
+from table_model import cost
 
 
 def told_orders(commands, work, viewpoint, reading):
@@ -89,3 +86,131 @@ def agreements():
             _, got = lines_of([*commands, *lines])
             got = got[len(commands):]
             check(f"what bore before {name}, {reading}", got[::2], got[1::2])
+
+
+def at(reply, touched="none", spent=0):
+    """The line of a command that is accepted."""
+    return f"{reply} touched {touched} cost {spent}"
+
+
+TWO_LEFT = answer('["2.1"]', f"{FIRST},{SECOND}", "2011-02-01", 3)
+ALL_THREE = answer("[]", f"{FIRST},{SECOND},{THIRD}", "2011-02-01", 4)
+
+# Lines for `table_trial`, each with the line that is wanted of it.
+SESSIONS = {
+    "an early repeal": [
+        ("same", "no table"),
+        (f"make {ONE} force", "none"),
+        (enact("ada", 1, body=SECTIONS), at(law(1))),
+        ("at 2011-02-01", "no table"),
+        (f"make {ONE} force", "rows 1 cost 0"),
+        (record("ada", 2, repeal("sec_3", "2011-06-01")), at(law(2), "2011-06-01", 1)),
+        (record("ada", 3, force(destination=to("2.1"), on="2011-01-01", date="2011-01-01")), at(law(3), "2011-01-01", 1)),
+        ("rows 2010-12-31", "rows 1"),
+        ("rows 2011-01-01", "rows 2"),
+        ("rows 2011-06-01", "rows 3"),
+        ("at 2011-02-01", TWO_LEFT),
+        ("replay 2011-02-01", TWO_LEFT),
+        ("same", "same 3"),
+        (withdraw("ada", 4, "2.1"), at(law(4), "2011-01-01")),
+        ("at 2011-02-01", ALL_THREE),
+        ("replay 2011-02-01", ALL_THREE),
+        ("same", "same 2"),
+        ("at 2010-04-30", '{"kept":"2010-05-01","name":"NotYetEnacted","query":3}'),
+        (withdraw("ada", 5, "2.1"), refused(9, 4)),
+        (withdraw("ada", 4, "2.1"), again(law(4))),
+        (restore("ada", 5, "2.1"), at(law(5), "2011-01-01", 1)),
+        (record("ada", 6, force(destination={"wId": "sec_1"})), at(law(6))),
+        ("same", "same 4"),
+        ("rows 2012-01-01", "rows 3"),
+        (f"make {ONE} efficacy", "rows 4 cost 1"),
+        ("at", "no such line"),
+        ("at 2011-02-30", "no such line"),
+        ("until 2011-02-01", "no such line"),
+        (f"make {ONE}", "no such line"),
+        (f"make {ONE} often", "no such line"),
+        ("make act force", "no such line"),
+        ("{", form(1).decode().strip()),
+    ],
+    "a history that grows, loses one change and has one corrected": [
+        (GROWING[0], at(law(1))),
+        *((line, at(law(k), f"{2001 + (k - 2) // 3}-01-01")) for k, line in enumerate(GROWING[1:26], 2)),
+        (f"make {PARTS} force", "rows 10 cost 25"),
+        ("scratch", "versions 10 steps 133"),
+        ("same", "same 10"),
+        (GROWING[26], at(law(27), "2002-01-01", 21)),
+        ("same", "same 10"),
+        (GROWING[27], at(law(28), "2004-01-01", 16)),
+        ("same", "same 10"),
+    ],
+    "the drawn act, 3.1 withdrawn": [
+        (DRAWN[0], at(law(1))),
+        (f"make {REPEALED} force", "rows 1 cost 0"),
+        (DRAWN[1], at(law(2), "2002-01-01", 1)),
+        (DRAWN[2], at(law(3), "2003-01-01", 1)),
+        (DRAWN[3], at(law(4), "2004-01-01", 1)),
+        (DRAWN[4], at(law(5), "2003-01-01", 1)),
+        ("same", "same 3"),
+    ],
+    "the drawn act, 4.1 set back": [
+        *((line, at(law(k), touched)) for k, (line, touched) in enumerate(zip(DRAWN[:4], ["none", "2002-01-01", "2003-01-01", "2004-01-01"]), 1)),
+        (f"make {REPEALED} force", "rows 4 cost 3"),
+        (SET_BACK[4], at(law(5), "2004-01-01", 3)),
+        ("same", "same 5"),
+        ("rows 9999-12-31", "rows 4"),
+    ],
+}
+
+
+def tabled(lines):
+    """The status of `table_trial`, and the line that it writes of each of these."""
+    with tempfile.TemporaryFile() as source, tempfile.TemporaryFile() as out:
+        source.writelines(line.encode() + b"\n" for line in lines)
+        source.seek(0)
+        status = subprocess.run([TABLES], stdin=source, stdout=out, timeout=120).returncode
+        out.seek(0)
+        return status, out.read().decode().split("\n")[:-1]
+
+
+def made_and_revised():
+    """Tables that are made, and revised with each command."""
+    for name, lines in SESSIONS.items():
+        status, got = tabled(line for line, _ in lines)
+        check(f"{name}: the status, and how many lines", (status, len(got)), (0, len(lines)))
+        for number, ((line, want), line_got) in enumerate(zip(lines, got), 1):
+            check(f"{name}, line {number}, {line[:60]}", line_got, want)
+
+
+def names_in_order(line, order):
+    """Whether an answer names these ids, those applied and those unapplied each in their order."""
+    if line == '{"kept":"2010-05-01","name":"NotYetEnacted","query":3}':
+        return True
+    answer = json.loads(line)
+    applied, unapplied = answer["applied"], [entry["id"] for entry in answer["unapplied"]]
+    return applied == [id for id in order if id not in unapplied] and unapplied == [id for id in order if id not in applied]
+
+
+def random_histories(seed=None, count=table_histories.HISTORIES):
+    """After each command of random histories the table gives what a replay gives about each breakpoint, in both readings; the touched day,
+    the cost, the rows and the ids that bear are those that are reckoned here."""
+    seed = time.time_ns() % 1_000_000_000 if seed is None else seed
+    print(f"{count} histories of seed {seed}")
+    for reading in ("force", "efficacy"):
+        lines = table_histories.histories(seed, reading, count)
+        status, got = tabled(line for line, _ in lines)
+        name = f"histories of seed {seed}, {reading}"
+        check(f"{name}: the status, and how many lines", (status, len(got)), (0, len(lines)))
+        wrong = [(line, line_got, want) for (line, want), line_got in zip(lines, got)
+                 if not (names_in_order(line_got, want) if isinstance(want, list) else line_got == want)]
+        check(f"{name}: {len(lines)} lines", wrong[:1], [])
+        pairs = [(line, got[k], got[k + 1]) for k, (line, _) in enumerate(lines) if line.startswith("at ")]
+        check(f"{name}: {len(pairs)} answers by the table and by a replay", [pair for pair in pairs if pair[1] != pair[2]][:1], [])
+
+
+def ends():
+    """An input of nothing, one without a last line feed, and streams that fail."""
+    for given, want in [(b"", b""), (b"same", b"no table\n"), (b"\xff", b"no such line\n")]:
+        done = subprocess.run([TABLES], input=given, stdout=subprocess.PIPE, timeout=60)
+        check(f"a table is given {given}", (done.returncode, done.stdout), (0, want))
+    check("a table over a full device", to_a_full_device([TABLES], b"same\n") != 0, True)
+    check("a table over a folder as standard input", over_a_folder([TABLES])[0] != 0, True)
