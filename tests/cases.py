@@ -140,7 +140,9 @@ def padded(length):
 
 
 USAGE = (b"usage: lawdesk text DATE [force|efficacy], with DATE as 2011-01-01 and the dossier on standard input; "
-         b"lawdesk batch, with requests there; or lawdesk check\n")
+         b"lawdesk batch, with requests there; lawdesk check; lawdesk report lifecycle WORK; "
+         b"lawdesk report correspondence WORK DATE DATE; lawdesk report unapplied DATE; "
+         b"or lawdesk generate SEED COUNT\n")
 
 # Words that are no form of the command line.
 NO_WORDS = [
@@ -151,6 +153,10 @@ NO_WORDS = [
     ["text", "2010-05-01\n"], ["text", "+010-05-01"], ["text", b"2010-05-0\xff"], ["--help"], ["help"], ["text", "--", "2010-05-01"], [""],
     ["check", "check"], ["check", "2010-05-01"], ["Check"], ["check", ""], ["checks"], ["--check"],
     ["batch", "batch"], ["batch", "2010-05-01"], ["batch", ""], ["Batch"], ["batches"], ["--batch"], ["text", "batch"],
+    ["generate"], ["generate", "1"], ["generate", "1", "1", "1"], ["Generate", "1", "1"], ["generates", "1", "1"],
+    ["generate", "01", "1"], ["generate", "1", "01"], ["generate", "00", "1"], ["generate", "", "1"], ["generate", "1", ""],
+    ["generate", "1", "0"], ["generate", "1", "2001"], ["generate", "18446744073709551616", "1"], ["generate", "-1", "1"],
+    ["generate", "+1", "1"], ["generate", "1", "1 "], ["generate", "0x1", "1"], ["generate", "1", "18446744073709551617"],
 ]
 
 

@@ -1,7 +1,12 @@
 """The generator, reckoned anew from docs/GENERATOR.md: the draws of a seed, what becomes of each command by the rules of docs/RULES.md that a
 generated command can break, and what the text on 2010-01-01 has. Nothing here is shared with the program.
 """
+import os
+import random
 from datetime import date, timedelta
+
+import checks
+from checks import PROGRAM, check, over_a_folder, run, to_a_full_device
 
 FIRST = date(2000, 1, 1)
 ASKED = date(2010, 1, 1)
@@ -102,3 +107,27 @@ def line(seed, count):
     applied, unapplied = replayed(register)
     law = register.front
     return f"commands {count} accepted {law} law {law} applied {applied} unapplied {unapplied}"
+
+
+def rows():
+    """The rows, a run that reads nothing and touches no file, the same line twice, and a full device."""
+    for (seed, count), wanted in ROWS:
+        check(f"the line reckoned of {seed} {count}", line(seed, count), wanted)
+        check(f"generate {seed} {count}", run(["generate", str(seed), str(count)], b""), (0, wanted.encode() + b"\n"))
+    with checks.folder() as folder:
+        first = run(["generate", "7", "400"], b"{", cwd=folder)
+        check("generate 7 400 begins", (first[0], first[1][:22]), (0, b"commands 400 accepted "))
+        check("generate 7 400 twice", over_a_folder([PROGRAM, "generate", "7", "400"], cwd=folder), first)
+        check("generate to a full device", to_a_full_device([PROGRAM, "generate", "7", "400"], b"", cwd=folder), 4)
+        check("the files of generate", os.listdir(folder), [])
+
+
+def seeds():
+    """200 seeds, small, at both ends and drawn, each with a count."""
+    drawn = random.Random(1)
+    numbers = [*range(100), 2**33, 2**63, 2**64 - 2, 2**64 - 1, *(drawn.randrange(2**64) for _ in range(96))]
+    counts = [1, 2, 3, 10, 50, 400, 700, 2000]
+    for place, seed in enumerate(numbers):
+        count = counts[place % len(counts)]
+        got = run(["generate", str(seed), str(count)], b"")
+        check(f"generate {seed} {count}", got, (0, line(seed, count).encode() + b"\n"))

@@ -213,9 +213,9 @@ module _ {S W K C : Type 0} (left : S → Option (List ℕ)) (read_faults : S �
       ap keeper_faults (serves.is_new).keeper_is ∙ faults in
       let ended : keeper_faults keeper_new ≡ keeper_faults (serves.closed).keeper = ap keeper_faults serves.kept in
       let at_low = λ (low : (status ≡ 0) ⊎ (status ≡ 1)).
-          determined (desk_of keeper_faults days) (λ (o : OfficeState K C). crashes_of (holding o.keeper))
-          (left source) (written sink) (written sink_new) serves.office serves.closed steps later served serves.streamed
-          (serves.is_new).none_pending (low_is_faultless served status is low) in
+      determined (desk_of keeper_faults days) (λ (o : OfficeState K C). crashes_of (holding o.keeper))
+      (left source) (written sink) (written sink_new) serves.office serves.closed steps later served serves.streamed
+      (serves.is_new).none_pending (low_is_faultless served status is low) in
       record {
         status_is = subst IsBatchStatus (sym is) (stream_status_is served.end served.faulted);
         went = inr (record {

@@ -1,3 +1,4 @@
+pub mod InMemory
 pub mod Reading
 pub mod Stepping
 pub mod Outliving
@@ -8,3 +9,4 @@ pub mod Wholes
 pub mod Telling
 pub mod Statuses
 pub mod WellSpelled
+pub mod Staying

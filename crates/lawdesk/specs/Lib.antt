@@ -1,4 +1,5 @@
 pub mod Entering
+pub mod Generating
 pub mod Asking
 pub mod Batching
 pub mod Checking
@@ -6,7 +7,9 @@ pub mod Input
 pub mod Jobs
 pub mod Outliving
 pub mod Stops
+pub mod ReportJobs
 pub mod Reports
 pub mod Runs
 pub mod Statuses
 pub mod Views
+pub mod Tabling

@@ -2,8 +2,11 @@
 use Rattle.std.specs.Prelude.{ℕ, ◌≡◌, ◌⊎◌}
 use Rattle.lawdesk.specs.Batching.{IsBatchStatus}
 use Rattle.lawdesk.specs.Checking.{IsCheckStatus}
+use Rattle.lawdesk.specs.Generating.{IsGenerateStatus}
 use Rattle.lawdesk.specs.Runs.{IsTextStatus}
+use Rattle.lawdesk.specs.Tabling.{IsReportStatus}
 
 -- those of the forms of the command line, and 2 for words that are no form
 abbrev pub IsStatus : ℕ → Type 0
-IsStatus status = (status ≡ 2) ⊎ (IsTextStatus status ⊎ (IsCheckStatus status ⊎ IsBatchStatus status))
+IsStatus status = (status ≡ 2) ⊎ (IsTextStatus status ⊎ (IsCheckStatus status ⊎ (IsBatchStatus status
+    ⊎ (IsReportStatus status ⊎ IsGenerateStatus status))))

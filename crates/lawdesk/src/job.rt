@@ -1,10 +1,14 @@
 //! Job: what the words of the command line ask for.
 
-ghost use Rattle.std.specs.Prelude.{◌≡◌, map, string_bytes};
-ghost use Rattle.lawdesk.specs.Jobs.{job_of, text_job, word_job};
+ghost use Rattle.std.specs.Prelude.{◌≡◌, map, option_map, string_bytes, IfOk, OnErr};
+ghost use Rattle.lawdesk.specs.Jobs.{AsksForReport, generate_job, job_of, plain_job, seeded_job, text_job, word_job};
+ghost use Rattle.lawdesk.specs.ReportJobs.{report_job};
+ghost use Rattle.lawdesk.specs.declared.job.Job.TheVariants as jobs;
 
-use desk_base::Day;
+use crate::report_job::ReportJob;
+use desk_base::{Day, Memory, decimal_number};
 use law_register::Reading;
+use std::alloc::Global;
 
 /// A day, and what of the text counts on it.
 #[derive(Clone, Copy, Debug, PartialEq, Eq)]
@@ -15,8 +19,17 @@ pub struct TextJob {
     pub reading: Reading,
 }
 
-/// What the program is asked to do.
+/// A seed, and how many requests.
 #[derive(Clone, Copy, Debug, PartialEq, Eq)]
+pub struct GenerateJob {
+    /// The seed.
+    pub seed: u64,
+    /// How many requests, from 1 to 2,000.
+    pub count: u16,
+}
+
+/// What the program is asked to do.
+#[derive(Debug, PartialEq, Eq, Drop)]
 pub enum Job {
     /// Read a dossier, and print the text of its act on that day, in that reading.
     Text(TextJob),
@@ -24,6 +37,10 @@ pub enum Job {
     Check,
     /// Serve the requests of the source over the register that is kept.
     Batch,
+    /// Open the register that is kept, and write a table of what it knows, or what is damaged.
+    Report(ReportJob),
+    /// Generate a register, and say what became of its commands.
+    Generate(GenerateJob),
 }
 
 // The job of the text on a day, where the words name a day and a reading.
@@ -34,6 +51,31 @@ fn text_job(date: &str, reading: Option<Reading>) -> Option<Job>
         day: Day::from_text(date)?,
         reading: reading?,
     }))
+}
+
+// The job of generating a register, where the words name a seed and a count.
+fn generate_job(seed: &str, count: &str) -> Option<Job>
+    ensures { result ≡ generate_job seed.now count.now }
+{
+    let seed = decimal_number(seed, 18_446_744_073_709_551_615)?;
+    let count = decimal_number(count, 2_000)?;
+    if count == 0 {
+        return None;
+    }
+    Some(Job::Generate(GenerateJob {
+        seed,
+        count: count as u16,
+    }))
+}
+
+// The job of generating a register, where the words behind `generate` are a seed and a count.
+fn seeded_job(words: &[String]) -> Option<Job>
+    ensures { result ≡ seeded_job (map string_bytes words.now) }
+{
+    if words.len() == 2 {
+        return generate_job(words[0].as_str(), words[1].as_str());
+    }
+    None
 }
 
 // The job that one word asks for.
@@ -49,20 +91,51 @@ fn word_job(word: &str) -> Option<Job>
     None
 }
 
+// The job that words other than those of a report, and other than `generate` with what follows it, ask for.
+fn plain_job(words: &[String]) -> Option<Job>
+    ensures { result ≡ plain_job (map string_bytes words.now) }
+{
+    if words.len() == 1 {
+        return word_job(words[0].as_str());
+    }
+    if words.len() < 2 || words.len() > 3 || words[0].as_str() != "text" {
+        return None;
+    }
+    if words.len() == 2 {
+        return text_job(words[1].as_str(), Some(Reading::Force));
+    }
+    text_job(words[1].as_str(), Reading::from_name(words[2].as_str()))
+}
+
+// The job of the table that the words behind `report` ask for.
+fn report_job(alloc: Global, words: &[String]) -> Result<Option<Job>, Memory>
+    ensures job { IfOk result
+        (λ job. job ≡ option_map (λ j. jobs.Report j) (report_job (map string_bytes words.now))) }
+    ensures asked { OnErr result
+        (AsksForReport (option_map (λ j. jobs.Report j) (report_job (map string_bytes words.now)))) }
+{
+    match ReportJob::from_words(alloc, words)? {
+        Some(job) => Ok(Some(Job::Report(job))),
+        None => Ok(None),
+    }
+}
+
 impl Job {
-    /// The job that the words ask for, without the program's name. `None`: they are no form of the command line.
-    pub fn from_words(words: &[String]) -> Option<Job>
-        ensures { result ≡ job_of (map string_bytes words.now) }
+    /// The job that the words ask for, without the program's name. `None`: they are no form of the command line. `Err`: they ask
+    /// for a report, and there was not enough memory for it.
+    pub fn from_words(alloc: Global, words: &[String]) -> Result<Option<Job>, Memory>
+        ensures job { IfOk result (λ job. job ≡ job_of (map string_bytes words.now)) }
+        ensures asked { OnErr result (AsksForReport (job_of (map string_bytes words.now))) }
     {
-        if words.len() == 1 {
-            return word_job(words[0].as_str());
+        if words.is_empty() {
+            return Ok(None);
         }
-        if words.len() < 2 || words.len() > 3 || words[0].as_str() != "text" {
-            return None;
+        if words[0].as_str() == "report" {
+            return report_job(alloc, &words[1..]);
         }
-        if words.len() == 2 {
-            return text_job(words[1].as_str(), Some(Reading::Force));
+        if words[0].as_str() == "generate" {
+            return Ok(seeded_job(&words[1..]));
         }
-        text_job(words[1].as_str(), Reading::from_name(words[2].as_str()))
+        Ok(plain_job(words))
     }
 }

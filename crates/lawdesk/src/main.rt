@@ -4,13 +4,16 @@
 mod batching;
 mod checking;
 mod entering;
+mod generating;
 mod input;
 mod job;
 mod line;
 mod report;
+mod report_job;
 mod reporting;
 mod run;
 mod stop;
+mod tabling;
 mod texting;
 
 ghost use Rattle.std.specs.Prelude.{◌≡◌, ◌↔◌, ◌≢◌, None, map, string_bytes};
@@ -33,9 +36,10 @@ use std::time::Clock;
 
 const USAGE: &str =
     "usage: lawdesk text DATE [force|efficacy], with DATE as 2011-01-01 and the dossier on standard input; \
-    lawdesk batch, with requests there; or lawdesk check";
+    lawdesk batch, with requests there; lawdesk check; lawdesk report lifecycle WORK; \
+    lawdesk report correspondence WORK DATE DATE; lawdesk report unapplied DATE; or lawdesk generate SEED COUNT";
 
-/// The journal in the working folder, which `batch` and `check` open.
+/// The journal in the working folder, which `batch`, `check` and `report` open.
 const JOURNAL: &str = "lawdesk.jnl";
 
 const HELD: &str = "lawdesk: another process holds lawdesk.jnl";

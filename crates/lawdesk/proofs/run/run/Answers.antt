@@ -1,0 +1,52 @@
+-- Where there was not enough memory to know what table is asked for, the words ask for a table, and for nothing else; and the
+-- table that is written is the one that is asked for.
+use Rattle.std.proofs.Common.{◌≡◌, ◌∙◌, Some, subst}
+use Rattle.lawdesk.specs.Jobs.{AsksForReport}
+use Rattle.lawdesk.specs.Tabling.{RanReport}
+use Rattle.lawdesk.specs.declared.job.Job.TheVariants.{Report}
+use Rattle.lawdesk.proofs.run.run.Goals as goal
+
+pub returns-in-Err-clause-words : goal.returns-in-Err-clause-words
+returns-in-Err-clause-words g c =
+    (λ two. absurd (let wrong : 7 ≡ 2 = two in cc), λ none. absurd (subst AsksForReport none c.in-Err.ensures.asked))
+
+pub returns-in-Err-clause-text : goal.returns-in-Err-clause-text
+returns-in-Err-clause-text g c job same = absurd (subst AsksForReport same c.in-Err.ensures.asked)
+
+pub returns-in-Err-clause-text_alone : goal.returns-in-Err-clause-text_alone
+returns-in-Err-clause-text_alone g c job same = absurd (subst AsksForReport same c.in-Err.ensures.asked)
+
+pub returns-in-Err-clause-check : goal.returns-in-Err-clause-check
+returns-in-Err-clause-check g c same = absurd (subst AsksForReport same c.in-Err.ensures.asked)
+
+pub returns-in-Err-clause-check_alone : goal.returns-in-Err-clause-check_alone
+returns-in-Err-clause-check_alone g c same = absurd (subst AsksForReport same c.in-Err.ensures.asked)
+
+pub returns-in-Err-clause-batch : goal.returns-in-Err-clause-batch
+returns-in-Err-clause-batch g c same = absurd (subst AsksForReport same c.in-Err.ensures.asked)
+
+pub returns-in-Err-clause-generate : goal.returns-in-Err-clause-generate
+returns-in-Err-clause-generate g c job same = absurd (subst AsksForReport same c.in-Err.ensures.asked)
+
+pub returns-in-Err-clause-generate_alone : goal.returns-in-Err-clause-generate_alone
+returns-in-Err-clause-generate_alone g c job same = absurd (subst AsksForReport same c.in-Err.ensures.asked)
+
+pub returns-in-Ok-Some-Report-clause-report : goal.returns-in-Ok-Some-Report-clause-report
+returns-in-Ok-Some-Report-clause-report g c job same =
+    let some = c.in-Ok-Some-Report.field-0-is in
+    let report = c.in-Ok-Some-Report.field-0-0-is in
+    let own_is = c.in-Ok-Some-Report.job-is in
+    let asked : c.in-Ok-Some-Report.field-0 ≡ Some (Report job) = c.in-Ok-Some-Report.ensures.job ∙ same in
+    let own : c.in-Ok-Some-Report.job ≡ job = cc in
+    subst (λ j. RanReport g.K.Keeper.holding g.K.Keeper.faults g.W.Sink.written g.W.Sink.faults j c.args.keeper.now c.tabulate.new.keeper
+    c.args.sink.now c.tabulate.new.sink c.tabulate.result) own (record {
+      status_is = c.tabulate.ensures.status;
+      told_is = c.tabulate.ensures.told;
+      keeper_cause = c.tabulate.ensures.keeper;
+      sink_cause = c.tabulate.ensures.sink;
+      cut = c.tabulate.ensures.cut;
+      unwritten = c.tabulate.ensures.unwritten;
+      keeper_stays = c.tabulate.ensures.keeper_stays;
+      sink_stays = c.tabulate.ensures.sink_stays;
+      same = c.tabulate.ensures.same;
+    })

@@ -1,0 +1,136 @@
+//! Tabling: a table of what the register that is kept knows.
+
+ghost use Rattle.std.specs.Prelude.{◌≡◌, ◌≢◌, ◌⊎◌, ℕ, IfOk, List, Result};
+ghost use Rattle.desk_base.specs.Streams.{Rose};
+ghost use Rattle.law_keeper.specs.Keepers.{Keeps};
+ghost use Rattle.law_office.specs.Opening.{HasOpenCause, Opens};
+ghost use Rattle.law_register.specs.declared.answer.queries.QueryRule.{QueryRule as Rule};
+ghost use Rattle.law_register.specs.declared.desk.damage.Damage.{Damage};
+ghost use Rattle.law_register.specs.declared.register.entry.Entry.{Entry};
+ghost use Rattle.law_reports.specs.Tables.{Tells};
+ghost use Rattle.lawdesk.specs.Tabling.{HasReportCause, IsReport, IsReportCut, IsReportDone, IsReportOf, IsReportStatus, IsReported, IsTabled, told_table};
+ghost use Rattle.lawdesk.specs.Views.{report_view};
+
+use crate::checking::report_damage;
+use crate::line::line;
+use crate::report::Report;
+use crate::report_job::ReportJob;
+use akn_json::put_query_rule;
+use desk_base::{Memory, Sink, Steps};
+use law_keeper::Keeper;
+use law_office::Book;
+use law_register::{AskFault, OpenFault, Register};
+use law_reports::{correspondence, lifecycle, unapplied};
+use replay_core::FromEnacted;
+use std::alloc::Global;
+use std::sync::ledger::Ledger;
+
+// The report of a table, or of the rule that refuses it.
+fn report_table(alloc: Global, told: Result<Vec<u8>, AskFault>) -> Result<Report, Memory>
+    ensures { (answer : Result (List ℕ) Rule) → Tells told answer
+        → IfOk result (λ report. report_view report ≡ told_table answer) }
+{
+    match told {
+        Ok(bytes) => Ok(Report { status: 0, bytes }),
+        Err(AskFault::Query(rule)) => Ok(Report {
+            status: 9,
+            bytes: line(put_query_rule(alloc, &rule)?)?,
+        }),
+        Err(AskFault::Memory) => Err(Memory),
+    }
+}
+
+// The report that a job asks of a register.
+fn report_of<L: Ledger>(
+    alloc: Global,
+    job: &ReportJob,
+    register: &Register,
+    steps: &mut Steps<L>,
+) -> Result<Report, Memory>
+    ensures { IfOk result (λ report. IsReport job.now register.now.entries (report_view report)) }
+{
+    match job {
+        ReportJob::Lifecycle { work } => report_table(alloc, lifecycle(alloc, register, work)),
+        ReportJob::Correspondence {
+            work,
+            first,
+            second,
+        } => {
+            let told = correspondence(alloc, &FromEnacted, register, work, *first, *second, steps);
+            report_table(alloc, told)
+        }
+        ReportJob::Unapplied { day } => Ok(Report {
+            status: 0,
+            bytes: unapplied(alloc, &FromEnacted, register, *day, steps)?,
+        }),
+    }
+}
+
+// The report of an opening: what a job asks of a register, or what is damaged. It is refused where the keeper failed, or for want
+// of memory.
+fn report_opened<L: Ledger>(
+    alloc: Global,
+    job: &ReportJob,
+    opened: &Result<Book, OpenFault>,
+    steps: &mut Steps<L>,
+) -> Result<Report, OpenFault>
+    ensures told { (told : Result (List Entry) Damage) → Opens (λ book. book.register.entries) opened.now told
+        → IfOk result (λ report. IsReportOf job.now told (report_view report)) }
+    ensures cause { (before now : ℕ) → HasOpenCause before now opened.now → HasReportCause before now result }
+{
+    match opened {
+        Ok(book) => Ok(report_of(alloc, job, &book.register, steps)?),
+        Err(OpenFault::Damaged(damage)) => Ok(report_damage(alloc, *damage)?),
+        Err(OpenFault::Failed) => Err(OpenFault::Failed),
+        Err(OpenFault::Memory) => Err(OpenFault::Memory),
+    }
+}
+
+// The report of what a keeper has. Its payloads stay.
+fn report_kept<K: Keeper, L: Ledger>(
+    alloc: Global,
+    job: &ReportJob,
+    keeper: &mut K,
+    steps: &mut Steps<L>,
+) -> Result<Report, OpenFault>
+    ensures told { (K.holding keeper.old).tells
+        → IfOk result (λ report. IsReported job.now (K.holding keeper.old).list (report_view report)) }
+    ensures cause { HasReportCause (K.faults keeper.old) (K.faults keeper.new) result }
+    ensures same { Keeps (K.holding keeper.old) (K.holding keeper.new) }
+{
+    let opened = Book::open(alloc, keeper);
+    let report = report_opened(alloc, job, &opened, steps);
+    drop(opened);
+    report
+}
+
+/// Opens the register that is kept, writes a table of what it knows, the rule that refuses it or what is damaged, and gives the
+/// status to end with. What is kept stays as it is.
+pub fn tabulate<W: Sink, K: Keeper, L: Ledger>(
+    alloc: Global,
+    job: &ReportJob,
+    sink: &mut W,
+    keeper: &mut K,
+    steps: &mut Steps<L>,
+) -> u8
+    ensures status { IsReportStatus result }
+    ensures told { IsReportDone result → (K.holding keeper.old).tells
+        → IsTabled job.now (K.holding keeper.old).list (W.written sink.old) (W.written sink.new) result }
+    ensures keeper { result ≡ 5 → Rose (K.faults keeper.old) (K.faults keeper.new) }
+    ensures sink { result ≡ 4 → Rose (W.faults sink.old) (W.faults sink.new) }
+    ensures cut { result ≡ 4 → (K.holding keeper.old).tells
+        → IsReportCut job.now (K.holding keeper.old).list (W.written sink.old) (W.written sink.new) }
+    ensures unwritten { (result ≡ 5) ⊎ (result ≡ 7) → sink.new ≡ sink.old }
+    ensures keeper_stays { (result ≡ 0) ⊎ (result ≡ 9) → K.faults keeper.new ≡ K.faults keeper.old }
+    ensures sink_stays { result ≢ 4 → W.faults sink.new ≡ W.faults sink.old }
+    ensures same { Keeps (K.holding keeper.old) (K.holding keeper.new) }
+{
+    match report_kept(alloc, job, keeper, steps) {
+        Ok(report) => match sink.write_all(report.bytes.as_slice()) {
+            Ok(()) => report.status,
+            Err(_) => 4,
+        },
+        Err(OpenFault::Failed) => 5,
+        Err(_) => 7,
+    }
+}
