@@ -98,22 +98,24 @@ fn asked_part(
 fn answer_on_day(
     alloc: Global,
     on: &OnDay<'_>,
-    version: Version,
+    version: &Version,
     question: &Question,
 ) -> Result<Answer, AskFault>
     requires reading { on.now.reading ≡ question.now.reading }
     requires day { on.now.day ≡ spec.asked_day question.now.version on.now.known.now.act }
-    ensures { Answers result (spec.answer_of_text on.now.known.now (version_view version) question.now) }
+    ensures { Answers result (spec.answer_of_text on.now.known.now (version_view version.now) question.now) }
 {
     let bears = on.root_flag(alloc)?;
     let nodes = asked_part(alloc, on, &version.tree, bears, &question.portion)?;
     let question = question.copy()?;
+    let applied = version.applied.copy()?;
+    let unapplied = version.unapplied.copy()?;
     Ok(Answer {
         question,
         bears,
         nodes,
-        applied: version.applied,
-        unapplied: version.unapplied,
+        applied,
+        unapplied,
     })
 }
 
@@ -121,18 +123,36 @@ fn answer_on_day(
 fn answer_from(
     alloc: Global,
     known: &Known,
-    version: Version,
+    version: &Version,
     question: &Question,
 ) -> Result<Answer, AskFault>
-    ensures { Answers result (spec.answer_of_text known.now (version_view version) question.now) }
+    ensures { Answers result (spec.answer_of_text known.now (version_view version.now) question.now) }
 {
     let day = question.asked_day(&known.act);
     let on = OnDay::new(alloc, known, question.reading, day)?;
     answer_on_day(alloc, &on, version, question)
 }
 
-/// The answer to a question, from the version that it asks for, or the first rule that it breaks.
+/// The answer to a question, from the version that it asks for, or the first rule that it breaks. The version is lent, so that
+/// who keeps it copies no tree; what provisions say is shared.
 #[tactic(auto, unfolding(law_register::specs::Answer::Answers::answer_on))]
+pub fn answer_lent(
+    alloc: Global,
+    known: &Known,
+    version: &Version,
+    question: &Question,
+) -> Result<Answer, AskFault>
+    requires { version_view version.now
+        ≡ replay_on known.now question.now.reading (spec.asked_day question.now.version known.now.act) }
+    ensures { Answers result (spec.answer_on known.now question.now) }
+{
+    match question.first_rule(known)? {
+        Some(rule) => Err(AskFault::Query(rule)),
+        None => answer_from(alloc, known, version, question),
+    }
+}
+
+/// The same of a version that is let go.
 pub fn answer(
     alloc: Global,
     known: &Known,
@@ -143,10 +163,9 @@ pub fn answer(
         ≡ replay_on known.now question.now.reading (spec.asked_day question.now.version known.now.act) }
     ensures { Answers result (spec.answer_on known.now question.now) }
 {
-    match question.first_rule(known)? {
-        Some(rule) => Err(AskFault::Query(rule)),
-        None => answer_from(alloc, known, version, question),
-    }
+    let told = answer_lent(alloc, known, &version, question);
+    drop(version);
+    told
 }
 
 // The flag of a wId, if the text has it.

@@ -18,7 +18,7 @@ use akn_json::{put_answer, put_query_rule};
 use desk_base::{Day, Memory, Steps};
 use frbr_names::WorkName;
 use law_register::{Answer, AskFault, Known, Question, Reading, Register, Replayer, Version};
-use replay_core::FromEnacted;
+use replay_core::{FromEnacted, answer_lent};
 use std::alloc::Global;
 use std::sync::ledger::Ledger;
 
@@ -57,24 +57,17 @@ fn answer_line(alloc: Global, told: Result<Answer, AskFault>) -> Result<Vec<u8>,
 fn line_of_version(
     alloc: Global,
     known: &Known,
-    version: Version,
+    version: &Version,
     work: &WorkName,
     reading: Reading,
     day: Day,
 ) -> Result<Vec<u8>, Memory>
-    requires { version_view version ≡ replay_on known.now reading day }
+    requires { version_view version.now ≡ replay_on known.now reading day }
     ensures { IfOk result (λ line. line.items ≡ spec.line_on work.now known.now reading day) }
 {
-    match question_on(work, known, reading, day) {
-        Ok(question) => {
-            let told = FromEnacted.answer_of(alloc, known, version, &question);
-            answer_line(alloc, told)
-        }
-        Err(Memory) => {
-            drop(version);
-            Err(Memory)
-        }
-    }
+    let question = question_on(work, known, reading, day)?;
+    let told = answer_lent(alloc, known, version, &question);
+    answer_line(alloc, told)
 }
 
 // The line of what a table gives on a day.
@@ -84,8 +77,7 @@ fn line_of_table(alloc: Global, known: &Known, kept: &Kept, day: Day) -> Result<
         (λ line. line.items ≡ spec.line_on kept.now.work known.now (table_view kept.now.table).reading day) }
 {
     let reading = kept.table.reading();
-    let version = kept.table.at(alloc, day)?;
-    line_of_version(alloc, known, version, &kept.work, reading, day)
+    line_of_version(alloc, known, kept.table.on(day), &kept.work, reading, day)
 }
 
 // The line of what a replay from scratch gives on a day.
@@ -102,7 +94,7 @@ fn line_of_replay<L: Ledger>(
 {
     let reading = kept.table.reading();
     let version = FromEnacted.replay(alloc, known, reading, day, steps)?;
-    line_of_version(alloc, known, version, &kept.work, reading, day)
+    line_of_version(alloc, known, &version, &kept.work, reading, day)
 }
 
 /// The line of what the table that is kept gives on a day.
