@@ -1,4 +1,4 @@
-"""What pages of docs/ show of streams: requests with their responses, and the example of a desk."""
+"""What pages of docs/ show: requests with their responses, and commands of a shell with what they write."""
 import os
 import re
 import shutil
@@ -10,6 +10,9 @@ from messages import batch, check_written
 
 FILTER = re.compile(r"`jq '(.*?)'`", re.DOTALL)
 BLOCK = re.compile(r"^```http\n(.*?)^```$", re.DOTALL | re.MULTILINE)
+# Commands of a shell, and what they write, where a block of text stands right behind them.
+TYPED = re.compile(r"^```(?:sh|bash)\n(.*?)^```$(?:\n\n```text\n(.*?)^```$)?", re.DOTALL | re.MULTILINE)
+CAUSES = re.compile(r"^\| `([A-Za-z]+)` \|", re.MULTILINE)
 REPEATED = re.compile(r"\{(\d+) × (.)\}")
 
 
@@ -37,9 +40,44 @@ def protocol():
 
 
 def desk():
-    """The stream that docs/START.md sends to a desk."""
-    check("the page of the example", b"./lawdesk batch < examples/desk.http\n" in read("docs", "START.md"), True)
-    check_written("the example of a desk", batch(read("examples", "desk.http")), (0, read("examples", "desk.out")))
+    """The streams that docs/START.md sends to a desk."""
+    given, wanted = b"", b""
+    for name in ("desk", "desk.acts"):
+        check(f"the page of {name}", f"./lawdesk batch < examples/{name}.http".encode() in read("docs", "START.md"), True)
+        given, wanted = given + read("examples", name + ".http"), wanted + read("examples", name + ".out")
+        check_written(f"the example {name}", batch(given), (0, wanted))
+
+
+def typed(shell, page):
+    """Types the commands of a page, one block after another in one folder, as a shell takes them. Each block writes what the page shows of it,
+    as lines, and nothing on standard error."""
+    blocks = TYPED.findall(read("docs", page).decode())
+    check(f"blocks of {page}", len(blocks) >= 12, True)
+    with checks.folder() as folder:
+        os.symlink(checks.SCRIPT, os.path.join(folder, "lawdesk"))
+        os.symlink(os.path.join(TOP, "examples"), os.path.join(folder, "examples"))
+        for number, (line, shown) in enumerate(blocks, 1):
+            done = subprocess.run([shell, "-c", line], stdin=subprocess.DEVNULL, capture_output=True, timeout=60, cwd=folder)
+            lines = done.stdout.replace(b"\r\n", b"\n").decode()
+            lines += "\n" * (not lines.endswith("\n") and lines != "")
+            check_written(f"{page}, block {number}", (done.stderr, lines.encode()), (b"", shown.encode()))
+
+
+def start():
+    """docs/START.md, as it is typed."""
+    typed("sh", "START.md")
+
+
+def recipes():
+    """docs/RECIPES.md, as it is typed, and a word for each cause in the filter that it shows."""
+    causes = CAUSES.findall(read("docs", "EDITS.md").decode())
+    words = re.findall(r'^  "([A-Za-z]+)": "', read("examples", "causes.jq").decode(), re.MULTILINE)
+    check("the causes in plain words", (words, len(words)), (causes, 8))
+    missing = [tool for tool in ("bash", "jq", "diff") if not shutil.which(tool)]
+    if missing:
+        checks.skip("docs/RECIPES.md", f"{missing[0]} is not installed")
+        return
+    typed("bash", "RECIPES.md")
 
 
 def filters():
