@@ -319,7 +319,10 @@ def validated():
 def checked_limits(python):
     """The limits: what is answered keeps them, and what rule 6 or rule 15 refuses breaks one, but for what no schema says."""
     fit = [text.decode() for name, text in cases.FITS if is_quick(name, text)] + [text for kind, _, text in examples() if kind == "dossier"]
-    check("the limits of what is answered", [e for e in errors(python, [("limits", text) for text in fit]) if e], [])
+    told = [(line, reply) for rows in register.SESSIONS.values() for line, reply in rows if line.startswith("{") and len(line) < LARGE]
+    fit += [line for line, reply in told if reply.startswith(('{"law"', '{"draft"'))]
+    check("the limits of what is answered or accepted", [e for e in errors(python, [("limits", text) for text in fit]) if e], [])
     rows = [(name, text.decode()) for name, text, line in cases.COMMANDS if b'"rule":6' in line or b'"rule":15' in line]
+    rows += [(line, line) for line, reply in told if '"rule":6' in reply]
     found = errors(python, [("limits", text) for _, text in rows])
     check("what the limits do not show", {name for (name, _), error in zip(rows, found) if error is None}, NO_LIMIT)
