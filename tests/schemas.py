@@ -163,12 +163,13 @@ OPTIONAL = {"numbering", "until", "heading", "content", "refs", "children", "occ
 BROKEN = {
     "type": ["Repeal", "", None, 1], "pos": ["behind", None], "element": ["Section", "sec"], "command": ["repeal", None],
     "place": [-1, 65_536, "1", 1.5], "occurrence": [-1, 65_536], "request": [-1, 2**64, "1"], "item": [-1, 2**32], "seen": [-1, 2**32],
-    "num": ["", "a" * 17, "a b", "\u00e9", 1], "FRBRlanguage": ["en", "ENG", "engl"], "drafter": ["", "Ada", "a" * 33, "a b"],
+    "num": ["", "a" * 17, "a b", "\u00e9", 1], "FRBRlanguage": ["en", "ENG", "engl"], "drafter": ["", "Ada", "a" * 33, "a b", 1],
     "from": ["2011-1-1", "2011-02-29", "0000-01-01", 2011], "until": ["2011-13-01", None], "on": ["20110101"], "date": ["2011-04-31"],
     "FRBRdate": ["1900-02-29"], "FRBRuri": ["/akn/gb/act/2010-02-30/7", "/akn/GB/act/2010/7", "/akn/gb/act/2010"],
-    "href": ["/akn/gb/act/2010", "akn/gb/act/2010/7", None], "work": ["/akn/gb/bill/2010/7"], "id": ["2", "02.1", "2.65536", "4294967296.1"],
+    "href": ["/akn/gb/act/2010", "akn/gb/act/2010/7", None], "work": ["/akn/gb/bill/2010/7", 1], "id": ["2", "02.1", "2.65536", "4294967296.1", 2.1],
     "modification": [1], "wId": [1, None], "content": [None, 1], "old": [1], "heading": [[]], "separator": [0], "second": [1], "child": [1],
-    "act": [[]], "body": [{}], "modifications": [{}], "refs": ["x"], "children": [1], "new": [1, None], "renumber": [{}], "numbering": ["section"],
+    "act": [[]], "body": [{}, [1]], "modifications": [{}, [1]], "refs": ["x", [1], [cases.IRI]], "children": [1, [1]], "new": [1, None, [1]],
+    "renumber": [{}, [1]], "numbering": ["section", ["sec"]],
     "destination": ["sec_1"], "source": [[]], "force": ["2011-01-01"], "days": [[]], "textualMod": [[]], "forceMod": [1], "efficacyMod": ["x"],
 }
 
@@ -223,11 +224,13 @@ ONE_OF = ({"textualMod"}, {"forceMod"}, {"efficacyMod"}, {"wId"}, {"modification
 
 
 def named(error, place, key):
-    """Whether an error is at the key of the object at a place, or at the object and its message names the key."""
+    """Whether an error is at the key of the object at a place or within its value, or at the object and says that the key is wanting or one
+    too many."""
     if error is None:
         return False
     at, message = tuple(error[0]), error[1]
-    return at == (*place, key) or (at == place and repr(key) in message)
+    said = (f"{key!r} is a required property", f"Additional properties are not allowed ({key!r} was unexpected)")
+    return at[:len(place) + 1] == (*place, key) or (at == place and message in said)
 
 
 def interpreter():
@@ -301,7 +304,8 @@ def validated():
         return
     taken = list(examples())
     taken += [("dossier", name, text) for name, text in taken_dossiers()] + [("command", name, text) for name, text in taken_commands()]
-    taken += [("dossier", "a dossier with each key", json.dumps(one)) for one in DOSSIERS] + [("command", "a command", json.dumps(one)) for one in COMMANDS]
+    taken += [("dossier", "a dossier with each key", json.dumps(one)) for one in DOSSIERS]
+    taken += [("command", "a command", json.dumps(one)) for one in COMMANDS]
     taken = list({(kind, text): (kind, name, text) for kind, name, text in taken if is_quick(name, text)}.values())
     for (kind, name, _), error in zip(taken, errors(python, [(kind, text) for kind, _, text in taken])):
         check(f"{name} by the schema of a {kind}", error, None)
