@@ -6,6 +6,7 @@ Their patterns are tried here by Python alone. Whatever needs a validator is giv
 import datetime
 import json
 import os
+import pathlib
 import re
 import subprocess
 import sys
@@ -318,6 +319,25 @@ def validated():
         got = bool(error) and tuple(error[0]) == place if lone else named(error, place, key)
         check(f"{name}: {error}", got, True)
     checked_limits(python)
+    typed(python)
+
+
+def typed(python):
+    """The lines of docs/FORMS.md that call the validator: nothing is written where a dossier and a command have the form."""
+    repeal = os.path.join(TOP, "examples", "repeal.json")
+    with checks.folder() as folder:
+        files = {"right.json": json.dumps(COMMANDS[1]), "wrong.json": json.dumps({**COMMANDS[1], "colour": "red"})}
+        for name, text in files.items():
+            with open(os.path.join(folder, name), "w") as out:
+                out.write(text)
+        base = ["--base-uri", pathlib.Path(TOP, "docs").as_uri() + "/"]
+        rows = [([], repeal, "dossier", True)]
+        rows += [(base, os.path.join(folder, name), "command", name == "right.json") for name in files]
+        for words, file, name, fits in rows:
+            line = [python, "-W", "ignore", "-m", "jsonschema", *words, "-i", file, f"docs/{name}.schema.json"]
+            done = subprocess.run(line, capture_output=True, timeout=60, cwd=TOP)
+            got = done.returncode, done.stdout, b"'colour'" in done.stderr
+            check(f"jsonschema of {os.path.basename(file)}", got, (int(not fits), b"", not fits))
 
 
 def checked_limits(python):
