@@ -20,8 +20,8 @@ import histories
 import register
 import reports
 from cases import node
-from checks import TOP, check, read
-from messages import compact
+from checks import TOP, check, read, run
+from messages import batch, command
 
 # The largest texts take seconds each, so of those with as many bytes only two are given to the validator.
 LARGE = 100_000
@@ -100,6 +100,10 @@ def faulty():
     for line, reply in register.NO_COMMANDS:
         if reply.startswith('{"form"') and "NotJson" not in reply and "TooLong" not in reply:
             yield "command", line[:200], line
+    for text in ("[]", "1", "null", '"act"'):
+        yield "dossier", f"the dossier {text}", text
+        yield "command", f"the command {text}", text
+    yield "dossier", "a modification of two kinds", cases.dossier(mods=[{**cases.repeal(), **cases.force()}]).decode()
 
 
 # Faults of form that a schema can't say: numbers that are whole but are not spelled so, and a day that is not that of the IRI.
@@ -163,8 +167,8 @@ OPTIONAL = {"numbering", "until", "heading", "content", "refs", "children", "occ
 # What a value is changed to under a key, so that its form is broken.
 BROKEN = {
     "type": ["Repeal", "", None, 1], "pos": ["behind", None], "element": ["Section", "sec"], "command": ["repeal", None],
-    "place": [-1, 65_536, "1", 1.5], "occurrence": [-1, 65_536], "request": [-1, 2**64, "1"], "item": [-1, 2**32], "seen": [-1, 2**32],
-    "num": ["", "a" * 17, "a b", "\u00e9", 1], "FRBRlanguage": ["en", "ENG", "engl"], "drafter": ["", "Ada", "a" * 33, "a b", 1],
+    "place": [-1, 65_536, "1", 1.5], "occurrence": [-1, 65_536, "1"], "request": [-1, 2**64, "1"], "item": [-1, 2**32, "1"], "seen": [-1, 2**32, "1"],
+    "num": ["", "a" * 17, "a b", "\u00e9", 1], "FRBRlanguage": ["en", "ENG", "engl", 1], "drafter": ["", "Ada", "a" * 33, "a b", 1],
     "from": ["2011-1-1", "2011-02-29", "0000-01-01", 2011], "until": ["2011-13-01", None], "on": ["20110101"], "date": ["2011-04-31"],
     "FRBRdate": ["1900-02-29"], "FRBRuri": ["/akn/gb/act/2010-02-30/7", "/akn/GB/act/2010/7", "/akn/gb/act/2010"],
     "href": ["/akn/gb/act/2010", "akn/gb/act/2010/7", None], "work": ["/akn/gb/bill/2010/7", 1], "id": ["2", "02.1", "2.65536", "4294967296.1", 2.1],
@@ -232,6 +236,16 @@ def named(error, place, key):
     at, message = tuple(error[0]), error[1]
     said = (f"{key!r} is a required property", f"Additional properties are not allowed ({key!r} was unexpected)")
     return at[:len(place) + 1] == (*place, key) or (at == place and message in said)
+
+
+def refused_here():
+    """What is changed in one place is refused by the program as well: each dossier with 10, and each command as a fault of its form."""
+    for kind, name, text, _, _ in mutated():
+        if kind == "dossier":
+            check(f"{name}, by the program", run(["text", "2011-01-01"], text.encode())[0], 10)
+    lines = [text for kind, _, text, _, _ in mutated() if kind == "command"]
+    status, written = batch(b"".join(command(line) for line in lines))
+    check("changed commands, by the program", (status, written.count(b'"name":"BadForm"'), written.count(b"HTTP/1.1 400 ")), (0, len(lines), len(lines)))
 
 
 def interpreter():
