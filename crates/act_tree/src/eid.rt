@@ -18,6 +18,19 @@ fn push_level(eid: &mut String, element: Element, num: &Num) -> Result<(), Memor
     Ok(())
 }
 
+// How many bytes an eId takes: room that is made at once is not made again and again as the eId grows.
+fn room_for(above: Option<&str>, begun: bool, element: Element, num: &Num) -> usize {
+    let level = element
+        .word()
+        .len()
+        .saturating_add(1)
+        .saturating_add(num.as_bytes().len());
+    match above {
+        Some(above) if !begun => above.len().saturating_add(2).saturating_add(level),
+        _ => level,
+    }
+}
+
 /// The eId of a node below the one of the eId `above`, or right below the root where that is `None`.
 pub fn eid_below(
     alloc: Global,
@@ -28,9 +41,10 @@ pub fn eid_below(
 ) -> Result<Text, Memory>
     ensures { IfOk result (λ t. t ≡ spec.eid_below numbering (option_map (λ s. s.now) above.entry) element num.now) }
 {
-    let mut eid = String::new(alloc);
+    let begun = numbering.has(element);
+    let mut eid = String::with_capacity(alloc, room_for(above, begun, element, num))?;
     if let Some(above) = above
-        && !numbering.has(element)
+        && !begun
     {
         eid.push_str(above)?;
         eid.push_str("__")?;

@@ -3,7 +3,7 @@
 ghost use Rattle.std.specs.Prelude.{◌≡◌, [], ◌∷◌, true, OnOk, IfOk};
 ghost use Rattle.std.specs.List.{All};
 ghost use Rattle.act_tree.specs.EidLevels.{own_level};
-ghost use Rattle.act_tree.specs.LevelsOfNodes.{begun_at, levels_at, own_begun};
+ghost use Rattle.act_tree.specs.LevelsOfNodes.{levels_at};
 ghost use Rattle.act_tree.specs.Seen.{has_node};
 ghost use Rattle.act_tree.specs.Surveys.{gathered, repeats};
 ghost use Rattle.act_tree.specs.Slots.{provision_of};
@@ -11,10 +11,10 @@ ghost use Rattle.act_tree.specs.Wids.{is_among, one_twice};
 ghost use Rattle.eid_paths.specs.Levels.{level_text};
 ghost use Rattle.std.specs.Str.{bytes_eq};
 
-use crate::arena::Slot;
+use crate::arena::{Arena, Slot};
 use crate::{NodeId, Tree, eid_below};
 use desk_base::{Memory, Text};
-use eid_paths::{Element, Num};
+use eid_paths::{Element, Num, Numbering};
 use indexmap::IndexSet;
 use std::alloc::Global;
 
@@ -63,38 +63,6 @@ fn is_level(slot: &Slot, element: Element, num: &Num) -> bool
     slot.element == element && same
 }
 
-// Whether a node begins an eId by this level; `top` says that it is a child of the root.
-fn begins_at(tree: &Tree, top: bool, element: Element, num: &Num, id: NodeId) -> bool
-    requires { has_node tree.now id ≡ true }
-    ensures { result ≡ is_among (level_text element num.now) (own_begun tree.now top id) }
-{
-    let slot = tree.slot(id);
-    if top || tree.numbering().has(slot.element) {
-        is_level(slot, element, num)
-    } else {
-        false
-    }
-}
-
-/// Whether one of these nodes, or of those beneath them, begins an eId by this level; `top` says that they are the
-/// children of the root.
-pub fn begins(tree: &Tree, top: bool, element: Element, num: &Num, ids: &[NodeId]) -> bool
-    requires { All (λ id. has_node tree.now id ≡ true) ids.now }
-    ensures { result ≡ is_among (level_text element num.now) (begun_at tree.now top ids.now) }
-{
-    for id in ids {
-        let here = begins_at(tree, top, element, num, *id);
-        if here {
-            return true;
-        }
-        let beneath = begins(tree, false, element, num, tree.children(*id));
-        if beneath {
-            return true;
-        }
-    }
-    false
-}
-
 // Whether a node begins no eId and has this level, as a provision that is no child of the root.
 fn goes_on_at(tree: &Tree, element: Element, num: &Num, id: NodeId) -> bool
     requires { has_node tree.now id ≡ true }
@@ -120,4 +88,39 @@ pub fn goes_on(tree: &Tree, element: Element, num: &Num, ids: &[NodeId]) -> bool
         }
     }
     false
+}
+
+impl Arena {
+    ghost use Rattle.std.specs.Prelude.{ℕ, ◌<◌, ◌≤◌, ◌^◌};
+    ghost use Rattle.act_tree.specs.LevelsOfNodes.{begins_by, begins_before};
+    ghost use Rattle.act_tree.specs.Slots.{at, size};
+
+    // Whether a number is that of a provision of the text that begins an eId by this level.
+    fn begins_at(&self, numbering: Numbering, element: Element, num: &Num, place: usize) -> bool
+        requires within { place < size self.now }
+        requires fits { size self.now ≤ 2 ^ 32 }
+        ensures { result ≡ begins_by numbering (at self.now) (size self.now) (level_text element num.now) place }
+    {
+        let slot = &self.slots[place];
+        if !is_level(slot, element, num) {
+            return false;
+        }
+        let begins = slot.above.place() == 0 || numbering.has(slot.element);
+        let id = NodeId::of_place(place).unwrap();
+        begins && place != 0 && self.climbs(id)
+    }
+
+    /// Whether a provision of the text begins an eId by this level. What is laid down is searched from the first number
+    /// to the last, and the way up is gone only from a provision of the level.
+    pub fn begins(&self, numbering: Numbering, element: Element, num: &Num) -> bool
+        requires { size self.now ≤ 2 ^ 32 }
+        ensures { result ≡ begins_before numbering (at self.now) (size self.now) (level_text element num.now) (size self.now) }
+    {
+        for place in 0..self.slots.len() {
+            if self.begins_at(numbering, element, num, place) {
+                return true;
+            }
+        }
+        false
+    }
 }

@@ -10,7 +10,7 @@ use crate::arena::{Arena, Slot};
 use crate::eids::eid_of_number;
 use crate::grafting::{bringer, place_in};
 use crate::laying::plant;
-use crate::levels::{are_alike, begins, goes_on};
+use crate::levels::{are_alike, goes_on};
 use crate::survey::Survey;
 use crate::surveying::fault_of;
 use crate::walks::{count, find_eid, survey};
@@ -322,6 +322,14 @@ impl Tree {
         Ok(found)
     }
 
+    /// How many provisions were laid down, the root and those that were taken away included: each node's number is less.
+    /// Nothing is counted for it.
+    pub fn laid_down(&self) -> usize
+        ensures { (k : ℕ) → has_node self.now k ≡ true → k < result }
+    {
+        self.arena.slots.len()
+    }
+
     /// How many nodes there are, the root not counted. The number stands still at 2^32 - 1.
     pub fn count(&self) -> u32
         ensures { result ≡ min (counts (tree_view self.now).body) (2 ^ 32 - 1) }
@@ -342,12 +350,12 @@ impl Tree {
         Ok(alike)
     }
 
-    /// Whether a node begins an eId by this level: it is a child of the root, or its element is numbered throughout. The
-    /// nodes are searched, and no eId is spelled.
+    /// Whether a node begins an eId by this level: it is a child of the root, or its element is numbered throughout. What
+    /// is laid down is searched in one pass, and no eId is spelled.
     pub fn has_level(&self, element: Element, num: &Num) -> bool
         ensures { result ≡ is_among (level_text element num.now) (levels_begun (tree_view self.now)) }
     {
-        begins(self, true, element, num, self.children(self.root()))
+        self.arena.begins(self.numbering, element, num)
     }
 
     /// Whether a child of a node that is not the root has this level, and begins no eId by it.

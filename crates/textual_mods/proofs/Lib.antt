@@ -2,6 +2,7 @@ pub mod ApartNums
 pub mod Behind
 pub mod Contents
 pub mod EitherOrder
+pub mod FewNodes
 pub mod Finding
 pub mod Held
 pub mod InsertedTrees

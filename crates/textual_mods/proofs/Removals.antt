@@ -42,7 +42,7 @@ mutual
   count_inside : (w : List ℕ) (b : Branch Provision) → count (owns (inside_without w b)) ≤ count (owns b)
   count_inside w (branch p below) = omega (arith, counts_less w below)
 
-  counts_less : (w : List ℕ) (bs : Branches Provision) → counts (all_owns (without w bs)) ≤ counts (all_owns bs)
+  pub counts_less : (w : List ℕ) (bs : Branches Provision) → counts (all_owns (without w bs)) ≤ counts (all_owns bs)
   counts_less w no_branches = omega arith
   counts_less w (more_branches b bs) =
       cond_both (has_wid w b) (without w bs) (more_branches (inside_without w b) (without w bs)) (λ r. counts (all_owns r) ≤ counts (all_owns (more_branches b bs)))

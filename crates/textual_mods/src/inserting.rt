@@ -16,7 +16,7 @@ ghost use Rattle.textual_mods.specs.Substitutions.{bringing_fault, left_below, t
 use crate::Outcome;
 use crate::brought::{begin_again, count_of_all, go_on_again, height_of_all, nums_are_kept};
 use crate::held_back::{held_back, or_step};
-use crate::staying::{count_left, height_left};
+use crate::staying::{are_too_many, height_left};
 use act_tree::{BuildFault, NodeId, Nodes, Tree, fault_of};
 use desk_base::{Id, Memory, Steps};
 use eid_paths::{Element, Num};
@@ -131,7 +131,7 @@ pub fn fault_of_split(
     if is_level_taken(tree, parent, element, num) {
         return Some(BuildFault::EidTwice);
     }
-    if tree.count().saturating_add(1) > 4096 {
+    if are_too_many(tree, &None, 1) {
         return Some(BuildFault::TooManyNodes);
     }
     if long {
@@ -164,7 +164,7 @@ pub fn fault_of_bringing(
     if is_too_deep(tree, gone, parent, new) {
         return Ok(Some(BuildFault::TooDeep));
     }
-    if count_left(tree, gone).saturating_add(count_of_all(new)) > 4096 {
+    if are_too_many(tree, gone, count_of_all(new)) {
         return Ok(Some(BuildFault::TooManyNodes));
     }
     Ok(None)

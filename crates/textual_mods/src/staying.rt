@@ -1,7 +1,7 @@
 //! What is left of a tree where a node goes, or none: its levels, its height and its number of nodes. Nothing is taken
 //! away for it, and no eId is spelled.
 
-ghost use Rattle.std.specs.Prelude.{◌≡◌, ◌+◌, ◌-◌, ◌^◌, ◌&&◌, map, max, min, not, true, IfSome, if◌then◌else◌};
+ghost use Rattle.std.specs.Prelude.{◌≡◌, ◌+◌, ◌-◌, ◌^◌, ◌&&◌, map, max, min, not, nat_lt, true, IfSome, if◌then◌else◌};
 ghost use Rattle.std.specs.List.{All};
 ghost use Rattle.std.specs.Str.{bytes_eq};
 ghost use Rattle.act_tree.specs.Branches.{branches_of, counts, no_branches};
@@ -107,7 +107,10 @@ pub fn has_level_left(tree: &Tree, gone: &Option<NodeId>, element: Element, num:
     ensures { result ≡ is_among (level_text element num.now)
         (all_beginning (tree_view tree.now).numbering true (all_owns (text_left tree.now gone.now))) }
 {
-    begin_left(tree, gone, true, element, num, tree.children(tree.root()))
+    match gone {
+        Some(_) => begin_left(tree, gone, true, element, num, tree.children(tree.root())),
+        None => tree.has_level(element, num),
+    }
 }
 
 // Whether a node is left, begins no eId and has this level, where it is no child of the root.
@@ -198,12 +201,27 @@ fn count_of_left(tree: &Tree, gone: &Option<NodeId>, ids: &[NodeId]) -> u32
     total
 }
 
-/// How many nodes are left. The number stands still at 2^32 - 1.
-pub fn count_left(tree: &Tree, gone: &Option<NodeId>) -> u32
+// How many nodes are left. The number stands still at 2^32 - 1.
+fn count_left(tree: &Tree, gone: &Option<NodeId>) -> u32
     requires { IfSome gone.now (λ other. has_node tree.now other ≡ true) }
     ensures { result ≡ min (counts (text_left tree.now gone.now)) (2 ^ 32 - 1) }
 {
-    count_of_left(tree, gone, tree.children(tree.root()))
+    match gone {
+        Some(_) => count_of_left(tree, gone, tree.children(tree.root())),
+        None => tree.count(),
+    }
+}
+
+/// Whether those that are left and so many others are more than 4,096 nodes. They are counted only where so many were
+/// laid down that they might be.
+pub fn are_too_many(tree: &Tree, gone: &Option<NodeId>, others: u32) -> bool
+    requires { IfSome gone.now (λ other. has_node tree.now other ≡ true) }
+    ensures { result ≡ nat_lt 4096 (counts (text_left tree.now gone.now) + others) }
+{
+    if tree.laid_down().saturating_add(others as usize) <= 4096 {
+        return false;
+    }
+    count_left(tree, gone).saturating_add(others) > 4096
 }
 
 // The height of a node that is left, by that of what is put beneath it and of what is left there.

@@ -10,8 +10,8 @@ use Rattle.act_tree.proofs.Walking.{body_is}
 use Rattle.textual_mods.specs.Substitutions.{left, wid_of}
 use Rattle.textual_mods.proofs.staying.has_level_left.Goals as goal
 
-pub returns : goal.returns
-returns c =
+pub returns-in-Some : goal.returns-in-Some
+returns-in-Some c =
     let t = c.args.tree.now in
     let body : branches_of (map (branch_at t) c.children.result.now) ≡ (tree_view t).body = c.children.ensures.branches ∙ ap (below_at t) c.root.ensures.root ∙ sym (body_is t) in
     c.begin_left.ensures

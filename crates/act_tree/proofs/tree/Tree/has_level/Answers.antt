@@ -1,14 +1,16 @@
-use Rattle.std.proofs.Common.{◌∙◌, sym, ap, true}
+use Rattle.std.proofs.Common.{◌∙◌}
 use Rattle.eid_paths.specs.Levels.{level_text}
-use Rattle.act_tree.specs.EidLevels.{all_beginning}
-use Rattle.act_tree.specs.Faults.{all_owns}
-use Rattle.act_tree.specs.Seen.{tree_view, below_at}
-use Rattle.act_tree.specs.Wids.{is_among}
-use Rattle.act_tree.proofs.Walking.{body_is}
+use Rattle.act_tree.specs.Seen.{tree_view}
+use Rattle.act_tree.specs.Slots.{at, number, size}
+use Rattle.act_tree.proofs.LaidDown.{laid_within}
+use Rattle.act_tree.proofs.LevelsBegun.{decided}
 use Rattle.act_tree.proofs.tree.Tree.has_level.Goals as goal
 
 pub returns : goal.returns
+unfolding tree_view
 returns c =
-    c.begins.ensures
-    ∙ ap (λ bs. is_among (level_text c.args.element c.args.num.now) (all_beginning (tree_view c.args.self.now).numbering true (all_owns bs)))
-    (c.children.ensures.branches ∙ ap (below_at c.args.self.now) c.root.ensures.root ∙ sym (body_is c.args.self.now))
+    let t = c.args.self.now in
+    c.begins.ensures ∙ decided t.numbering (at t.arena) (number t.arena) (size t.arena) t.whole (level_text c.args.element c.args.num.now) (laid_within t.arena.slots.items)
+
+pub begins-requires : goal.begins-requires
+begins-requires c = c.args.self.now.whole.fits
