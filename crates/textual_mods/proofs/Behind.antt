@@ -4,8 +4,6 @@ use Rattle.std.specs.List.{list_any}
 use Rattle.std.proofs.lemmas.List.Folds.{list_any-append}
 use Rattle.desk_base.specs.declared.id.Id.{Id}
 use Rattle.eid_paths.specs.declared.element.Element.{Element}
-use Rattle.eid_paths.specs.declared.element.Element.TheVariants.{Article, Section, Chapter, Paragraph, Subparagraph, Subsection, Clause, Subclause, Alinea, Part, Title, Book, Point, Indent}
-use Rattle.eid_paths.specs.Elements.{is_throughout}
 use Rattle.eid_paths.specs.Levels.{level_text}
 use Rattle.act_tree.specs.declared.surveying.TheConstants.{NONE_THROUGHOUT}
 use Rattle.act_tree.specs.Branches.{Branch, Branches, branch, no_branches, more_branches}
@@ -13,6 +11,7 @@ use Rattle.act_tree.specs.Brought.{bringer, brought}
 use Rattle.act_tree.specs.Eids.{eid_below, enacted, all_enacted}
 use Rattle.act_tree.specs.Provisions.{Own, Provision}
 use Rattle.act_tree.specs.Wids.{wids, all_wids}
+use Rattle.act_tree.proofs.BroughtWids.{none_throughout}
 
 -- it holds of each wId
 abbrev mutual
@@ -26,22 +25,6 @@ abbrev mutual
 -- a text stands behind a name and `__`
 abbrev pub IsBehind : List ℕ → List ℕ → Type 0
 IsBehind name w = (rest : List ℕ) × (w ≡ name ++ 95 ∷ 95 ∷ rest)
-
-none_throughout : (e : Element) → is_throughout NONE_THROUGHOUT e ≡ false
-none_throughout Article = refl
-none_throughout Section = refl
-none_throughout Chapter = refl
-none_throughout Paragraph = refl
-none_throughout Subparagraph = refl
-none_throughout Subsection = refl
-none_throughout Clause = refl
-none_throughout Subclause = refl
-none_throughout Alinea = refl
-none_throughout Part = refl
-none_throughout Title = refl
-none_throughout Book = refl
-none_throughout Point = refl
-none_throughout Indent = refl
 
 below_it : (above : List ℕ) (e : Element) (num : List ℕ) → eid_below NONE_THROUGHOUT (Some above) e num ≡ above ++ 95 ∷ 95 ∷ level_text e num
 below_it above e num = ap (λ t. cond t (level_text e num) (above ++ 95 ∷ 95 ∷ level_text e num)) (none_throughout e)

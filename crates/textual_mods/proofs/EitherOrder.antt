@@ -1,9 +1,9 @@
--- Two edits that name provisions that stand apart give one text in either order.
-use Rattle.std.proofs.Common.{◌≡◌, ◌∙◌, sym, ap, refl, ℕ, Bool, true, false, cond, ◌&&◌, List, [], ◌∷◌, Option, Some, None, option_map, ◌⊎◌, inl, inr}
+-- Two edits of which neither touches anything that the other touches give one text in either order.
+use Rattle.std.proofs.Common.{◌≡◌, ◌∙◌, sym, ap, refl, ℕ, Bool, true, false, cond, ◌||◌, ◌&&◌, List, [], ◌∷◌, Option, Some, None, option_map, ◌⊎◌, inl, inr}
 use Rattle.std.specs.Prelude.{is_some, Ok, Err}
 use Rattle.std.specs.List.{list_all}
 use Rattle.std.specs.Str.{bytes_eq}
-use Rattle.std.proofs.lemmas.Bool.{cases_Bool, or_cases}
+use Rattle.std.proofs.lemmas.Bool.{and_parts, or_cases}
 use Rattle.desk_base.specs.declared.id.Id.{Id}
 use Rattle.act_tree.specs.Branches.{Branch, Branches, branch, no_branches, more_branches}
 use Rattle.act_tree.specs.Brought.{has_brought}
@@ -11,103 +11,116 @@ use Rattle.act_tree.specs.Changes.{Step, has_wid, holds, any_holds, changed, joi
 use Rattle.act_tree.specs.Provisions.{Provision}
 use Rattle.act_tree.specs.Wids.{all_wids, is_among, one_twice}
 use Rattle.act_tree.specs.declared.cause.Cause.TheVariants.{TargetMissing, AnchorMissing}
-use Rattle.act_tree.proofs.Frames.{or_left, or_right, none_left}
+use Rattle.act_tree.proofs.Frames.{or_left, or_right, none_left, none_right}
 use Rattle.act_tree.proofs.Renumbering.{none_renumbered}
 use Rattle.act_tree.proofs.Texts.{same_text, equal_text}
 use Rattle.textual_mods.specs.Edits.{edited}
-use Rattle.textual_mods.specs.Laws.{named_by, stand_apart, edits_apart, LooksAtNoSibling, made_of}
+use Rattle.textual_mods.specs.Laws.{named_by, stand_apart, edits_apart, Touch, a_content, a_num, all_beneath, touch_of, takes_in, are_unmixed, touch_apart, LooksAtNoSibling, made_of}
 use Rattle.textual_mods.specs.Renumberings.{nums_given}
 use Rattle.textual_mods.specs.Targets.{provision_named}
 use Rattle.textual_mods.specs.TextEdits.{with_spot, with_text}
 use Rattle.textual_mods.specs.declared.edit.TextualMod.{TextualMod}
 use Rattle.textual_mods.specs.declared.edit.TextualMod.TheVariants.{Repeal, SubstituteNodes, SubstituteText, InsertNodes, InsertText, Renumber, Split, Join}
-use Rattle.textual_mods.proofs.ApartNums.{wids_of, num_kept_inside, nums_swapped, found_renumbered, next_renumbered, nums_both}
-use Rattle.textual_mods.proofs.Held.{IsAlone, it_alone, IsNamed, named_as, is_held, IsOff, is_off, off_back}
+use Rattle.textual_mods.proofs.Held.{IsAlone, it_alone, IsNamed, named_as, is_held, IsOff, is_off, off_back, apart_unmixed}
 use Rattle.textual_mods.proofs.JoinChange.{join_change}
-use Rattle.textual_mods.proofs.OneChange.{IsClear, ReadsSame, IsFree, IsChange, repeal_change, substitution_change, text_change, insertion_change, split_change}
+use Rattle.textual_mods.proofs.OneChange.{IsClear, ReadsSame, IsFree, IsChange, repeal_change, substitution_change, insertion_change, split_change}
 use Rattle.textual_mods.proofs.OnePlace.{first_found, one_place}
+use Rattle.textual_mods.proofs.OneRestating.{IsRestating, AreSaid, first_of_them, text_restating, nums_restating, content_still, gives_both}
 use Rattle.textual_mods.proofs.Readers.{found_reads, next_reads, read_still}
-use Rattle.textual_mods.proofs.RenumberedBack.{still_named}
+use Rattle.textual_mods.proofs.Restating.{inside_restated, restated, restated_both, found_restated, next_restated, kept_inside, restated_swapped}
+use Rattle.textual_mods.proofs.Said.{bare, content_of, said, said_content, said_some, said_still}
 use Rattle.textual_mods.proofs.Swapping.{always_followed, IsApart, swapped}
 
--- what an edit does: one change, or other nums
+-- what an edit does: one change, or other contents and nums
 pub data IsForm (by : Id) (edit : TextualMod) (body : Branches Provision) : Type 0 where
-  one_change : IsChange by edit body → IsForm by edit body
-  other_nums : (pairs : List (List ℕ × List ℕ)) → ((other : Branches Provision) → edited by edit other ≡ nums_given pairs other) → named_by edit ≡ wids_of pairs → IsForm by edit body
+  one_change : touch_of edit ≡ all_beneath → IsChange by edit body → IsForm by edit body
+  other_texts : IsRestating by edit body → IsForm by edit body
 
 -- what an edit names is there
 abbrev AreNamed : TextualMod → Branches Provision → Type 0
 AreNamed edit body = (v : List ℕ) → is_among v (named_by edit) ≡ true → (b : Branch Provision) × IsNamed v body b
 
-first_of_them : (w : List ℕ) (ws : List (List ℕ)) → is_among w (w ∷ ws) ≡ true
-first_of_them w ws = or_left _ _ (equal_text w w refl)
-
 form_of : (by : Id) (edit : TextualMod) (body x : Branches Provision) → one_twice (all_wids body) ≡ false → has_brought by body ≡ false → AreNamed edit body → edited by edit body ≡ Ok x → IsForm by edit body
 form_of by (Repeal w) body x once fresh named made = of_it (named w (first_of_them w []))
   where
     of_it : (b : Branch Provision) × IsNamed w body b → IsForm by (Repeal w) body
-    of_it (branch p under, is) = one_change (repeal_change by body fresh w p under is)
+    of_it (branch p under, is) = one_change refl (repeal_change by body fresh w p under is)
 form_of by (SubstituteNodes w new) body x once fresh named made = of_it (named w (first_of_them w []))
   where
     of_it : (b : Branch Provision) × IsNamed w body b → IsForm by (SubstituteNodes w new) body
-    of_it (branch p under, is) = one_change (substitution_change by body fresh w p under is new)
+    of_it (branch p under, is) = one_change refl (substitution_change by body fresh w p under is new)
 form_of by (SubstituteText w spot new) body x once fresh named made = of_it (named w (first_of_them w []))
   where
     of_it : (b : Branch Provision) × IsNamed w body b → IsForm by (SubstituteText w spot new) body
-    of_it (branch p under, is) = one_change (text_change by body fresh w p under is TargetMissing (with_spot spot new) (SubstituteText w spot new) refl (λ other. refl) x made)
+    of_it (branch p under, is) = other_texts (text_restating by (SubstituteText w spot new) body w p under is TargetMissing (with_spot spot new) refl refl (λ other. refl) x made)
 form_of by (InsertNodes w pos new) body x once fresh named made = of_it (named w (first_of_them w []))
   where
     of_it : (b : Branch Provision) × IsNamed w body b → IsForm by (InsertNodes w pos new) body
-    of_it (branch p under, is) = one_change (insertion_change by body fresh w p under is pos new)
+    of_it (branch p under, is) = one_change refl (insertion_change by body fresh w p under is pos new)
 form_of by (InsertText w at new) body x once fresh named made = of_it (named w (first_of_them w []))
   where
     of_it : (b : Branch Provision) × IsNamed w body b → IsForm by (InsertText w at new) body
-    of_it (branch p under, is) = one_change (text_change by body fresh w p under is AnchorMissing (with_text at new) (InsertText w at new) refl (λ other. refl) x made)
-form_of by (Renumber pairs) body x once fresh named made = other_nums pairs (λ other. refl) refl
+    of_it (branch p under, is) = other_texts (text_restating by (InsertText w at new) body w p under is AnchorMissing (with_text at new) refl refl (λ other. refl) x made)
+form_of by (Renumber pairs) body x once fresh named made = other_texts (nums_restating by pairs body named)
 form_of by (Split w at num heading) body x once fresh named made = of_it (named w (first_of_them w []))
   where
     of_it : (b : Branch Provision) × IsNamed w body b → IsForm by (Split w at num heading) body
-    of_it (branch p under, is) = one_change (split_change by body fresh w p under is at num heading x made)
+    of_it (branch p under, is) = one_change refl (split_change by body fresh w p under is at num heading x made)
 form_of by (Join w second separator) body x once fresh named made = of_it (named w (first_of_them w (second ∷ []))) (named second (or_right (bytes_eq second w) _ (first_of_them second [])))
   where
     of_it : (b : Branch Provision) × IsNamed w body b → (c : Branch Provision) × IsNamed second body c → IsForm by (Join w second separator) body
-    of_it (branch p under, is) (c, second_is) = one_change (join_change by body once w second separator p under c is second_is x made)
+    of_it (branch p under, is) (c, second_is) = one_change refl (join_change by body once w second separator p under c is second_is x made)
 
--- each provision that one names stands apart from each that the other names
+-- of none of the provisions that one names anything is touched that the other touches
 abbrev pub AreOff : Branches Provision → TextualMod → TextualMod → Type 0
-AreOff body one other = (v u : List ℕ) → is_among v (named_by one) ≡ true → is_among u (named_by other) ≡ true → IsOff body v u
+AreOff body one other = (v u : List ℕ) → is_among v (named_by one) ≡ true → is_among u (named_by other) ≡ true → IsOff (touch_of one) (touch_of other) body v u
 
 all_of_them : (test : List ℕ → Bool) (ws : List (List ℕ)) → list_all test ws ≡ true → (w : List ℕ) → is_among w ws ≡ true → test w ≡ true
 all_of_them test [] all w found = absurd cc
 all_of_them test (v ∷ ws) all w found =
-    let t = both_true (test v) (list_all test ws) all in
+    let t = and_parts (test v) (list_all test ws) all in
     elim (or_cases (bytes_eq w v) (is_among w ws) found) [
       | inl same ↦ ap test (same_text w v same) ∙ t.0
       | inr later ↦ all_of_them test ws t.1 w later
     ]
-  where
-    both_true : (s t : Bool) → (s && t) ≡ true → (s ≡ true) × (t ≡ true)
-    both_true true t both = (refl, both)
-    both_true false t both = absurd cc
 
-are_off : (body : Branches Provision) (one other : TextualMod) → one_twice (all_wids body) ≡ false → edits_apart body one other ≡ true → AreOff body one other
+all_weaker : (test weaker : List ℕ → Bool) → ((w : List ℕ) → test w ≡ true → weaker w ≡ true) → (ws : List (List ℕ)) → list_all test ws ≡ true → list_all weaker ws ≡ true
+all_weaker test weaker less [] all = refl
+all_weaker test weaker less (w ∷ ws) all =
+    let t = and_parts (test w) (list_all test ws) all in
+    ap (λ s. s && list_all weaker ws) (less w t.0) ∙ all_weaker test weaker less ws t.1
+
+abbrev unmixed : Branches Provision → TextualMod → TextualMod → List ℕ → List ℕ → Bool
+unmixed body one other v w = are_unmixed (touch_of one) (touch_of other) (provision_named v body) (provision_named w body)
+
+-- edits of provisions that stand apart touch nothing together
+pub apart_touch : (body : Branches Provision) (one other : TextualMod) → edits_apart body one other ≡ true → touch_apart body one other ≡ true
+apart_touch body one other told =
+    all_weaker (λ v. list_all (stand_apart body v) (named_by other)) (λ v. list_all (unmixed body one other v) (named_by other))
+    (λ v all. all_weaker (stand_apart body v) (unmixed body one other v) (λ w apart. apart_unmixed (touch_of one) (touch_of other) (provision_named v body) (provision_named w body) apart) (named_by other) all) (named_by one) told
+
+are_off : (body : Branches Provision) (one other : TextualMod) → one_twice (all_wids body) ≡ false → touch_apart body one other ≡ true → AreOff body one other
 are_off body one other once told v u named other_named =
-    is_off body v u once (all_of_them (stand_apart body v) (named_by other) (all_of_them (λ x. list_all (stand_apart body x) (named_by other)) (named_by one) told v named) u other_named)
+    is_off (touch_of one) (touch_of other) body v u once (all_of_them (unmixed body one other v) (named_by other) (all_of_them (λ x. list_all (unmixed body one other x) (named_by other)) (named_by one) told v named) u other_named)
 
 off_too : (body : Branches Provision) (one other : TextualMod) → AreOff body one other → AreOff body other one
-off_too body one other off v u named other_named = off_back body u v (off u v other_named named)
+off_too body one other off v u named other_named = off_back (touch_of one) (touch_of other) body u v (off u v other_named named)
+
+-- where all is touched that stands beneath a provision, nothing of the other stands there
+none_beneath : (t s : Touch) (b : Branch Provision) (w : List ℕ) → t ≡ all_beneath → takes_in t s b w ≡ false → holds w b ≡ false
+none_beneath t s b w whole none = ap (λ x. takes_in x s b w) (sym whole) ∙ none
 
 -- a wId that another edit names is clear of an edit
-clear_of : (body : Branches Provision) (one other : TextualMod) → AreOff body one other → (v u : List ℕ) → is_among v (named_by one) ≡ true → is_among u (named_by other) ≡ true → IsClear one body u
-clear_of body one other off v u named other_named =
-    let place : IsOff body v u = off v u named other_named in
+clear_of : (body : Branches Provision) (one other : TextualMod) → AreOff body one other → touch_of one ≡ all_beneath → (v u : List ℕ) → is_among v (named_by one) ≡ true → is_among u (named_by other) ≡ true → IsClear one body u
+clear_of body one other off whole v u named other_named =
+    let place : IsOff (touch_of one) (touch_of other) body v u = off v u named other_named in
     record {
       there = is_held u body place.other place.other_named.found_is;
       not_in = λ w b w_named is.
-          let there : IsOff body w u = off w u w_named other_named in
+          let there : IsOff (touch_of one) (touch_of other) body w u = off w u w_named other_named in
           let same : Some b ≡ Some there.one = sym is ∙ there.one_named.found_is in
           let same_branch : b ≡ there.one = cc in
-          ap (holds u) same_branch ∙ there.not_in_one;
+          ap (holds u) same_branch ∙ none_beneath (touch_of one) (touch_of other) there.one u whole there.not_in_one;
     }
 
 -- a change, as it stands to a wId that is clear of it
@@ -148,25 +161,29 @@ pub record IsSwapped (by other : Id) (one two : TextualMod) (x u : Branches Prov
   pub second : edited other two x ≡ Ok both
   pub first : edited by one u ≡ Ok both
 
+-- something is given at a wId
+abbrev given_by : List (List ℕ) → List (List ℕ) → List ℕ → Bool
+given_by contents nums w = is_among w contents || is_among w nums
+
 module _ (body : Branches Provision) (once : one_twice (all_wids body) ≡ false) where
-  -- what an edit reads is the same after a change of another that stands apart
-  reads_still : (by other : Id) (one two : TextualMod) → AreOff body one two → (c : IsChange by one body) (d : IsChange other two body)
+  -- what an edit reads is the same after a change of another
+  reads_still : (by other : Id) (one two : TextualMod) → AreOff body one two → touch_of one ≡ all_beneath → touch_of two ≡ all_beneath → (c : IsChange by one body) (d : IsChange other two body)
       → ReadsSame two d.near body (changed c.step c.place body) d.place
-  reads_still by other one two off c d =
+  reads_still by other one two off whole other_whole c d =
       record {
         same = λ u named.
-            let place : IsOff body c.place u = off c.place u c.named named in
-            let back : holds c.place place.other ≡ false = place.not_in_other in
+            let place : IsOff (touch_of one) (touch_of two) body c.place u = off c.place u c.named named in
+            let back : holds c.place place.other ≡ false = none_beneath (touch_of two) (touch_of one) place.other c.place other_whole place.not_in_other in
             read_still (found u) u (found_reads u) c.step c.place place.other c.at no_branches c.near c.made
             (found_steady u place.other (of_wid u body place.other once place.other_named.found_is)) back refl body
             (one_place u place.other body once place.other_named.found_is) (always_followed u body)
-            (apart_from by body once one c u (clear_of body one two off c.place u c.named named));
+            (apart_from by body once one c u (clear_of body one two off whole c.place u c.named named));
         next = λ b rest is.
-            let free : IsFree c.place d.at d.near d.made = d.free c.place (clear_of body two one (off_too body one two off) d.place c.place d.named c.named) in
+            let free : IsFree c.place d.at d.near d.made = d.free c.place (clear_of body two one (off_too body one two off) other_whole d.place c.place d.named c.named) in
             read_still (next_of d.place) d.place (next_reads d.place) c.step c.place d.at c.at d.near c.near c.made
             (next_steady d.place d.at b d.near rest (of_wid d.place body d.at once d.found_is) is) free.not_in free.not_near body
             (one_place d.place d.at body once d.found_is) d.followed
-            (apart_from by body once one c d.place (clear_of body one two off c.place d.place c.named d.named));
+            (apart_from by body once one c d.place (clear_of body one two off whole c.place d.place c.named d.named));
       }
 
   reads_itself : (edit : TextualMod) (near : Branches Provision) (v : List ℕ) → ReadsSame edit near body body v
@@ -177,116 +194,129 @@ module _ (body : Branches Provision) (once : one_twice (all_wids body) ≡ false
       let same : Ok (changed c.step c.place body) ≡ Ok x = sym (c.is body (reads_itself edit c.near c.place)) ∙ made in
       cc
 
-  changes_swapped : (by other : Id) (one two : TextualMod) → AreOff body one two → IsChange by one body → IsChange other two body → (x u : Branches Provision) → edited by one body ≡ Ok x → edited other two body ≡ Ok u
-      → IsSwapped by other one two x u
-  changes_swapped by other one two off c d x u made other_made =
+  changes_swapped : (by other : Id) (one two : TextualMod) → AreOff body one two → touch_of one ≡ all_beneath → touch_of two ≡ all_beneath → IsChange by one body → IsChange other two body
+      → (x u : Branches Provision) → edited by one body ≡ Ok x → edited other two body ≡ Ok u → IsSwapped by other one two x u
+  changes_swapped by other one two off whole other_whole c d x u made other_made =
       let x_is : changed c.step c.place body ≡ x = result_is by one c x made in
       let u_is : changed d.step d.place body ≡ u = result_is other two d u other_made in
       record {
         both = changed d.step d.place (changed c.step c.place body);
-        second = ap (edited other two) (sym x_is) ∙ d.is (changed c.step c.place body) (reads_still by other one two off c d);
+        second = ap (edited other two) (sym x_is) ∙ d.is (changed c.step c.place body) (reads_still by other one two off whole other_whole c d);
         first =
-            ap (edited by one) (sym u_is) ∙ c.is (changed d.step d.place body) (reads_still other by two one (off_too body one two off) d c)
+            ap (edited by one) (sym u_is) ∙ c.is (changed d.step d.place body) (reads_still other by two one (off_too body one two off) other_whole whole d c)
             ∙ ap Ok (swapped c.step d.step c.place d.place c.at d.at c.near c.made d.near d.made body
-            (apart_from by body once one c d.place (clear_of body one two off c.place d.place c.named d.named))
-            (apart_from other body once two d c.place (clear_of body two one (off_too body one two off) d.place c.place d.named c.named)));
+            (apart_from by body once one c d.place (clear_of body one two off whole c.place d.place c.named d.named))
+            (apart_from other body once two d c.place (clear_of body two one (off_too body one two off) other_whole d.place c.place d.named c.named)));
       }
-
-  -- other nums are given exactly if each provision that a pair names is there
-  nums_there : (pairs : List (List ℕ × List ℕ)) (x : Branches Provision) → ((v : List ℕ) → is_among v (wids_of pairs) ≡ true → is_some (provision_named v x) ≡ true) → nums_given pairs x ≡ Ok (renumbered pairs x)
-  nums_there pairs x there = ap (λ t. cond t (Ok (renumbered pairs x)) (Err TargetMissing)) (all_there pairs there)
-    where
-      all_there : (ps : List (List ℕ × List ℕ)) → ((v : List ℕ) → is_among v (wids_of ps) ≡ true → is_some (provision_named v x) ≡ true) → list_all (λ pair. is_some (provision_named pair.0 x)) ps ≡ true
-      all_there [] all = refl
-      all_there (pair ∷ ps) all =
-          ap (λ t. t && list_all (λ pair. is_some (provision_named pair.0 x)) ps) (all pair.0 (first_of_them pair.0 (wids_of ps)))
-          ∙ all_there ps (λ v named. all v (or_right (bytes_eq v pair.0) _ named))
-
-  nums_are : (pairs : List (List ℕ × List ℕ)) (x : Branches Provision) → nums_given pairs body ≡ Ok x → renumbered pairs body ≡ x
-  nums_are pairs x made = by (list_all (λ pair. is_some (provision_named pair.0 body)) pairs) made
-    where
-      by : (t : Bool) → cond t (Ok (renumbered pairs body)) (Err TargetMissing) ≡ Ok x → renumbered pairs body ≡ x
-      by true one = cc
-      by false one = absurd cc
 
   mapped : (f : Branch Provision → Branch Provision) (o : Option (Branch Provision)) (b : Branch Provision) → o ≡ Some b → f b ≡ b → option_map f o ≡ o
   mapped f o b is same = ap (option_map f) is ∙ ap Some same ∙ sym is
 
-  change_and_nums : (by other : Id) (one two : TextualMod) → AreOff body one two → IsChange by one body → (pairs : List (List ℕ × List ℕ)) → ((z : Branches Provision) → edited other two z ≡ nums_given pairs z) → named_by two ≡ wids_of pairs
+  texts_are : (by : Id) (edit : TextualMod) → AreNamed edit body → (r : IsRestating by edit body) (x : Branches Provision) → edited by edit body ≡ Ok x → restated r.content r.num body ≡ x
+  texts_are by edit named r x made =
+      let same : Ok (restated r.content r.num body) ≡ Ok x =
+      sym (r.is body (record { there = λ w among. ap is_some (named w among).1.found_is; content = λ w among. refl })) ∙ made in
+      cc
+
+  change_and_texts : (by other : Id) (one two : TextualMod) → AreOff body one two → touch_of one ≡ all_beneath → IsChange by one body → AreNamed two body → IsRestating other two body
       → (x u : Branches Provision) → edited by one body ≡ Ok x → edited other two body ≡ Ok u → IsSwapped by other one two x u
-  change_and_nums by other one two off c pairs form names x u made other_made =
+  change_and_texts by other one two off whole c named r x u made other_made =
       let x_is : changed c.step c.place body ≡ x = result_is by one c x made in
-      let u_is : renumbered pairs body ≡ u = nums_are pairs u (sym (form body) ∙ other_made) in
-      let named_too : (w : List ℕ) → is_among w (wids_of pairs) ≡ true → is_among w (named_by two) ≡ true = λ w named. ap (is_among w) names ∙ named in
-      let clear : (w : List ℕ) → is_among w (wids_of pairs) ≡ true → IsClear one body w = λ w named. clear_of body one two off c.place w c.named (named_too w named) in
-      let free : (w : List ℕ) → is_among w (wids_of pairs) ≡ true → IsFree w c.at c.near c.made = λ w named. c.free w (clear w named) in
+      let u_is : restated r.content r.num body ≡ u = texts_are other two named r u other_made in
       record {
-        both = renumbered pairs (changed c.step c.place body);
+        both = restated r.content r.num (changed c.step c.place body);
         second =
-            ap (edited other two) (sym x_is) ∙ form (changed c.step c.place body)
-            ∙ nums_there pairs (changed c.step c.place body) (λ w named.
-            let place : IsOff body c.place w = off c.place w c.named (named_too w named) in
-            ap is_some (named_as w (changed c.step c.place body) place.other_named.other
-            ∙ read_still (found w) w (found_reads w) c.step c.place place.other c.at no_branches c.near c.made
-            (found_steady w place.other (of_wid w body place.other once place.other_named.found_is)) place.not_in_other refl body
-            (one_place w place.other body once place.other_named.found_is) (always_followed w body) (apart_from by body once one c w (clear w named))
-            ∙ place.other_named.found_is));
+            ap (edited other two) (sym x_is)
+            ∙ r.is (changed c.step c.place body) (record {
+              there = λ w among. sym (said_some bare (found w (changed c.step c.place body))) ∙ ap is_some (still w among) ∙ said_some bare (found w body) ∙ ap is_some (named w among).1.found_is;
+              content = λ w among.
+                  sym (said_content (found w (changed c.step c.place body))) ∙ ap (option_map content_of) (still w (r.of_contents w among).1) ∙ said_content (found w body);
+            });
         first =
             ap (edited by one) (sym u_is)
-            ∙ c.is (renumbered pairs body) (record {
-              same = λ v named. found_renumbered pairs v body ∙ found_kept v named;
-              next = λ b rest is. next_renumbered pairs c.place body ∙ next_kept free b rest is;
+            ∙ c.is (restated r.content r.num body) (record {
+              same = λ v v_named. found_restated r.content r.num v body ∙ found_kept v v_named;
+              next = λ b rest is. next_restated r.content r.num c.place body ∙ next_kept b rest is;
             })
-            ∙ ap Ok (sym (nums_swapped pairs c.step c.place c.at c.near c.made c.makes c.not_own (λ w named. (free w named).not_in) (λ w named. (free w named).not_near) (λ w named. (free w named).not_made) body
+            ∙ ap Ok (sym (restated_swapped r.content r.num (given_by r.contents r.nums) kept c.step c.place c.at c.near c.made c.makes c.not_own (λ w it. (free w it).not_in) (λ w it. (free w it).not_near) (λ w it. (free w it).not_made) body
             (one_place c.place c.at body once c.found_is) c.followed));
       }
     where
-      found_kept : (v : List ℕ) → is_among v (named_by one) ≡ true → option_map (inside_renumbered pairs) (found v body) ≡ found v body
-      found_kept v named = by_found (found v body) refl
+      kept : (w text : List ℕ) → given_by r.contents r.nums w ≡ false → (r.content w text ≡ text) × (r.num w text ≡ text)
+      kept w text none = (r.content_kept w text (none_left (is_among w r.contents) _ none), r.num_kept w text (none_right (is_among w r.contents) _ none))
+
+      clear : (w : List ℕ) → is_among w (named_by two) ≡ true → IsClear one body w
+      clear w among = clear_of body one two off whole c.place w c.named among
+
+      given_clear : (w : List ℕ) → given_by r.contents r.nums w ≡ true → IsClear one body w
+      given_clear w it = elim (or_cases (is_among w r.contents) (is_among w r.nums) it) [ inl content ↦ clear w (r.of_contents w content).1 | inr num ↦ clear w (r.of_nums w num).1 ]
+
+      free : (w : List ℕ) → given_by r.contents r.nums w ≡ true → IsFree w c.at c.near c.made
+      free w it = c.free w (given_clear w it)
+
+      still : (w : List ℕ) → is_among w (named_by two) ≡ true → said w (changed c.step c.place body) ≡ said w body
+      still w among = said_still c.step c.place w c.at c.near c.made body (apart_from by body once one c w (clear w among))
+
+      found_kept : (v : List ℕ) → is_among v (named_by one) ≡ true → option_map (inside_restated r.content r.num) (found v body) ≡ found v body
+      found_kept v v_named = by_found (found v body) refl
         where
-          by_found : (o : Option (Branch Provision)) → found v body ≡ o → option_map (inside_renumbered pairs) (found v body) ≡ found v body
-          by_found None none = ap (option_map (inside_renumbered pairs)) none ∙ sym none
-          by_found (Some b) is =
-              mapped (inside_renumbered pairs) (found v body) b is
-              (num_kept_inside pairs b (λ w w_named.
-              let clear : IsClear one body w = clear_of body one two off c.place w c.named (ap (is_among w) names ∙ w_named) in
-              clear.not_in v b named is))
+          by_found : (o : Option (Branch Provision)) → found v body ≡ o → option_map (inside_restated r.content r.num) (found v body) ≡ found v body
+          by_found None none = ap (option_map (inside_restated r.content r.num)) none ∙ sym none
+          by_found (Some b) is = mapped (inside_restated r.content r.num) (found v body) b is (kept_inside r.content r.num (given_by r.contents r.nums) kept b (λ w it. (given_clear w it).not_in v b v_named is))
 
-      next_kept : ((w : List ℕ) → is_among w (wids_of pairs) ≡ true → IsFree w c.at c.near c.made) → (b : Branch Provision) (rest : Branches Provision) → c.near ≡ more_branches b rest
-          → option_map (inside_renumbered pairs) (next_of c.place body) ≡ next_of c.place body
-      next_kept free b rest is =
-          mapped (inside_renumbered pairs) (next_of c.place body) b (c.next_is b rest is)
-          (num_kept_inside pairs b (λ w named. none_left (holds w b) (any_holds w rest) (ap (any_holds w) (sym is) ∙ (free w named).not_near)))
+      next_kept : (b : Branch Provision) (rest : Branches Provision) → c.near ≡ more_branches b rest → option_map (inside_restated r.content r.num) (next_of c.place body) ≡ next_of c.place body
+      next_kept b rest is =
+          mapped (inside_restated r.content r.num) (next_of c.place body) b (c.next_is b rest is)
+          (kept_inside r.content r.num (given_by r.contents r.nums) kept b (λ w it. none_left (holds w b) (any_holds w rest) (ap (any_holds w) (sym is) ∙ (free w it).not_near)))
 
-  -- a provision does not stand apart from itself
-  not_from_itself : (v : List ℕ) → IsOff body v v → ⊥
-  not_from_itself v off = by off.one (of_wid v body off.one once off.one_named.found_is) off.not_in_one
+  -- of no provision is the same touched by both
+  not_both : (t : Touch) (one two : TextualMod) → AreOff body one two → touch_of one ≡ t → touch_of two ≡ t → (v : List ℕ) → is_among v (named_by one) ≡ true → is_among v (named_by two) ≡ true → ⊥
+  not_both t one two off one_is two_is v named other_named =
+      let place : IsOff (touch_of one) (touch_of two) body v v = off v v named other_named in
+      touched t place.one (of_wid v body place.one once place.one_named.found_is)
+      (ap (λ x. takes_in x t place.one v) (sym one_is) ∙ ap (λ x. takes_in (touch_of one) x place.one v) (sym two_is) ∙ place.not_in_one)
     where
-      by : (b : Branch Provision) → has_wid v b ≡ true → holds v b ≡ false → ⊥
-      by (branch p below) it none = absurd (let never : true ≡ false = sym (or_left _ (any_holds v below) it) ∙ none in cc)
+      touched : (s : Touch) (b : Branch Provision) → has_wid v b ≡ true → takes_in s s b v ≡ false → ⊥
+      touched a_content b it none = absurd (let never : true ≡ false = sym it ∙ none in cc)
+      touched a_num b it none = absurd (let never : true ≡ false = sym it ∙ none in cc)
+      touched all_beneath (branch p below) it none = absurd (let never : true ≡ false = sym (or_left _ (any_holds v below) it) ∙ none in cc)
 
-  nums_and_nums : (by other : Id) (one two : TextualMod) → AreOff body one two
-      → (ps : List (List ℕ × List ℕ)) → ((z : Branches Provision) → edited by one z ≡ nums_given ps z) → named_by one ≡ wids_of ps
-      → (qs : List (List ℕ × List ℕ)) → ((z : Branches Provision) → edited other two z ≡ nums_given qs z) → named_by two ≡ wids_of qs
-      → AreNamed one body → AreNamed two body → (x u : Branches Provision) → edited by one body ≡ Ok x → edited other two body ≡ Ok u → IsSwapped by other one two x u
-  nums_and_nums by other one two off ps one_form one_names qs two_form two_names one_named two_named x u made other_made =
-      let x_is : renumbered ps body ≡ x = nums_are ps x (sym (one_form body) ∙ made) in
-      let u_is : renumbered qs body ≡ u = nums_are qs u (sym (two_form body) ∙ other_made) in
+  texts_swapped : (by other : Id) (one two : TextualMod) → AreOff body one two → AreNamed one body → AreNamed two body → IsRestating by one body → IsRestating other two body
+      → (x u : Branches Provision) → edited by one body ≡ Ok x → edited other two body ≡ Ok u → IsSwapped by other one two x u
+  texts_swapped by other one two off named other_named r s x u made other_made =
+      let x_is : restated r.content r.num body ≡ x = texts_are by one named r x made in
+      let u_is : restated s.content s.num body ≡ u = texts_are other two other_named s u other_made in
       record {
-        both = renumbered qs (renumbered ps body);
-        second = ap (edited other two) (sym x_is) ∙ two_form (renumbered ps body)
-            ∙ nums_there qs (renumbered ps body) (λ v named. still_named ps body v ∙ some_named v (two_named v (ap (is_among v) two_names ∙ named)));
-        first = ap (edited by one) (sym u_is) ∙ one_form (renumbered qs body)
-            ∙ nums_there ps (renumbered qs body) (λ v named. still_named qs body v ∙ some_named v (one_named v (ap (is_among v) one_names ∙ named)))
-            ∙ ap Ok (nums_both ps qs (λ v named. apart v named (cases_Bool (is_among v (wids_of qs)))) body);
+        both = restated s.content s.num (restated r.content r.num body);
+        second = ap (edited other two) (sym x_is) ∙ s.is (restated r.content r.num body) (said_too by other one two other_named r s contents_back);
+        first =
+            ap (edited by one) (sym u_is) ∙ r.is (restated s.content s.num body) (said_too other by two one named s r contents_apart)
+            ∙ ap Ok (restated_both r.content r.num s.content s.num (gives_both r.content s.content r.contents s.contents r.content_kept s.content_kept contents_apart)
+            (gives_both r.num s.num r.nums s.nums r.num_kept s.num_kept nums_apart) body);
       }
     where
-      some_named : (v : List ℕ) → (b : Branch Provision) × IsNamed v body b → is_some (provision_named v body) ≡ true
-      some_named v (b, is) = ap is_some (named_as v body is.other ∙ is.found_is)
+      unless : (t : Bool) → (t ≡ true → ⊥) → t ≡ false
+      unless true never = absurd (never refl)
+      unless false never = refl
 
-      apart : (v : List ℕ) → is_among v (wids_of ps) ≡ true → (is_among v (wids_of qs) ≡ true) ⊎ (is_among v (wids_of qs) ≡ false) → is_among v (wids_of qs) ≡ false
-      apart v named (inl both) = absurd (not_from_itself v (off v v (ap (is_among v) one_names ∙ named) (ap (is_among v) two_names ∙ both)))
-      apart v named (inr none) = none
+      contents_apart : (w : List ℕ) → is_among w r.contents ≡ true → is_among w s.contents ≡ false
+      contents_apart w it = unless (is_among w s.contents) (λ both. not_both a_content one two off (r.of_contents w it).0 (s.of_contents w both).0 w (r.of_contents w it).1 (s.of_contents w both).1)
+
+      contents_back : (w : List ℕ) → is_among w s.contents ≡ true → is_among w r.contents ≡ false
+      contents_back w it = unless (is_among w r.contents) (λ both. not_both a_content one two off (r.of_contents w both).0 (s.of_contents w it).0 w (r.of_contents w both).1 (s.of_contents w it).1)
+
+      nums_apart : (w : List ℕ) → is_among w r.nums ≡ true → is_among w s.nums ≡ false
+      nums_apart w it = unless (is_among w s.nums) (λ both. not_both a_num one two off (r.of_nums w it).0 (s.of_nums w both).0 w (r.of_nums w it).1 (s.of_nums w both).1)
+
+      said_too : (by other : Id) (one two : TextualMod) → AreNamed two body → (r : IsRestating by one body) (s : IsRestating other two body) → ((w : List ℕ) → is_among w s.contents ≡ true → is_among w r.contents ≡ false)
+          → AreSaid two s.contents body (restated r.content r.num body)
+      said_too by other one two named r s apart =
+          record {
+            there = λ w among. ap is_some (found_restated r.content r.num w body) ∙ said_some (inside_restated r.content r.num) (found w body) ∙ ap is_some (named w among).1.found_is;
+            content = λ w among.
+                let it : (b : Branch Provision) × IsNamed w body b = named w (s.of_contents w among).1 in
+                content_still r.content r.num w body it.0 once it.1.found_is (λ text. r.content_kept w text (apart w among));
+          }
 
 swapped_back : (by other : Id) (one two : TextualMod) (x u : Branches Provision) → IsSwapped other by two one u x → IsSwapped by other one two x u
 swapped_back by other one two x u s = record { both = s.both; second = s.first; first = s.second }
@@ -303,21 +333,20 @@ names_nothing by (Renumber (pair ∷ pairs)) none z = absurd cc
 names_nothing by (Split w at num heading) none z = absurd cc
 names_nothing by (Join w second separator) none z = absurd cc
 
--- each of two edits that name provisions that stand apart is made in what the other makes of the text, and both give one text
+-- each of the two is made in what the other makes of the text, and both give one text
 pub edits_swapped : (by other : Id) (one two : TextualMod) (body : Branches Provision) → one_twice (all_wids body) ≡ false → has_brought by body ≡ false → has_brought other body ≡ false
-    → edits_apart body one two ≡ true → (x u : Branches Provision) → edited by one body ≡ Ok x → edited other two body ≡ Ok u → IsSwapped by other one two x u
+    → touch_apart body one two ≡ true → (x u : Branches Provision) → edited by one body ≡ Ok x → edited other two body ≡ Ok u → IsSwapped by other one two x u
 edits_swapped by other one two body once fresh other_fresh told x u made other_made = by_names (named_by one) (named_by two) refl refl
   where
     off : AreOff body one two
     off = are_off body one two once told
 
     of_forms : AreNamed one body → AreNamed two body → IsForm by one body → IsForm other two body → IsSwapped by other one two x u
-    of_forms one_named two_named (one_change c) (one_change d) = changes_swapped body once by other one two off c d x u made other_made
-    of_forms one_named two_named (one_change c) (other_nums qs form names) = change_and_nums body once by other one two off c qs form names x u made other_made
-    of_forms one_named two_named (other_nums ps form names) (one_change d) =
-        swapped_back by other one two x u (change_and_nums body once other by two one (off_too body one two off) d ps form names u x other_made made)
-    of_forms one_named two_named (other_nums ps one_form one_names) (other_nums qs two_form two_names) =
-        nums_and_nums body once by other one two off ps one_form one_names qs two_form two_names one_named two_named x u made other_made
+    of_forms one_named two_named (one_change whole c) (one_change other_whole d) = changes_swapped body once by other one two off whole other_whole c d x u made other_made
+    of_forms one_named two_named (one_change whole c) (other_texts r) = change_and_texts body once by other one two off whole c two_named r x u made other_made
+    of_forms one_named two_named (other_texts r) (one_change whole d) =
+        swapped_back by other one two x u (change_and_texts body once other by two one (off_too body one two off) whole d one_named r u x other_made made)
+    of_forms one_named two_named (other_texts r) (other_texts s) = texts_swapped body once by other one two off one_named two_named r s x u made other_made
 
     by_names : (vs us : List (List ℕ)) → named_by one ≡ vs → named_by two ≡ us → IsSwapped by other one two x u
     by_names [] us none other_names =
@@ -331,15 +360,15 @@ edits_swapped by other one two body once fresh other_fresh told x u made other_m
     by_names (v ∷ vs) (w ∷ ws) names other_names =
         let v_named : is_among v (named_by one) ≡ true = ap (is_among v) names ∙ first_of_them v vs in
         let w_named : is_among w (named_by two) ≡ true = ap (is_among w) other_names ∙ first_of_them w ws in
-        let one_named : AreNamed one body = λ k named. (let place : IsOff body k w = off k w named w_named in (place.one, place.one_named)) in
-        let two_named : AreNamed two body = λ k named. (let place : IsOff body v k = off v k v_named named in (place.other, place.other_named)) in
+        let one_named : AreNamed one body = λ k named. (let place : IsOff (touch_of one) (touch_of two) body k w = off k w named w_named in (place.one, place.one_named)) in
+        let two_named : AreNamed two body = λ k named. (let place : IsOff (touch_of one) (touch_of two) body v k = off v k v_named named in (place.other, place.other_named)) in
         of_forms one_named two_named (form_of by one body x once fresh one_named made) (form_of other two body u once other_fresh two_named other_made)
 
 -- two changes that look at no sibling, at provisions that stand apart
 pub changes_apart : (one two : Step) (body : Branches Provision) (v w : List ℕ) → one_twice (all_wids body) ≡ false → stand_apart body v w ≡ true → LooksAtNoSibling one → LooksAtNoSibling two
     → any_holds w (made_of one (provision_named v body)) ≡ false → any_holds v (made_of two (provision_named w body)) ≡ false → changed one v (changed two w body) ≡ changed two w (changed one v body)
 changes_apart one two body v w once told own other_own none other_none =
-    let off : IsOff body v w = is_off body v w once told in
+    let off : IsOff all_beneath all_beneath body v w = is_off all_beneath all_beneath body v w once (apart_unmixed all_beneath all_beneath (provision_named v body) (provision_named w body) told) in
     let named : provision_named v body ≡ Some off.one = named_as v body off.one_named.other ∙ off.one_named.found_is in
     let other_named : provision_named w body ≡ Some off.other = named_as w body off.other_named.other ∙ off.other_named.found_is in
     swapped one two v w off.one off.other no_branches (one off.one no_branches) no_branches (two off.other no_branches) body

@@ -3,7 +3,7 @@ use Rattle.std.proofs.Common.{◌≡◌, ◌∙◌, sym, ap, refl, ℕ, zero, su
 use Rattle.std.specs.Prelude.{is_some}
 use Rattle.std.specs.List.{list_any, starts_with}
 use Rattle.std.specs.Str.{bytes_eq}
-use Rattle.std.proofs.lemmas.Bool.{cases_Bool, or_cases}
+use Rattle.std.proofs.lemmas.Bool.{cases_Bool, and_parts, or_cases}
 use Rattle.std.proofs.lemmas.Bool.Decides.{Decides-eqb}
 use Rattle.std.proofs.lemmas.Slice.Eq.{starts_is}
 use Rattle.desk_base.specs.declared.id.Id.{Id}
@@ -14,7 +14,7 @@ use Rattle.act_tree.specs.Provisions.{Provision}
 use Rattle.act_tree.specs.Wids.{all_wids, is_among, one_twice}
 use Rattle.act_tree.proofs.Frames.{none_left, none_right, neither}
 use Rattle.act_tree.proofs.Texts.{same_text, other_text}
-use Rattle.textual_mods.specs.Laws.{are_apart, stand_apart}
+use Rattle.textual_mods.specs.Laws.{are_apart, Touch, a_content, a_num, all_beneath, takes_in, are_unmixed}
 use Rattle.textual_mods.specs.Targets.{provision_named}
 use Rattle.textual_mods.proofs.OnePlace.{beneath, all_among, held_found, IsOnly, Alone, one_place}
 
@@ -100,18 +100,14 @@ some_of (Some b) some = (b, refl)
 pub is_held : (w : List ℕ) (body : Branches Provision) (b : Branch Provision) → found w body ≡ Some b → any_holds w body ≡ true
 is_held w body b is = sym (held_found w body) ∙ ap is_some is
 
--- two provisions are there, and neither stands at or beneath the other
-pub record IsOff (body : Branches Provision) (v w : List ℕ) : Type 0 where
+-- two provisions are there, and of neither anything is touched that is touched of the other
+pub record IsOff (t u : Touch) (body : Branches Provision) (v w : List ℕ) : Type 0 where
   pub one : Branch Provision
   pub other : Branch Provision
   pub one_named : IsNamed v body one
   pub other_named : IsNamed w body other
-  pub not_in_one : holds w one ≡ false
-  pub not_in_other : holds v other ≡ false
-
-both_true : (s t : Bool) → (s && t) ≡ true → (s ≡ true) × (t ≡ true)
-both_true true t both = (refl, both)
-both_true false t both = absurd cc
+  pub not_in_one : takes_in t u one w ≡ false
+  pub not_in_other : takes_in u t other v ≡ false
 
 not_true : (s : Bool) → not s ≡ true → s ≡ false
 not_true true never = absurd cc
@@ -122,27 +118,43 @@ wid_is w body p below once is =
     let alone : IsAlone w (branch p below) = it_alone w (branch p below) body (is_held w body (branch p below) is) (one_place w (branch p below) body once is) in
     same_text p.wid w alone.of_it
 
-pub is_off : (body : Branches Provision) (v w : List ℕ) → one_twice (all_wids body) ≡ false → stand_apart body v w ≡ true → IsOff body v w
-is_off body v w once told = by (provision_named v body) (provision_named w body) refl refl told
+pub is_off : (t u : Touch) (body : Branches Provision) (v w : List ℕ) → one_twice (all_wids body) ≡ false → are_unmixed t u (provision_named v body) (provision_named w body) ≡ true → IsOff t u body v w
+is_off t u body v w once told = by (provision_named v body) (provision_named w body) refl refl told
   where
-    by : (o u : Option (Branch Provision)) → provision_named v body ≡ o → provision_named w body ≡ u → are_apart o u ≡ true → IsOff body v w
-    by None u is other apart = absurd cc
+    by : (o x : Option (Branch Provision)) → provision_named v body ≡ o → provision_named w body ≡ x → are_unmixed t u o x ≡ true → IsOff t u body v w
+    by None x is other apart = absurd cc
     by (Some b) None is other apart = absurd cc
     by (Some (branch p below)) (Some (branch q under)) is other apart =
-        let t = both_true (not (holds q.wid (branch p below))) (not (holds p.wid (branch q under))) apart in
+        let both = and_parts (not (takes_in t u (branch p below) q.wid)) (not (takes_in u t (branch q under) p.wid)) apart in
         let one_named : IsNamed v body (branch p below) = is_named v body (branch p below) is in
         let other_named : IsNamed w body (branch q under) = is_named w body (branch q under) other in
-        let one_is : p.wid ≡ v = wid_is v body p below once one_named.found_is in
-        let other_is : q.wid ≡ w = wid_is w body q under once other_named.found_is in
         record {
           one = branch p below;
           other = branch q under;
           one_named = one_named;
           other_named = other_named;
-          not_in_one = ap (λ x. holds x (branch p below)) (sym other_is) ∙ not_true _ t.0;
-          not_in_other = ap (λ x. holds x (branch q under)) (sym one_is) ∙ not_true _ t.1;
+          not_in_one = ap (takes_in t u (branch p below)) (sym (wid_is w body q under once other_named.found_is)) ∙ not_true _ both.0;
+          not_in_other = ap (takes_in u t (branch q under)) (sym (wid_is v body p below once one_named.found_is)) ∙ not_true _ both.1;
         }
 
-pub off_back : (body : Branches Provision) (v w : List ℕ) → IsOff body v w → IsOff body w v
-off_back body v w off =
+pub off_back : (t u : Touch) (body : Branches Provision) (v w : List ℕ) → IsOff t u body v w → IsOff u t body w v
+off_back t u body v w off =
     record { one = off.other; other = off.one; one_named = off.other_named; other_named = off.one_named; not_in_one = off.not_in_other; not_in_other = off.not_in_one }
+
+-- what stands neither at nor beneath a provision is not touched with it, nor are two that stand apart mixed
+touched_less : (t u : Touch) (w : List ℕ) (b : Branch Provision) → holds w b ≡ false → takes_in t u b w ≡ false
+touched_less all_beneath u w b none = none
+touched_less a_content a_num w b none = refl
+touched_less a_content a_content w (branch p below) none = none_left (bytes_eq p.wid w) _ none
+touched_less a_content all_beneath w (branch p below) none = none_left (bytes_eq p.wid w) _ none
+touched_less a_num a_content w b none = refl
+touched_less a_num a_num w (branch p below) none = none_left (bytes_eq p.wid w) _ none
+touched_less a_num all_beneath w (branch p below) none = none_left (bytes_eq p.wid w) _ none
+
+pub apart_unmixed : (t u : Touch) (o x : Option (Branch Provision)) → are_apart o x ≡ true → are_unmixed t u o x ≡ true
+apart_unmixed t u None x apart = absurd cc
+apart_unmixed t u (Some b) None apart = absurd cc
+apart_unmixed t u (Some (branch p below)) (Some (branch q under)) apart =
+    let both = and_parts (not (holds q.wid (branch p below))) (not (holds p.wid (branch q under))) apart in
+    ap (λ s. not s && not (takes_in u t (branch q under) p.wid)) (touched_less t u q.wid (branch p below) (not_true _ both.0))
+    ∙ ap not (touched_less u t p.wid (branch q under) (not_true _ both.1))

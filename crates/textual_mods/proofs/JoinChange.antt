@@ -70,7 +70,7 @@ only_first None other b none is = absurd cc
 only_first (Some c) other b none is = is
 
 -- and stands right behind each provision of the wId
-next_followed : (v : List ℕ) (it b : Branch Provision) (bs : Branches Provision) → one_twice (all_wids bs) ≡ false → found v bs ≡ Some it → next_of v bs ≡ Some b
+pub next_followed : (v : List ℕ) (it b : Branch Provision) (bs : Branches Provision) → one_twice (all_wids bs) ≡ false → found v bs ≡ Some it → next_of v bs ≡ Some b
     → Followed v (more_branches b no_branches) bs
 next_followed v it b no_branches once there is = tt
 next_followed v it b (more_branches (branch p below) bs) once there is =
@@ -106,7 +106,7 @@ none_before v no_branches far none = refl
 none_before v (more_branches b bs) far none = neither (holds v b) _ (none_left (holds v b) _ none) (none_before v bs far (none_right (holds v b) _ none))
 
 -- what stands right behind a provision has not its wId
-own_apart : (v : List ℕ) (it : Branch Provision) (near bs : Branches Provision) → any_holds v bs ≡ true → Alone v it bs → Followed v near bs → any_holds v near ≡ false
+pub own_apart : (v : List ℕ) (it : Branch Provision) (near bs : Branches Provision) → any_holds v bs ≡ true → Alone v it bs → Followed v near bs → any_holds v near ≡ false
 own_apart v it near no_branches held alone followed = absurd cc
 own_apart v it near (more_branches (branch p below) bs) held alone followed =
     elim (cases_Bool (bytes_eq p.wid v)) [

@@ -1,4 +1,5 @@
-pub mod ApartNums
+pub mod Restating
+pub mod Said
 pub mod Behind
 pub mod Contents
 pub mod EitherOrder
@@ -19,6 +20,7 @@ pub mod NumWalks
 pub mod NumsTaken
 pub mod OldOrBrought
 pub mod OneChange
+pub mod OneRestating
 pub mod OnePlace
 pub mod PartedLimits
 pub mod Placing
@@ -32,6 +34,7 @@ pub mod Sublists
 pub mod Swapping
 pub mod TreesAfter
 pub mod WidsDiffer
+pub mod WidsLeft
 pub mod Equality
 pub mod BodyReplaced
 pub mod PutInstead

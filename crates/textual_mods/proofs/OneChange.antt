@@ -6,7 +6,7 @@ use Rattle.desk_base.specs.declared.id.Id.{Id}
 use Rattle.eid_paths.specs.Levels.{level_text}
 use Rattle.act_tree.specs.Branches.{Branch, Branches, branch, no_branches, more_branches, branches_of, listed}
 use Rattle.act_tree.specs.Brought.{brought, second_part, has_brought}
-use Rattle.act_tree.specs.Changes.{Step, has_wid, holds, any_holds, is_in, inside_without, without, removed, inside_changed, changed, joined, first, behind, instead, before, after, put_in, among_children, with_content, parted, substituted, grafted, root_wid, found, next_of}
+use Rattle.act_tree.specs.Changes.{Step, has_wid, holds, any_holds, is_in, inside_without, without, removed, inside_changed, changed, joined, first, behind, instead, before, after, put_in, among_children, parted, substituted, grafted, root_wid, found, next_of}
 use Rattle.act_tree.specs.Provisions.{Own, Provision}
 use Rattle.act_tree.specs.Wids.{is_among}
 use Rattle.act_tree.specs.declared.cause.Cause.{Cause}
@@ -18,7 +18,6 @@ use Rattle.textual_mods.specs.Edits.{edited}
 use Rattle.textual_mods.specs.Laws.{named_by}
 use Rattle.textual_mods.specs.Splits.{cut_of, split_along, split_of}
 use Rattle.textual_mods.specs.Targets.{provision_named, below, children_named}
-use Rattle.textual_mods.specs.TextEdits.{content_set, content_changed}
 use Rattle.textual_mods.specs.declared.edit.Pos.{Pos}
 use Rattle.textual_mods.specs.declared.edit.Pos.TheVariants as stands
 use Rattle.textual_mods.specs.declared.edit.SplitAt.{SplitAt}
@@ -68,6 +67,18 @@ joined_assoc (more_branches b xs) ys zs = ap (more_branches b) (joined_assoc xs 
 one_among : (w : List ℕ) → is_among w (w ∷ []) ≡ true
 one_among w = ap (λ t. t || false) (equal_text w w refl)
 
+mutual
+  inside_taken : (w : List ℕ) (b : Branch Provision) → inside_without w b ≡ inside_changed (instead no_branches) w b
+  inside_taken w (branch q below) = ap (branch q) (taken_away w below)
+
+  -- to take a provision away is to put nothing in its place
+  pub taken_away : (w : List ℕ) (bs : Branches Provision) → without w bs ≡ changed (instead no_branches) w bs
+  taken_away w no_branches = refl
+  taken_away w (more_branches b bs) =
+      ap (λ rest. cond (has_wid w b) rest (more_branches (inside_without w b) (without w bs))) (taken_away w bs)
+      ∙ ap (λ rest. cond (has_wid w b) (changed (instead no_branches) w bs) (more_branches (inside_without w b) rest)) (taken_away w bs)
+      ∙ ap (λ c. cond (has_wid w b) (changed (instead no_branches) w bs) (more_branches c (changed (instead no_branches) w bs))) (inside_taken w b)
+
 -- the place of an edit that names one provision
 module _ (by : Id) (body : Branches Provision) (fresh : has_brought by body ≡ false) (w : List ℕ) (p : Provision) (under : Branches Provision)
     (named : IsNamed w body (branch p under)) where
@@ -105,24 +116,12 @@ module _ (by : Id) (body : Branches Provision) (fresh : has_brought by body ≡ 
   brings_none : (new : Branches Own) (u : List ℕ) → any_holds u body ≡ true → any_holds u (brought by new) ≡ false
   brings_none new u there = all_among u (brought by new) ∙ brought_apart by new body fresh u (or_right (bytes_eq u root_wid) _ (sym (all_among u body) ∙ there))
 
-  mutual
-    inside_taken : (b : Branch Provision) → inside_without w b ≡ inside_changed (instead no_branches) w b
-    inside_taken (branch q below) = ap (branch q) (taken_away below)
-
-    -- to take a provision away is to put nothing in its place
-    taken_away : (bs : Branches Provision) → without w bs ≡ changed (instead no_branches) w bs
-    taken_away no_branches = refl
-    taken_away (more_branches b bs) =
-        ap (λ rest. cond (has_wid w b) rest (more_branches (inside_without w b) (without w bs))) (taken_away bs)
-        ∙ ap (λ rest. cond (has_wid w b) (changed (instead no_branches) w bs) (more_branches (inside_without w b) rest)) (taken_away bs)
-        ∙ ap (λ c. cond (has_wid w b) (changed (instead no_branches) w bs) (more_branches c (changed (instead no_branches) w bs))) (inside_taken b)
-
   pub repeal_change : IsChange by (Repeal w) body
   repeal_change =
       of_one (Repeal w) (instead no_branches) no_branches refl (λ far. refl)
       (λ other is.
       ap (λ t. cond t (Ok (removed w other)) (Err TargetMissing)) (is_there other is)
-      ∙ ap Ok (ap (λ t. cond t no_branches (without w other)) named.other ∙ taken_away other))
+      ∙ ap Ok (ap (λ t. cond t no_branches (without w other)) named.other ∙ taken_away w other))
       (λ u there none. refl)
 
   pub substitution_change : (new : List (Branch Own)) → IsChange by (SubstituteNodes w new) body
@@ -132,25 +131,6 @@ module _ (by : Id) (body : Branches Provision) (fresh : has_brought by body ≡ 
       ap (λ t. cond t (Ok (substituted w (brought by (branches_of new)) other)) (Err TargetMissing)) (is_there other is)
       ∙ ap Ok (ap (λ t. cond t (brought by (branches_of new)) (changed (instead (brought by (branches_of new))) w other)) named.other))
       (λ u there none. brings_none (branches_of new) u there)
-
-  -- another content
-  content_change : (edit : TextualMod) (content : List ℕ) → named_by edit ≡ w ∷ []
-      → ((other : Branches Provision) → found w other ≡ Some (branch p under) → edited by edit other ≡ Ok (changed (with_content content) w other)) → IsChange by edit body
-  content_change edit content names is =
-      of_one edit (with_content content) (more_branches (branch (record p { own = record p.own { content = content } }) under) no_branches) names (λ far. refl) is
-      (λ u there none. neither (holds u (branch p under)) false none refl)
-
-  pub text_change : (cause : Cause) (change : List ℕ → Option (List ℕ)) (edit : TextualMod) → named_by edit ≡ w ∷ []
-      → ((other : Branches Provision) → edited by edit other ≡ content_changed cause change w (provision_named w other) other)
-      → (x : Branches Provision) → edited by edit body ≡ Ok x → IsChange by edit body
-  text_change cause change edit names form x made =
-      of_content (change p.own.content) refl (sym (form body ∙ ap (λ o. content_changed cause change w o body) (named_there body named.found_is)) ∙ made)
-    where
-      of_content : (o : Option (List ℕ)) → change p.own.content ≡ o → content_set w o body ≡ Ok x → IsChange by edit body
-      of_content None is one = absurd cc
-      of_content (Some content) is one =
-          content_change edit content names
-          (λ other found_it. form other ∙ ap (λ o. content_changed cause change w o other) (named_there other found_it) ∙ ap (λ o. content_set w o other) is)
 
   pub insertion_change : (pos : Pos) (new : List (Branch Own)) → IsChange by (InsertNodes w pos new) body
   insertion_change stands.Before new =

@@ -1,16 +1,17 @@
 -- Trees after two edits.
-use Rattle.std.proofs.Common.{◌≡◌, ◌∙◌, sym, ap, refl, subst, ℕ, true, false, List, [], Option, Some, None}
+use Rattle.std.proofs.Common.{◌≡◌, ◌∙◌, sym, ap, refl, subst, ℕ, true, false, not, List, [], Option, Some, None}
 use Rattle.std.specs.Prelude.{Result, Ok, Err}
+use Rattle.std.specs.List.{filter}
 use Rattle.desk_base.specs.declared.id.Id.{Id}
 use Rattle.act_tree.specs.Branches.{Branches}
 use Rattle.act_tree.specs.Brought.{has_brought}
 use Rattle.act_tree.specs.Faults.{first_cause}
 use Rattle.act_tree.specs.Provisions.{Provision}
 use Rattle.act_tree.specs.Trees.{TreeValue, changed_once}
-use Rattle.act_tree.specs.Wids.{all_wids, one_twice}
+use Rattle.act_tree.specs.Wids.{all_wids, is_among, one_twice}
 use Rattle.act_tree.specs.declared.cause.Cause.{Cause}
 use Rattle.textual_mods.specs.Edits.{edited, unless_for, within_limits, applied, tree_after, outcome_of}
-use Rattle.textual_mods.specs.Laws.{tree_with, IsMade, twice_changed, edits_apart, nums_before, wid_of_second}
+use Rattle.textual_mods.specs.Laws.{tree_with, IsMade, twice_changed, touch_apart, nums_before, wid_of_second, is_brought_by, wids_taken}
 use Rattle.textual_mods.specs.Targets.{provision_named}
 use Rattle.textual_mods.specs.declared.edit.SplitAt.{SplitAt}
 use Rattle.textual_mods.specs.declared.edit.TextualMod.{TextualMod}
@@ -19,6 +20,7 @@ use Rattle.textual_mods.specs.declared.outcome.Outcome.TheVariants.{Done, Unappl
 use Rattle.textual_mods.proofs.EitherOrder.{IsSwapped, edits_swapped}
 use Rattle.textual_mods.proofs.RenumberedBack.{nums_given_back}
 use Rattle.textual_mods.proofs.SplitJoined.{split_joined}
+use Rattle.textual_mods.proofs.WidsLeft.{OkLeaves, edit_leaves}
 
 -- what an edit that is made gives
 pub record Gives (t : TreeValue) (by : Id) (edit : TextualMod) : Type 0 where
@@ -76,13 +78,13 @@ pub nums_taken_back : (t : TreeValue) (by other : Id) (pairs : List (List ℕ ×
 nums_taken_back t by other pairs fits once made =
     taken_back t by other (Renumber pairs) (Renumber (nums_before pairs t.body)) fits made (λ x is. nums_given_back pairs t.body x once is)
 
--- two edits that name provisions that stand apart, in either order
+-- two edits of which neither touches anything that the other touches, in either order
 pub record InEitherOrder (t : TreeValue) (by other : Id) (one two : TextualMod) : Type 0 where
   pub made : IsMade (tree_with t other two) by one
   pub same : tree_with (tree_with t by one) other two ≡ tree_with (tree_with t other two) by one
 
 pub in_either_order : (t : TreeValue) (by other : Id) (one two : TextualMod) → one_twice (all_wids t.body) ≡ false → has_brought by t.body ≡ false → has_brought other t.body ≡ false
-    → edits_apart t.body one two ≡ true → IsMade t by one → IsMade t other two → IsMade (tree_with t by one) other two → InEitherOrder t by other one two
+    → touch_apart t.body one two ≡ true → IsMade t by one → IsMade t other two → IsMade (tree_with t by one) other two → InEitherOrder t by other one two
 in_either_order t by other one two once fresh other_fresh apart made other_made both_made =
     let g : Gives t by one = gives t by one made in
     let h : Gives t other two = gives t other two other_made in
@@ -99,3 +101,11 @@ in_either_order t by other one two once fresh other_fresh apart made other_made 
           ap (λ tree. tree_with tree other two) (after_it t by one g) ∙ after_it (changed_once t g.text) other two both ∙ ap (changed_once (changed_once t g.text)) same
           ∙ sym (ap (λ tree. tree_with tree by one) (after_it t other two h) ∙ ap (tree_after (changed_once t h.text)) applied_back);
     }
+
+-- what an edit leaves, it leaves in the tree
+pub left_in_tree : (t : TreeValue) (by : Id) (edit : TextualMod) → one_twice (all_wids t.body) ≡ false → has_brought by t.body ≡ false → IsMade t by edit
+    → filter (λ w. not (is_brought_by by w)) (all_wids (tree_with t by edit).body) ≡ filter (λ w. not (is_among w (wids_taken t.body edit))) (all_wids t.body)
+left_in_tree t by edit once fresh made =
+    let g : Gives t by edit = gives t by edit made in
+    let P : Result (Branches Provision) Cause → Type 0 = OkLeaves by t.body once fresh (wids_taken t.body edit) in
+    ap (λ tree. filter (λ w. not (is_brought_by by w)) (all_wids tree.body)) (after_it t by edit g) ∙ subst P g.edited_is (edit_leaves by t.body once fresh edit)

@@ -1,7 +1,7 @@
 //! What holds of every edit. Each law is a function that does nothing, whose clause is the law.
 
-ghost use Rattle.std.specs.Prelude.{◌≡◌, ◌↔◌, ◌||◌, ◌++◌, ℕ, IsTrue, List, [], ◌∷◌, None, Some, false, true, nat_eq, option_map, slice_get};
-ghost use Rattle.std.specs.List.{list_all, starts_with};
+ghost use Rattle.std.specs.Prelude.{◌≡◌, ◌↔◌, ◌||◌, ◌++◌, not, ℕ, IsTrue, List, [], ◌∷◌, None, Some, false, true, nat_eq, option_map, slice_get};
+ghost use Rattle.std.specs.List.{filter, list_all, starts_with};
 ghost use Rattle.act_tree.specs.Branches.{branches_of};
 ghost use Rattle.act_tree.specs.Brought.{bringer, brought, has_brought};
 ghost use Rattle.act_tree.specs.Changes.{Step, any_holds, changed, renumbered};
@@ -14,7 +14,7 @@ ghost use Rattle.act_tree.specs.Wids.{all_wids, is_among, one_twice};
 ghost use Rattle.eid_paths.specs.Nums.{is_num};
 ghost use Rattle.textual_mods.specs.Edits.{applied, outcome_of};
 ghost use Rattle.textual_mods.specs.Insertions.{have_nums, insertion_fault};
-ghost use Rattle.textual_mods.specs.Laws.{tree_with, IsMade, twice_changed, wid_of_second, nums_before, stand_apart, edits_apart, LooksAtNoSibling, made_of};
+ghost use Rattle.textual_mods.specs.Laws.{tree_with, IsMade, is_brought_by, wids_taken, twice_changed, wid_of_second, nums_before, stand_apart, edits_apart, touch_apart, LooksAtNoSibling, made_of};
 ghost use Rattle.textual_mods.specs.NumChanges.{renumbering_fault};
 ghost use Rattle.textual_mods.specs.Substitutions.{substitution_fault};
 ghost use Rattle.textual_mods.specs.Targets.{provision_named};
@@ -49,6 +49,18 @@ pub fn wids_are_old_or_brought(tree: &Tree, by: Id, edit: &TextualMod, wid: &Tex
     requires { is_among wid.now (all_wids (tree_with (tree_view tree.now) by edit.now).body) ≡ true }
     ensures { (is_among wid.now (all_wids (tree_view tree.now).body)
         || starts_with nat_eq wid.now (bringer by ++ 95 ∷ 95 ∷ [])) ≡ true }
+{}
+
+/// What stays keeps its wId, and its place among the others: the wIds of the text after an edit, but for those that the
+/// modification brings, are those before it, but for those that go with it, in order. With a repeal, and with a
+/// substitution of provisions, those at and beneath the target go; with a join that of the second provision; with no
+/// other edit any.
+pub fn what_stays_keeps_its_wid(tree: &Tree, by: Id, edit: &TextualMod)
+    requires fresh { has_brought by (tree_view tree.now).body ≡ false }
+    requires made { IsMade (tree_view tree.now) by edit.now }
+    ensures { filter (λ wid. not (is_brought_by by wid)) (all_wids (tree_with (tree_view tree.now) by edit.now).body)
+        ≡ filter (λ wid. not (is_among wid (wids_taken (tree_view tree.now).body edit.now)))
+        (all_wids (tree_view tree.now).body) }
 {}
 
 /// An edit that is held back leaves the tree as it was, its number of changes too.
@@ -114,6 +126,28 @@ pub fn edits_apart_go_in_either_order(
     requires fresh { has_brought by (tree_view tree.now).body ≡ false }
     requires other_fresh { has_brought other (tree_view tree.now).body ≡ false }
     requires apart { edits_apart (tree_view tree.now).body one.now two.now ≡ true }
+    requires one_made { IsMade (tree_view tree.now) by one.now }
+    requires two_made { IsMade (tree_view tree.now) other two.now }
+    requires both_made { IsMade (tree_with (tree_view tree.now) by one.now) other two.now }
+    ensures made { IsMade (tree_with (tree_view tree.now) other two.now) by one.now }
+    ensures same { tree_with (tree_with (tree_view tree.now) by one.now) other two.now
+        ≡ tree_with (tree_with (tree_view tree.now) other two.now) by one.now }
+{}
+
+/// So do two edits of which neither touches anything that the other touches. A substitution or insertion of text touches
+/// the content of the provision that it names, and a renumbering the nums of those that it names; any other edit touches
+/// all that stands at and beneath those that it names. So a provision's content and its num can be changed in either
+/// order, and either before or after any edit of what stands beneath it.
+pub fn edits_of_other_things_go_in_either_order(
+    tree: &Tree,
+    by: Id,
+    one: &TextualMod,
+    other: Id,
+    two: &TextualMod,
+)
+    requires fresh { has_brought by (tree_view tree.now).body ≡ false }
+    requires other_fresh { has_brought other (tree_view tree.now).body ≡ false }
+    requires apart { touch_apart (tree_view tree.now).body one.now two.now ≡ true }
     requires one_made { IsMade (tree_view tree.now) by one.now }
     requires two_made { IsMade (tree_view tree.now) other two.now }
     requires both_made { IsMade (tree_with (tree_view tree.now) by one.now) other two.now }
