@@ -55,3 +55,4 @@ pub mod LevelsFound
 pub mod LevelsNoted
 pub mod Copying
 pub mod NotAsMany
+pub mod KeptNumbers

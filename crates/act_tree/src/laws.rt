@@ -7,8 +7,9 @@ ghost use Rattle.act_tree.specs.EidLevels.{has_beginning_twice, has_siblings_ali
 ghost use Rattle.act_tree.specs.EidsOfNodes.{IsNodeOf};
 ghost use Rattle.act_tree.specs.EidsOfWids.{eid_of_wid};
 ghost use Rattle.act_tree.specs.Faults.{first_cause, eids_of};
+ghost use Rattle.act_tree.specs.NodesStay.{NodesStay};
 ghost use Rattle.act_tree.specs.Provisions.{Own};
-ghost use Rattle.act_tree.specs.Seen.{tree_view};
+ghost use Rattle.act_tree.specs.Seen.{tree_view, has_node, provision_at};
 ghost use Rattle.act_tree.specs.Wids.{all_wids, is_among, one_twice};
 
 use crate::{NodeId, Nodes, Refs, Tree};
@@ -34,6 +35,31 @@ pub fn nums_keep_wids(tree: &Tree)
 pub fn contents_keep_wids(tree: &Tree, wid: &str, content: &str)
     ensures { let body = (tree_view tree.now).body in
         all_wids (changed (with_content content.now) wid.now body) ≡ all_wids body }
+{}
+
+/// Two nodes of one wId are one node.
+pub fn nodes_are_told_by_wids(tree: &Tree, one: NodeId, other: NodeId)
+    requires one { has_node tree.now one ≡ true }
+    requires other { has_node tree.now other ≡ true }
+    requires same { (provision_at tree.now one).wid ≡ (provision_at tree.now other).wid }
+    ensures { one ≡ other }
+{}
+
+/// A number stays good through each change (`stay` of each, which is this premise): the node that has the wId of a node
+/// after it is the same number, so that a search for the wId finds again what it found.
+pub fn nodes_keep_numbers(earlier: &Tree, later: &Tree, before: NodeId, after: NodeId)
+    requires stay { NodesStay earlier.now later.now }
+    requires before { has_node earlier.now before ≡ true }
+    requires after { has_node later.now after ≡ true }
+    requires same { (provision_at later.now after).wid ≡ (provision_at earlier.now before).wid }
+    ensures { after ≡ before }
+{}
+
+/// A change that leaves all nodes and their wIds, as that of a content or of nums, is one through which nodes stay.
+pub fn nodes_left_stay(earlier: &Tree, later: &Tree)
+    requires nodes { (k : ℕ) → has_node later.now k ≡ has_node earlier.now k }
+    requires wids { (k : ℕ) → (provision_at later.now k).wid ≡ (provision_at earlier.now k).wid }
+    ensures { NodesStay earlier.now later.now }
 {}
 
 /// The eIds of a well-formed tree are distinct: two nodes of one eId are one node.
