@@ -1,39 +1,41 @@
 -- Two edits of which neither touches anything that the other touches give one text in either order.
-use Rattle.std.proofs.Common.{◌≡◌, ◌∙◌, sym, ap, refl, ℕ, Bool, true, false, cond, ◌||◌, ◌&&◌, List, [], ◌∷◌, Option, Some, None, option_map, ◌⊎◌, inl, inr}
-use Rattle.std.specs.Prelude.{is_some, Ok, Err}
+use Rattle.std.proofs.Common.{◌≡◌, ◌∙◌, sym, ap, refl, subst, ℕ, Bool, true, false, cond, ◌||◌, ◌&&◌, List, [], ◌∷◌, ◌++◌, Some, option_map, inl, inr}
+use Rattle.std.specs.Prelude.{is_some, Result, Ok}
 use Rattle.std.specs.List.{list_all}
 use Rattle.std.specs.Str.{bytes_eq}
 use Rattle.std.proofs.lemmas.Bool.{and_parts, or_cases}
 use Rattle.desk_base.specs.declared.id.Id.{Id}
 use Rattle.act_tree.specs.Branches.{Branch, Branches, branch, no_branches, more_branches}
-use Rattle.act_tree.specs.Brought.{has_brought}
-use Rattle.act_tree.specs.Changes.{Step, has_wid, holds, any_holds, changed, joined, renumbered, inside_renumbered, found, head_of, next_of, or_else}
+use Rattle.act_tree.specs.Brought.{bringer, has_brought}
+use Rattle.act_tree.specs.Changes.{Step, has_wid, holds, any_holds, changed, joined, found, head_of, next_of, or_else}
 use Rattle.act_tree.specs.Provisions.{Provision}
 use Rattle.act_tree.specs.Wids.{all_wids, is_among, one_twice}
+use Rattle.act_tree.specs.declared.cause.Cause.{Cause}
 use Rattle.act_tree.specs.declared.cause.Cause.TheVariants.{TargetMissing, AnchorMissing}
-use Rattle.act_tree.proofs.Frames.{or_left, or_right, none_left, none_right}
+use Rattle.act_tree.proofs.Frames.{or_left, or_right}
 use Rattle.act_tree.proofs.Renumbering.{none_renumbered}
-use Rattle.act_tree.proofs.Texts.{same_text, equal_text}
+use Rattle.act_tree.proofs.Texts.{same_text, equal_text, other_text, bytes_eq_sym}
 use Rattle.textual_mods.specs.Edits.{edited}
-use Rattle.textual_mods.specs.Laws.{named_by, stand_apart, edits_apart, Touch, a_content, a_num, all_beneath, touch_of, takes_in, are_unmixed, touch_apart, LooksAtNoSibling, made_of}
-use Rattle.textual_mods.specs.Renumberings.{nums_given}
+use Rattle.textual_mods.specs.Laws.{named_by, stand_apart, edits_apart, Touch, a_content, a_num, a_place, of_itself, all_beneath, touch_of, moves, takes_in, are_unmixed, touch_apart, wids_beneath, wids_at, wids_taken, LooksAtNoSibling, made_of}
 use Rattle.textual_mods.specs.Targets.{provision_named}
 use Rattle.textual_mods.specs.TextEdits.{with_spot, with_text}
 use Rattle.textual_mods.specs.declared.edit.TextualMod.{TextualMod}
 use Rattle.textual_mods.specs.declared.edit.TextualMod.TheVariants.{Repeal, SubstituteNodes, SubstituteText, InsertNodes, InsertText, Renumber, Split, Join}
-use Rattle.textual_mods.proofs.Held.{IsAlone, it_alone, IsNamed, named_as, is_held, IsOff, is_off, off_back, apart_unmixed}
+use Rattle.textual_mods.proofs.Behind.{IsBehind}
+use Rattle.textual_mods.proofs.EditsRestated.{Likewise, edit_likewise}
+use Rattle.textual_mods.proofs.Held.{new_differs, IsNamed, named_as, is_held, IsOff, is_off, off_back, apart_unmixed, none_beneath, none_taken, not_itself}
 use Rattle.textual_mods.proofs.JoinChange.{join_change}
 use Rattle.textual_mods.proofs.OneChange.{IsClear, ReadsSame, IsFree, IsChange, repeal_change, substitution_change, insertion_change, split_change}
-use Rattle.textual_mods.proofs.OnePlace.{first_found, one_place}
+use Rattle.textual_mods.proofs.OnePlace.{held_among, all_among, held_found, first_found, one_place}
 use Rattle.textual_mods.proofs.OneRestating.{IsRestating, AreSaid, first_of_them, text_restating, nums_restating, content_still, gives_both}
 use Rattle.textual_mods.proofs.Readers.{found_reads, next_reads, read_still}
-use Rattle.textual_mods.proofs.Restating.{inside_restated, restated, restated_both, found_restated, next_restated, kept_inside, restated_swapped}
-use Rattle.textual_mods.proofs.Said.{bare, content_of, said, said_content, said_some, said_still}
+use Rattle.textual_mods.proofs.Restating.{Saying, as_it_was, inside_restated, restated, content_at, restated_both, some_mapped, content_of, found_restated, found_has, content_is_there, content_found}
 use Rattle.textual_mods.proofs.Swapping.{always_followed, IsApart, swapped}
+use Rattle.textual_mods.proofs.WidsLeft.{left_there}
 
 -- what an edit does: one change, or other contents and nums
 pub data IsForm (by : Id) (edit : TextualMod) (body : Branches Provision) : Type 0 where
-  one_change : touch_of edit ≡ all_beneath → IsChange by edit body → IsForm by edit body
+  one_change : moves (touch_of edit) ≡ true → IsChange by edit body → IsForm by edit body
   other_texts : IsRestating by edit body → IsForm by edit body
 
 -- what an edit names is there
@@ -106,13 +108,10 @@ are_off body one other once told v u named other_named =
 off_too : (body : Branches Provision) (one other : TextualMod) → AreOff body one other → AreOff body other one
 off_too body one other off v u named other_named = off_back (touch_of one) (touch_of other) body u v (off u v other_named named)
 
--- where all is touched that stands beneath a provision, nothing of the other stands there
-none_beneath : (t s : Touch) (b : Branch Provision) (w : List ℕ) → t ≡ all_beneath → takes_in t s b w ≡ false → holds w b ≡ false
-none_beneath t s b w whole none = ap (λ x. takes_in x s b w) (sym whole) ∙ none
-
 -- a wId that another edit names is clear of an edit
-clear_of : (body : Branches Provision) (one other : TextualMod) → AreOff body one other → touch_of one ≡ all_beneath → (v u : List ℕ) → is_among v (named_by one) ≡ true → is_among u (named_by other) ≡ true → IsClear one body u
-clear_of body one other off whole v u named other_named =
+clear_of : (body : Branches Provision) (one other : TextualMod) → AreOff body one other → moves (touch_of one) ≡ true → moves (touch_of other) ≡ true → (v u : List ℕ) → is_among v (named_by one) ≡ true → is_among u (named_by other) ≡ true
+    → IsClear one body u
+clear_of body one other off moving other_moving v u named other_named =
     let place : IsOff (touch_of one) (touch_of other) body v u = off v u named other_named in
     record {
       there = is_held u body place.other place.other_named.found_is;
@@ -120,7 +119,7 @@ clear_of body one other off whole v u named other_named =
           let there : IsOff (touch_of one) (touch_of other) body w u = off w u w_named other_named in
           let same : Some b ≡ Some there.one = sym is ∙ there.one_named.found_is in
           let same_branch : b ≡ there.one = cc in
-          ap (holds u) same_branch ∙ none_beneath (touch_of one) (touch_of other) there.one u whole there.not_in_one;
+          ap (holds u) same_branch ∙ none_beneath (touch_of one) (touch_of other) u there.one moving other_moving there.not_in_one;
     }
 
 -- a change, as it stands to a wId that is clear of it
@@ -150,40 +149,38 @@ next_steady : (v : List ℕ) (a b : Branch Provision) (near rest : Branches Prov
 next_steady v a b near rest it is xs ys =
     next_at v a it (joined near xs) ∙ ap (λ n. head_of (joined n xs)) is ∙ sym (next_at v a it (joined near ys) ∙ ap (λ n. head_of (joined n ys)) is)
 
-of_wid : (v : List ℕ) (body : Branches Provision) (b : Branch Provision) → one_twice (all_wids body) ≡ false → found v body ≡ Some b → has_wid v b ≡ true
-of_wid v body b once is =
-    let alone : IsAlone v b = it_alone v b body (is_held v body b is) (one_place v b body once is) in
-    alone.of_it
-
 -- two edits of a text, each made in the text and in what the other makes of it, with one outcome
 pub record IsSwapped (by other : Id) (one two : TextualMod) (x u : Branches Provision) : Type 0 where
   pub both : Branches Provision
   pub second : edited other two x ≡ Ok both
   pub first : edited by one u ≡ Ok both
 
--- something is given at a wId
-abbrev given_by : List (List ℕ) → List (List ℕ) → List ℕ → Bool
-given_by contents nums w = is_among w contents || is_among w nums
+unless : (t : Bool) → (t ≡ true → ⊥) → t ≡ false
+unless true never = absurd (never refl)
+unless false never = refl
+
+differs : (v w : List ℕ) (b : Branch Provision) → has_wid w b ≡ true → has_wid v b ≡ false → bytes_eq v w ≡ false
+differs v w (branch p below) it none = ap (bytes_eq v) (sym (same_text p.wid w it)) ∙ bytes_eq_sym v p.wid ∙ none
 
 module _ (body : Branches Provision) (once : one_twice (all_wids body) ≡ false) where
   -- what an edit reads is the same after a change of another
-  reads_still : (by other : Id) (one two : TextualMod) → AreOff body one two → touch_of one ≡ all_beneath → touch_of two ≡ all_beneath → (c : IsChange by one body) (d : IsChange other two body)
+  reads_still : (by other : Id) (one two : TextualMod) → AreOff body one two → moves (touch_of one) ≡ true → moves (touch_of two) ≡ true → (c : IsChange by one body) (d : IsChange other two body)
       → ReadsSame two d.near body (changed c.step c.place body) d.place
-  reads_still by other one two off whole other_whole c d =
+  reads_still by other one two off moving other_moving c d =
       record {
         same = λ u named.
             let place : IsOff (touch_of one) (touch_of two) body c.place u = off c.place u c.named named in
-            let back : holds c.place place.other ≡ false = none_beneath (touch_of two) (touch_of one) place.other c.place other_whole place.not_in_other in
+            let back : holds c.place place.other ≡ false = none_beneath (touch_of two) (touch_of one) c.place place.other other_moving moving place.not_in_other in
             read_still (found u) u (found_reads u) c.step c.place place.other c.at no_branches c.near c.made
-            (found_steady u place.other (of_wid u body place.other once place.other_named.found_is)) back refl body
+            (found_steady u place.other (found_has u place.other body place.other_named.found_is)) back refl body
             (one_place u place.other body once place.other_named.found_is) (always_followed u body)
-            (apart_from by body once one c u (clear_of body one two off whole c.place u c.named named));
+            (apart_from by body once one c u (clear_of body one two off moving other_moving c.place u c.named named));
         next = λ b rest is.
-            let free : IsFree c.place d.at d.near d.made = d.free c.place (clear_of body two one (off_too body one two off) other_whole d.place c.place d.named c.named) in
+            let free : IsFree c.place d.at d.near d.made = d.free c.place (clear_of body two one (off_too body one two off) other_moving moving d.place c.place d.named c.named) in
             read_still (next_of d.place) d.place (next_reads d.place) c.step c.place d.at c.at d.near c.near c.made
-            (next_steady d.place d.at b d.near rest (of_wid d.place body d.at once d.found_is) is) free.not_in free.not_near body
+            (next_steady d.place d.at b d.near rest (found_has d.place d.at body d.found_is) is) free.not_in free.not_near body
             (one_place d.place d.at body once d.found_is) d.followed
-            (apart_from by body once one c d.place (clear_of body one two off whole c.place d.place c.named d.named));
+            (apart_from by body once one c d.place (clear_of body one two off moving other_moving c.place d.place c.named d.named));
       }
 
   reads_itself : (edit : TextualMod) (near : Branches Provision) (v : List ℕ) → ReadsSame edit near body body v
@@ -194,23 +191,20 @@ module _ (body : Branches Provision) (once : one_twice (all_wids body) ≡ false
       let same : Ok (changed c.step c.place body) ≡ Ok x = sym (c.is body (reads_itself edit c.near c.place)) ∙ made in
       cc
 
-  changes_swapped : (by other : Id) (one two : TextualMod) → AreOff body one two → touch_of one ≡ all_beneath → touch_of two ≡ all_beneath → IsChange by one body → IsChange other two body
+  changes_swapped : (by other : Id) (one two : TextualMod) → AreOff body one two → moves (touch_of one) ≡ true → moves (touch_of two) ≡ true → IsChange by one body → IsChange other two body
       → (x u : Branches Provision) → edited by one body ≡ Ok x → edited other two body ≡ Ok u → IsSwapped by other one two x u
-  changes_swapped by other one two off whole other_whole c d x u made other_made =
+  changes_swapped by other one two off moving other_moving c d x u made other_made =
       let x_is : changed c.step c.place body ≡ x = result_is by one c x made in
       let u_is : changed d.step d.place body ≡ u = result_is other two d u other_made in
       record {
         both = changed d.step d.place (changed c.step c.place body);
-        second = ap (edited other two) (sym x_is) ∙ d.is (changed c.step c.place body) (reads_still by other one two off whole other_whole c d);
+        second = ap (edited other two) (sym x_is) ∙ d.is (changed c.step c.place body) (reads_still by other one two off moving other_moving c d);
         first =
-            ap (edited by one) (sym u_is) ∙ c.is (changed d.step d.place body) (reads_still other by two one (off_too body one two off) other_whole whole d c)
+            ap (edited by one) (sym u_is) ∙ c.is (changed d.step d.place body) (reads_still other by two one (off_too body one two off) other_moving moving d c)
             ∙ ap Ok (swapped c.step d.step c.place d.place c.at d.at c.near c.made d.near d.made body
-            (apart_from by body once one c d.place (clear_of body one two off whole c.place d.place c.named d.named))
-            (apart_from other body once two d c.place (clear_of body two one (off_too body one two off) other_whole d.place c.place d.named c.named)));
+            (apart_from by body once one c d.place (clear_of body one two off moving other_moving c.place d.place c.named d.named))
+            (apart_from other body once two d c.place (clear_of body two one (off_too body one two off) other_moving moving d.place c.place d.named c.named)));
       }
-
-  mapped : (f : Branch Provision → Branch Provision) (o : Option (Branch Provision)) (b : Branch Provision) → o ≡ Some b → f b ≡ b → option_map f o ≡ o
-  mapped f o b is same = ap (option_map f) is ∙ ap Some same ∙ sym is
 
   texts_are : (by : Id) (edit : TextualMod) → AreNamed edit body → (r : IsRestating by edit body) (x : Branches Provision) → edited by edit body ≡ Ok x → restated r.content r.num body ≡ x
   texts_are by edit named r x made =
@@ -218,67 +212,87 @@ module _ (body : Branches Provision) (once : one_twice (all_wids body) ≡ false
       sym (r.is body (record { there = λ w among. ap is_some (named w among).1.found_is; content = λ w among. refl })) ∙ made in
       cc
 
-  change_and_texts : (by other : Id) (one two : TextualMod) → AreOff body one two → touch_of one ≡ all_beneath → IsChange by one body → AreNamed two body → IsRestating other two body
+  gone_apart : (t : Touch) (w v : List ℕ) → IsOff all_beneath t body w v → is_among v (wids_at body w) ≡ false
+  gone_apart t w v place =
+      ap (λ s. is_among v (cond s (all_wids body) (wids_beneath (found w body)))) place.one_named.other ∙ ap (λ o. is_among v (wids_beneath o)) place.one_named.found_is
+      ∙ sym (held_among v place.one) ∙ none_taken t v place.one place.not_in_one
+
+  -- what another edit names does not go with an edit
+  not_taken : (one two : TextualMod) → AreOff body one two → (v : List ℕ) → is_among v (named_by two) ≡ true → is_among v (wids_taken body one) ≡ false
+  not_taken (Repeal w) two off v named = gone_apart (touch_of two) w v (off w v (first_of_them w []) named)
+  not_taken (SubstituteNodes w new) two off v named = gone_apart (touch_of two) w v (off w v (first_of_them w []) named)
+  not_taken (Join w second separator) two off v named =
+      let place : IsOff of_itself (touch_of two) body second v = off second v (or_right (bytes_eq second w) _ (first_of_them second [])) named in
+      ap (λ t. t || false) (differs v second place.one (found_has second place.one body place.one_named.found_is) (not_itself (touch_of two) v place.one place.not_in_one))
+  not_taken (SubstituteText w spot new) two off v named = refl
+  not_taken (InsertNodes w pos new) two off v named = refl
+  not_taken (InsertText w at new) two off v named = refl
+  not_taken (Renumber pairs) two off v named = refl
+  not_taken (Split w at num heading) two off v named = refl
+
+  change_and_texts : (by other : Id) (one two : TextualMod) → has_brought by body ≡ false → AreOff body one two → moves (touch_of one) ≡ true → AreNamed two body → IsRestating other two body
       → (x u : Branches Provision) → edited by one body ≡ Ok x → edited other two body ≡ Ok u → IsSwapped by other one two x u
-  change_and_texts by other one two off whole c named r x u made other_made =
-      let x_is : changed c.step c.place body ≡ x = result_is by one c x made in
+  change_and_texts by other one two fresh off moving named r x u made other_made =
       let u_is : restated r.content r.num body ≡ u = texts_are other two named r u other_made in
       record {
-        both = restated r.content r.num (changed c.step c.place body);
-        second =
-            ap (edited other two) (sym x_is)
-            ∙ r.is (changed c.step c.place body) (record {
-              there = λ w among. sym (said_some bare (found w (changed c.step c.place body))) ∙ ap is_some (still w among) ∙ said_some bare (found w body) ∙ ap is_some (named w among).1.found_is;
-              content = λ w among.
-                  sym (said_content (found w (changed c.step c.place body))) ∙ ap (option_map content_of) (still w (r.of_contents w among).1) ∙ said_content (found w body);
-            });
-        first =
-            ap (edited by one) (sym u_is)
-            ∙ c.is (restated r.content r.num body) (record {
-              same = λ v v_named. found_restated r.content r.num v body ∙ found_kept v v_named;
-              next = λ b rest is. next_restated r.content r.num c.place body ∙ next_kept b rest is;
-            })
-            ∙ ap Ok (sym (restated_swapped r.content r.num (given_by r.contents r.nums) kept c.step c.place c.at c.near c.made c.makes c.not_own (λ w it. (free w it).not_in) (λ w it. (free w it).not_near) (λ w it. (free w it).not_made) body
-            (one_place c.place c.at body once c.found_is) c.followed));
+        both = restated r.content r.num x;
+        second = r.is x (record {
+          there = λ w among. held_found w x ∙ held_there w among;
+          content = λ w among.
+              let it : (b : Branch Provision) × IsNamed w body b = named w (r.of_contents w among).1 in
+              content_there w among it.0 it.1.found_is;
+        });
+        first = ap (edited by one) (sym u_is) ∙ made_too r.content r.num r.content_kept r.num_kept;
       }
     where
-      kept : (w text : List ℕ) → given_by r.contents r.nums w ≡ false → (r.content w text ≡ text) × (r.num w text ≡ text)
-      kept w text none = (r.content_kept w text (none_left (is_among w r.contents) _ none), r.num_kept w text (none_right (is_among w r.contents) _ none))
+      not_new : (w : List ℕ) → IsBehind (bringer by) w → is_among w (named_by two) ≡ true → ⊥
+      not_new w here among =
+          absurd (let never : true ≡ false =
+          sym (equal_text (bringer by ++ 95 ∷ 95 ∷ here.0) w (sym here.1)) ∙ new_differs by body w here.0 fresh (is_held w body (named w among).0 (named w among).1.found_is) in cc)
 
-      clear : (w : List ℕ) → is_among w (named_by two) ≡ true → IsClear one body w
-      clear w among = clear_of body one two off whole c.place w c.named among
+      not_read : (w : List ℕ) → touch_of one ≡ of_itself → is_among w (named_by one) ≡ true → is_among w r.contents ≡ true → ⊥
+      not_read w own among given =
+          let place : IsOff (touch_of one) (touch_of two) body w w = off w w among (r.of_contents w given).1 in
+          absurd (let never : true ≡ false =
+          sym (found_has w place.one body place.one_named.found_is) ∙ not_itself (touch_of two) w place.one (ap (λ t. takes_in t (touch_of two) place.one w) (sym own) ∙ place.not_in_one) in cc)
 
-      given_clear : (w : List ℕ) → given_by r.contents r.nums w ≡ true → IsClear one body w
-      given_clear w it = elim (or_cases (is_among w r.contents) (is_among w r.nums) it) [ inl content ↦ clear w (r.of_contents w content).1 | inr num ↦ clear w (r.of_nums w num).1 ]
+      made_too : (content num : Saying) → ((w text : List ℕ) → is_among w r.contents ≡ false → content w text ≡ text) → ((w text : List ℕ) → is_among w r.nums ≡ false → num w text ≡ text)
+          → edited by one (restated content num body) ≡ Ok (restated content num x)
+      made_too content num content_kept num_kept =
+          let P : Result (Branches Provision) Cause → Type 0 = λ result. Likewise content num result (edited by one (restated content num body)) in
+          subst P made (edit_likewise content num by body
+          (λ w here text. (
+            content_kept w text (unless (is_among w r.contents) (λ given. not_new w here (r.of_contents w given).1)),
+            num_kept w text (unless (is_among w r.nums) (λ given. not_new w here (r.of_nums w given).1)),
+          ))
+          one moving (λ own w among text. content_kept w text (unless (is_among w r.contents) (not_read w own among))))
 
-      free : (w : List ℕ) → given_by r.contents r.nums w ≡ true → IsFree w c.at c.near c.made
-      free w it = c.free w (given_clear w it)
+      held_there : (w : List ℕ) → is_among w (named_by two) ≡ true → any_holds w x ≡ true
+      held_there w among =
+          all_among w x ∙ left_there by body once fresh one x made w (sym (all_among w body) ∙ is_held w body (named w among).0 (named w among).1.found_is) (not_taken one two off w among)
 
-      still : (w : List ℕ) → is_among w (named_by two) ≡ true → said w (changed c.step c.place body) ≡ said w body
-      still w among = said_still c.step c.place w c.at c.near c.made body (apart_from by body once one c w (clear w among))
-
-      found_kept : (v : List ℕ) → is_among v (named_by one) ≡ true → option_map (inside_restated r.content r.num) (found v body) ≡ found v body
-      found_kept v v_named = by_found (found v body) refl
-        where
-          by_found : (o : Option (Branch Provision)) → found v body ≡ o → option_map (inside_restated r.content r.num) (found v body) ≡ found v body
-          by_found None none = ap (option_map (inside_restated r.content r.num)) none ∙ sym none
-          by_found (Some b) is = mapped (inside_restated r.content r.num) (found v body) b is (kept_inside r.content r.num (given_by r.contents r.nums) kept b (λ w it. (given_clear w it).not_in v b v_named is))
-
-      next_kept : (b : Branch Provision) (rest : Branches Provision) → c.near ≡ more_branches b rest → option_map (inside_restated r.content r.num) (next_of c.place body) ≡ next_of c.place body
-      next_kept b rest is =
-          mapped (inside_restated r.content r.num) (next_of c.place body) b (c.next_is b rest is)
-          (kept_inside r.content r.num (given_by r.contents r.nums) kept b (λ w it. none_left (holds w b) (any_holds w rest) (ap (any_holds w) (sym is) ∙ (free w it).not_near)))
+      content_there : (w : List ℕ) → is_among w r.contents ≡ true → (b : Branch Provision) → found w body ≡ Some b → option_map content_of (found w x) ≡ option_map content_of (found w body)
+      content_there w among (branch p under) is =
+          let again : restated (content_at w p.own.content) as_it_was body ≡ body = content_is_there w p under body (one_place w (branch p under) body once is) in
+          let same : Ok (restated (content_at w p.own.content) as_it_was x) ≡ Ok x =
+          sym (made_too (content_at w p.own.content) as_it_was
+          (λ v text none. ap (λ t. cond t p.own.content text) (other_text v w (λ it. absurd (let never : true ≡ false = sym among ∙ ap (λ k. is_among k r.contents) (sym it) ∙ none in cc))))
+          (λ v text none. refl))
+          ∙ ap (edited by one) again ∙ made in
+          content_found w p.own.content x (let one : restated (content_at w p.own.content) as_it_was x ≡ x = cc in one) (held_there w (r.of_contents w among).1) ∙ sym (ap (option_map content_of) is)
 
   -- of no provision is the same touched by both
   not_both : (t : Touch) (one two : TextualMod) → AreOff body one two → touch_of one ≡ t → touch_of two ≡ t → (v : List ℕ) → is_among v (named_by one) ≡ true → is_among v (named_by two) ≡ true → ⊥
   not_both t one two off one_is two_is v named other_named =
       let place : IsOff (touch_of one) (touch_of two) body v v = off v v named other_named in
-      touched t place.one (of_wid v body place.one once place.one_named.found_is)
+      touched t place.one (found_has v place.one body place.one_named.found_is)
       (ap (λ x. takes_in x t place.one v) (sym one_is) ∙ ap (λ x. takes_in (touch_of one) x place.one v) (sym two_is) ∙ place.not_in_one)
     where
       touched : (s : Touch) (b : Branch Provision) → has_wid v b ≡ true → takes_in s s b v ≡ false → ⊥
       touched a_content b it none = absurd (let never : true ≡ false = sym it ∙ none in cc)
       touched a_num b it none = absurd (let never : true ≡ false = sym it ∙ none in cc)
+      touched a_place (branch p below) it none = absurd (let never : true ≡ false = sym (or_left _ (any_holds v below) it) ∙ none in cc)
+      touched of_itself (branch p below) it none = absurd (let never : true ≡ false = sym (or_left _ (any_holds v below) it) ∙ none in cc)
       touched all_beneath (branch p below) it none = absurd (let never : true ≡ false = sym (or_left _ (any_holds v below) it) ∙ none in cc)
 
   texts_swapped : (by other : Id) (one two : TextualMod) → AreOff body one two → AreNamed one body → AreNamed two body → IsRestating by one body → IsRestating other two body
@@ -295,10 +309,6 @@ module _ (body : Branches Provision) (once : one_twice (all_wids body) ≡ false
             (gives_both r.num s.num r.nums s.nums r.num_kept s.num_kept nums_apart) body);
       }
     where
-      unless : (t : Bool) → (t ≡ true → ⊥) → t ≡ false
-      unless true never = absurd (never refl)
-      unless false never = refl
-
       contents_apart : (w : List ℕ) → is_among w r.contents ≡ true → is_among w s.contents ≡ false
       contents_apart w it = unless (is_among w s.contents) (λ both. not_both a_content one two off (r.of_contents w it).0 (s.of_contents w both).0 w (r.of_contents w it).1 (s.of_contents w both).1)
 
@@ -312,10 +322,10 @@ module _ (body : Branches Provision) (once : one_twice (all_wids body) ≡ false
           → AreSaid two s.contents body (restated r.content r.num body)
       said_too by other one two named r s apart =
           record {
-            there = λ w among. ap is_some (found_restated r.content r.num w body) ∙ said_some (inside_restated r.content r.num) (found w body) ∙ ap is_some (named w among).1.found_is;
+            there = λ w among. ap is_some (found_restated r.content r.num w body) ∙ some_mapped (inside_restated r.content r.num) (found w body) ∙ ap is_some (named w among).1.found_is;
             content = λ w among.
                 let it : (b : Branch Provision) × IsNamed w body b = named w (s.of_contents w among).1 in
-                content_still r.content r.num w body it.0 once it.1.found_is (λ text. r.content_kept w text (apart w among));
+                content_still r.content r.num w body it.0 it.1.found_is (λ text. r.content_kept w text (apart w among));
           }
 
 swapped_back : (by other : Id) (one two : TextualMod) (x u : Branches Provision) → IsSwapped other by two one u x → IsSwapped by other one two x u
@@ -342,10 +352,10 @@ edits_swapped by other one two body once fresh other_fresh told x u made other_m
     off = are_off body one two once told
 
     of_forms : AreNamed one body → AreNamed two body → IsForm by one body → IsForm other two body → IsSwapped by other one two x u
-    of_forms one_named two_named (one_change whole c) (one_change other_whole d) = changes_swapped body once by other one two off whole other_whole c d x u made other_made
-    of_forms one_named two_named (one_change whole c) (other_texts r) = change_and_texts body once by other one two off whole c two_named r x u made other_made
-    of_forms one_named two_named (other_texts r) (one_change whole d) =
-        swapped_back by other one two x u (change_and_texts body once other by two one (off_too body one two off) whole d one_named r u x other_made made)
+    of_forms one_named two_named (one_change moving c) (one_change other_moving d) = changes_swapped body once by other one two off moving other_moving c d x u made other_made
+    of_forms one_named two_named (one_change moving c) (other_texts r) = change_and_texts body once by other one two fresh off moving two_named r x u made other_made
+    of_forms one_named two_named (other_texts r) (one_change moving d) =
+        swapped_back by other one two x u (change_and_texts body once other by two one other_fresh (off_too body one two off) moving one_named r u x other_made made)
     of_forms one_named two_named (other_texts r) (other_texts s) = texts_swapped body once by other one two off one_named two_named r s x u made other_made
 
     by_names : (vs us : List (List ℕ)) → named_by one ≡ vs → named_by two ≡ us → IsSwapped by other one two x u

@@ -3,7 +3,7 @@ use Rattle.std.proofs.Common.{◌≡◌, ◌∙◌, sym, ap, refl, ℕ, zero, su
 use Rattle.std.specs.Prelude.{is_some}
 use Rattle.std.specs.List.{list_any, starts_with}
 use Rattle.std.specs.Str.{bytes_eq}
-use Rattle.std.proofs.lemmas.Bool.{cases_Bool, and_parts, or_cases}
+use Rattle.std.proofs.lemmas.Bool.{cases_Bool, cond_both, and_parts, or_cases}
 use Rattle.std.proofs.lemmas.Bool.Decides.{Decides-eqb}
 use Rattle.std.proofs.lemmas.Slice.Eq.{starts_is}
 use Rattle.desk_base.specs.declared.id.Id.{Id}
@@ -14,7 +14,7 @@ use Rattle.act_tree.specs.Provisions.{Provision}
 use Rattle.act_tree.specs.Wids.{all_wids, is_among, one_twice}
 use Rattle.act_tree.proofs.Frames.{none_left, none_right, neither}
 use Rattle.act_tree.proofs.Texts.{same_text, other_text}
-use Rattle.textual_mods.specs.Laws.{are_apart, Touch, a_content, a_num, all_beneath, takes_in, are_unmixed}
+use Rattle.textual_mods.specs.Laws.{are_apart, Touch, a_content, a_num, a_place, of_itself, all_beneath, moves, takes_text, takes_in, are_unmixed}
 use Rattle.textual_mods.specs.Targets.{provision_named}
 use Rattle.textual_mods.proofs.OnePlace.{beneath, all_among, held_found, IsOnly, Alone, one_place}
 
@@ -142,14 +142,31 @@ off_back t u body v w off =
     record { one = off.other; other = off.one; one_named = off.other_named; other_named = off.one_named; not_in_one = off.not_in_other; not_in_other = off.not_in_one }
 
 -- what stands neither at nor beneath a provision is not touched with it, nor are two that stand apart mixed
+not_it : (w : List ℕ) (b : Branch Provision) → holds w b ≡ false → has_wid w b ≡ false
+not_it w (branch p below) none = none_left (bytes_eq p.wid w) _ none
+
+text_less : (t u : Touch) (w : List ℕ) (b : Branch Provision) → holds w b ≡ false → takes_text t u b w ≡ false
+text_less all_beneath u w b none = none
+text_less of_itself u w b none = not_it w b none
+text_less a_place u w b none = refl
+text_less a_content a_content w b none = not_it w b none
+text_less a_content u w b none = refl
+text_less a_num a_num w b none = not_it w b none
+text_less a_num u w b none = refl
+
 touched_less : (t u : Touch) (w : List ℕ) (b : Branch Provision) → holds w b ≡ false → takes_in t u b w ≡ false
-touched_less all_beneath u w b none = none
-touched_less a_content a_num w b none = refl
-touched_less a_content a_content w (branch p below) none = none_left (bytes_eq p.wid w) _ none
-touched_less a_content all_beneath w (branch p below) none = none_left (bytes_eq p.wid w) _ none
-touched_less a_num a_content w b none = refl
-touched_less a_num a_num w (branch p below) none = none_left (bytes_eq p.wid w) _ none
-touched_less a_num all_beneath w (branch p below) none = none_left (bytes_eq p.wid w) _ none
+touched_less t u w b none = cond_both (moves t && moves u) (holds w b) (takes_text t u b w) (λ s. s ≡ false) (λ _. none) (λ _. text_less t u w b none)
+
+-- what is not touched with a provision does not stand there, where both edits move provisions, or the one takes all away
+pub none_beneath : (t u : Touch) (w : List ℕ) (b : Branch Provision) → moves t ≡ true → moves u ≡ true → takes_in t u b w ≡ false → holds w b ≡ false
+none_beneath t u w b one two none =
+    sym (ap (λ s. cond (s && moves u) (holds w b) (takes_text t u b w)) one ∙ ap (λ s. cond s (holds w b) (takes_text t u b w)) two) ∙ none
+
+pub none_taken : (u : Touch) (w : List ℕ) (b : Branch Provision) → takes_in all_beneath u b w ≡ false → holds w b ≡ false
+none_taken u w b none = elim (moves u) as (λ s. cond s (holds w b) (holds w b) ≡ false → holds w b ≡ false) [ true ↦ λ is. is | false ↦ λ is. is ] none
+
+pub not_itself : (u : Touch) (w : List ℕ) (b : Branch Provision) → takes_in of_itself u b w ≡ false → has_wid w b ≡ false
+not_itself u w b none = elim (moves u) as (λ s. cond s (holds w b) (has_wid w b) ≡ false → has_wid w b ≡ false) [ true ↦ not_it w b | false ↦ λ is. is ] none
 
 pub apart_unmixed : (t u : Touch) (o x : Option (Branch Provision)) → are_apart o x ≡ true → are_unmixed t u o x ≡ true
 apart_unmixed t u None x apart = absurd cc

@@ -1,7 +1,7 @@
 pub mod Restating
-pub mod Said
 pub mod Behind
 pub mod Contents
+pub mod EditsRestated
 pub mod EitherOrder
 pub mod FewNodes
 pub mod Finding

@@ -1,5 +1,5 @@
 -- An edit of a content, and a renumbering, give provisions that they name another content or another num, and change nothing else.
-use Rattle.std.proofs.Common.{◌≡◌, ◌∙◌, sym, ap, refl, ℕ, Bool, true, false, cond, ◌||◌, ◌&&◌, List, [], ◌∷◌, Option, Some, None, option_map}
+use Rattle.std.proofs.Common.{◌≡◌, ◌∙◌, sym, ap, refl, ℕ, Bool, true, false, cond, ◌&&◌, List, [], ◌∷◌, Option, Some, None, option_map}
 use Rattle.std.specs.Prelude.{is_some, Ok, Err}
 use Rattle.std.specs.List.{list_all}
 use Rattle.std.specs.Str.{bytes_eq}
@@ -7,21 +7,20 @@ use Rattle.desk_base.specs.declared.id.Id.{Id}
 use Rattle.act_tree.specs.Branches.{Branch, Branches, branch}
 use Rattle.act_tree.specs.Changes.{renumbered, num_given, found}
 use Rattle.act_tree.specs.Provisions.{Provision}
-use Rattle.act_tree.specs.Wids.{all_wids, is_among, one_twice}
+use Rattle.act_tree.specs.Wids.{is_among}
 use Rattle.act_tree.specs.declared.cause.Cause.{Cause}
 use Rattle.act_tree.specs.declared.cause.Cause.TheVariants.{TargetMissing}
 use Rattle.act_tree.proofs.Frames.{or_left, or_right, none_left}
-use Rattle.act_tree.proofs.Texts.{equal_text}
+use Rattle.act_tree.proofs.Texts.{same_text, equal_text}
 use Rattle.textual_mods.specs.Edits.{edited}
-use Rattle.textual_mods.specs.Laws.{Touch, a_content, a_num, touch_of, named_by}
+use Rattle.textual_mods.specs.Laws.{a_content, a_num, touch_of, named_by}
 use Rattle.textual_mods.specs.Renumberings.{nums_given}
 use Rattle.textual_mods.specs.Targets.{provision_named}
 use Rattle.textual_mods.specs.TextEdits.{content_set, content_changed}
 use Rattle.textual_mods.specs.declared.edit.TextualMod.{TextualMod}
 use Rattle.textual_mods.specs.declared.edit.TextualMod.TheVariants.{Renumber}
-use Rattle.textual_mods.proofs.Held.{IsNamed, named_as, wid_is}
-use Rattle.textual_mods.proofs.Restating.{Saying, as_it_was, inside_restated, restated, wids_of, num_kept, nums_restate, content_at, content_restates, found_restated}
-use Rattle.textual_mods.proofs.Said.{content_of}
+use Rattle.textual_mods.proofs.Held.{IsNamed, named_as}
+use Rattle.textual_mods.proofs.Restating.{Saying, as_it_was, inside_restated, restated, wids_of, num_kept, nums_restate, content_at, content_restates, content_of, found_restated, found_has}
 
 -- what such an edit reads of a text is the same in another
 pub record AreSaid (edit : TextualMod) (contents : List (List ℕ)) (body other : Branches Provision) : Type 0 where
@@ -98,11 +97,11 @@ nums_restating by pairs body named =
     }
 
 -- a content that is not given stays
-pub content_still : (content num : Saying) (w : List ℕ) (body : Branches Provision) (b : Branch Provision) → one_twice (all_wids body) ≡ false → found w body ≡ Some b → ((x : List ℕ) → content w x ≡ x)
+pub content_still : (content num : Saying) (w : List ℕ) (body : Branches Provision) (b : Branch Provision) → found w body ≡ Some b → ((x : List ℕ) → content w x ≡ x)
     → option_map content_of (found w (restated content num body)) ≡ option_map content_of (found w body)
-content_still content num w body (branch p under) once is kept =
+content_still content num w body (branch p under) is kept =
     ap (option_map content_of) (found_restated content num w body ∙ ap (option_map (inside_restated content num)) is)
-    ∙ ap Some (ap (λ v. content v p.own.content) (wid_is w body p under once is) ∙ kept p.own.content) ∙ sym (ap (option_map content_of) is)
+    ∙ ap Some (ap (λ v. content v p.own.content) (same_text p.wid w (found_has w (branch p under) body is)) ∙ kept p.own.content) ∙ sym (ap (option_map content_of) is)
 
 -- two that give nothing at one wId, whichever is given first
 pub gives_both : (f g : Saying) (vs ws : List (List ℕ)) → ((w x : List ℕ) → is_among w vs ≡ false → f w x ≡ x) → ((w x : List ℕ) → is_among w ws ≡ false → g w x ≡ x)

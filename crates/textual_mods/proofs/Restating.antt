@@ -1,16 +1,15 @@
--- Provisions that get another content or another num, and changes of provisions that do not.
-use Rattle.std.proofs.Common.{◌≡◌, ◌∙◌, sym, ap, refl, ℕ, Bool, true, false, cond, ◌||◌, List, [], ◌∷◌, Option, Some, None, option_map, inl, inr}
-use Rattle.std.specs.Prelude.{map}
+-- Provisions that get another content or another num, by their wIds.
+use Rattle.std.proofs.Common.{◌≡◌, ◌∙◌, sym, ap, refl, ℕ, zero, suc, true, false, cond, List, [], ◌∷◌, length, Option, Some, None, option_map, ◌⊎◌, inl, inr}
+use Rattle.std.specs.Prelude.{map, is_some}
 use Rattle.std.specs.Str.{bytes_eq}
 use Rattle.std.proofs.lemmas.Bool.{cases_Bool}
-use Rattle.act_tree.specs.Branches.{Branch, Branches, branch, no_branches, more_branches}
-use Rattle.act_tree.specs.Changes.{Step, has_wid, holds, any_holds, changed, joined, with_content, renumbered, num_given, found, sought, head_of, next_of, or_else}
+use Rattle.act_tree.specs.Branches.{Branch, Branches, branch, no_branches, more_branches, listed}
+use Rattle.act_tree.specs.Changes.{Step, has_wid, any_holds, changed, joined, first, behind, with_content, renumbered, num_given, found, sought, head_of, next_of, or_else}
 use Rattle.act_tree.specs.Provisions.{Provision}
 use Rattle.act_tree.specs.Wids.{is_among}
-use Rattle.act_tree.proofs.Frames.{or_left, none_left, none_right}
-use Rattle.act_tree.proofs.Texts.{equal_text}
-use Rattle.textual_mods.proofs.OnePlace.{elsewhere, IsOnly, Alone}
-use Rattle.textual_mods.proofs.Swapping.{IsBefore, Followed, Makes, past, joined_same, made_there}
+use Rattle.act_tree.proofs.Frames.{none_left, none_right}
+use Rattle.textual_mods.proofs.Behind.{AllWids, HaveWids}
+use Rattle.textual_mods.proofs.OnePlace.{at_place, elsewhere, held_found, first_found, found_past, beneath_it, behind_it, first_of, Alone}
 
 -- of a provision's wId and a text of it, another text
 abbrev pub Saying : Type 0
@@ -77,6 +76,13 @@ pub or_else_map : (f : Branch Provision → Branch Provision) (o u : Option (Bra
 or_else_map f None u = refl
 or_else_map f (Some b) u = refl
 
+pub some_mapped : (f : Branch Provision → Branch Provision) (o : Option (Branch Provision)) → is_some (option_map f o) ≡ is_some o
+some_mapped f None = refl
+some_mapped f (Some b) = refl
+
+abbrev pub content_of : Branch Provision → List ℕ
+content_of (branch p below) = p.own.content
+
 module _ (content num : Saying) where
   abbrev other : Branches Provision → Branches Provision
   other bs = restated content num bs
@@ -84,7 +90,7 @@ module _ (content num : Saying) where
   abbrev inside : Branch Provision → Branch Provision
   inside b = inside_restated content num b
 
-  restated_joined : (xs ys : Branches Provision) → other (joined xs ys) ≡ joined (other xs) (other ys)
+  pub restated_joined : (xs ys : Branches Provision) → other (joined xs ys) ≡ joined (other xs) (other ys)
   restated_joined no_branches ys = refl
   restated_joined (more_branches b xs) ys = ap (more_branches (inside b)) (restated_joined xs ys)
 
@@ -117,63 +123,87 @@ module _ (content num : Saying) where
         | false ↦ sym (or_else_map (inside_restated content num) (next_of v below) (next_of v bs))
       ]
 
-  -- those of which nothing is given stay as they are
-  module _ (given : List ℕ → Bool) (kept : (w x : List ℕ) → given w ≡ false → (content w x ≡ x) × (num w x ≡ x)) where
-    not_given : (p : Provision) (below bs : Branches Provision) → ((u : List ℕ) → given u ≡ true → any_holds u (more_branches (branch p below) bs) ≡ false) → given p.wid ≡ false
-    not_given p below bs none =
-        elim (cases_Bool (given p.wid)) [
-          | inl it ↦ absurd (let never : true ≡ false = sym (or_left (holds p.wid (branch p below)) (any_holds p.wid bs) (or_left _ _ (equal_text p.wid p.wid refl))) ∙ none p.wid it in cc)
-          | inr told ↦ told
-        ]
+  -- how many there are, and the first of them
+  pub count_restated : (bs : Branches Provision) → length (listed (restated content num bs)) ≡ length (listed bs)
+  count_restated no_branches = refl
+  count_restated (more_branches b bs) = ap suc (count_restated bs)
 
-    pub all_kept : (bs : Branches Provision) → ((u : List ℕ) → given u ≡ true → any_holds u bs ≡ false) → restated content num bs ≡ bs
-    all_kept no_branches none = refl
-    all_kept (more_branches (branch p below) bs) none =
-        let it : given p.wid ≡ false = not_given p below bs none in
-        ap (λ x. more_branches (branch (record p { own = record p.own { content = x; num = num p.wid p.own.num } }) (other below)) (other bs)) (kept p.wid p.own.content it).0
-        ∙ ap (λ x. more_branches (branch (record p { own = record p.own { num = x } }) (other below)) (other bs)) (kept p.wid p.own.num it).1
-        ∙ ap (λ cs. more_branches (branch p cs) (other bs)) (all_kept below (λ u it. none_right (bytes_eq p.wid u) _ (none_left (holds u (branch p below)) _ (none u it))))
-        ∙ ap (more_branches (branch p below)) (all_kept bs (λ u it. none_right (holds u (branch p below)) _ (none u it)))
+  pub first_restated : (n : ℕ) (bs : Branches Provision) → other (first n bs) ≡ first n (other bs)
+  first_restated zero bs = refl
+  first_restated (suc n) no_branches = refl
+  first_restated (suc n) (more_branches b bs) = ap (more_branches (inside b)) (first_restated n bs)
 
-    pub kept_inside : (b : Branch Provision) → ((u : List ℕ) → given u ≡ true → holds u b ≡ false) → inside_restated content num b ≡ b
-    kept_inside b none =
-        let whole : more_branches (inside b) no_branches ≡ more_branches b no_branches = all_kept (more_branches b no_branches) (λ u it. ap (λ t. t || false) (none u it)) in
-        cc
+  pub behind_restated : (n : ℕ) (bs : Branches Provision) → other (behind n bs) ≡ behind n (other bs)
+  behind_restated zero bs = refl
+  behind_restated (suc n) no_branches = refl
+  behind_restated (suc n) (more_branches b bs) = behind_restated n bs
 
-    module _ (step : Step) (v : List ℕ) (a : Branch Provision) (near made : Branches Provision) (makes : Makes step a near made) (not_own : any_holds v near ≡ false)
-        (none : (u : List ℕ) → given u ≡ true → holds u a ≡ false) (none_near : (u : List ℕ) → given u ≡ true → any_holds u near ≡ false) (none_made : (u : List ℕ) → given u ≡ true → any_holds u made ≡ false) where
-      at_it : (b : Branch Provision) (bs : Branches Provision) → has_wid v b ≡ true → IsOnly v a b bs → IsBefore near bs → other (changed step v bs) ≡ changed step v (other bs)
-          → other (changed step v (more_branches b bs)) ≡ changed step v (other (more_branches b bs))
-      at_it b bs it only before behind =
-          let far : Branches Provision = before.far in
-          let near_kept : (cs : Branches Provision) → other (joined near cs) ≡ joined near (other cs) =
-          λ cs. restated_joined near cs ∙ ap (λ x. joined x (other cs)) (all_kept near none_near) in
-          let same : other (changed step v far) ≡ changed step v (other far) =
-          joined_same near (other (changed step v far)) (changed step v (other far))
-          (sym (near_kept (changed step v far)) ∙ ap (restated content num) (sym (ap (changed step v) before.is ∙ past step v near far not_own)) ∙ behind
-          ∙ ap (λ cs. changed step v (other cs)) before.is ∙ ap (changed step v) (near_kept far) ∙ past step v near (other far) not_own) in
-          let it_kept : inside b ≡ b = kept_inside b (λ u given_it. ap (holds u) only.is ∙ none u given_it) in
-          ap (λ cs. other (changed step v (more_branches b cs))) before.is
-          ∙ ap (restated content num) (made_there step v a b near made far makes it only.is only.beneath not_own)
-          ∙ restated_joined made (changed step v far)
-          ∙ ap (λ x. joined x (other (changed step v far))) (all_kept made none_made)
-          ∙ ap (joined made) same
-          ∙ sym (ap (λ c. changed step v (more_branches c (other bs))) it_kept
-          ∙ ap (λ cs. changed step v (more_branches b cs)) (ap (restated content num) before.is ∙ near_kept far)
-          ∙ made_there step v a b near made (other far) makes it only.is only.beneath not_own)
+  pub held_restated : (w : List ℕ) (bs : Branches Provision) → any_holds w (restated content num bs) ≡ any_holds w bs
+  held_restated w bs =
+      sym (held_found w (other bs)) ∙ ap is_some (found_restated w bs) ∙ some_mapped (inside_restated content num) (found w bs) ∙ held_found w bs
 
-      -- a change that holds none of them, and they, in either order
-      pub restated_swapped : (bs : Branches Provision) → Alone v a bs → Followed v near bs → restated content num (changed step v bs) ≡ changed step v (restated content num bs)
-      restated_swapped no_branches alone followed = refl
-      restated_swapped (more_branches (branch p below) bs) alone followed =
-          let under : other (changed step v below) ≡ changed step v (other below) = restated_swapped below alone.1.0 followed.1.0 in
-          let behind : other (changed step v bs) ≡ changed step v (other bs) = restated_swapped bs alone.1.1 followed.1.1 in
-          let said : Provision = record p { own = record p.own { content = content p.wid p.own.content; num = num p.wid p.own.num } } in
-          elim (cases_Bool (bytes_eq p.wid v)) [
-            | inl it ↦ at_it (branch p below) bs it (alone.0 it) (followed.0 it) behind
-            | inr elsewhere_it ↦
-                ap (restated content num) (elsewhere step v (branch p below) bs elsewhere_it)
-                ∙ ap (λ cs. more_branches (branch said cs) (other (changed step v bs))) under
-                ∙ ap (more_branches (branch said (changed step v (other below)))) behind
-                ∙ sym (elsewhere step v (branch said (other below)) (other bs) elsewhere_it)
-          ]
+  -- nothing is given at a wId
+  abbrev pub IsKept : List ℕ → Type 0
+  IsKept w = (text : List ℕ) → (content w text ≡ text) × (num w text ≡ text)
+
+  mutual
+    inside_kept : (b : Branch Provision) → AllWids IsKept b → inside b ≡ b
+    inside_kept (branch p below) kept =
+        ap (λ x. branch (record p { own = record p.own { content = x; num = num p.wid p.own.num } }) (other below)) (kept.0 p.own.content).0
+        ∙ ap (λ x. branch (record p { own = record p.own { num = x } }) (other below)) (kept.0 p.own.num).1
+        ∙ ap (branch p) (all_kept below kept.1)
+
+    pub all_kept : (bs : Branches Provision) → HaveWids IsKept bs → restated content num bs ≡ bs
+    all_kept no_branches kept = refl
+    all_kept (more_branches b bs) kept = ap (λ c. more_branches c (other bs)) (inside_kept b kept.0) ∙ ap (more_branches b) (all_kept bs kept.1)
+
+  -- a change and they go in either order, if its step and they do
+  pub restated_changed : (step : Step) (w : List ℕ) → ((b : Branch Provision) (rest : Branches Provision) → has_wid w b ≡ true → restated content num (step b rest) ≡ step (inside_restated content num b) (restated content num rest))
+      → (bs : Branches Provision) → restated content num (changed step w bs) ≡ changed step w (restated content num bs)
+  restated_changed step w steady no_branches = refl
+  restated_changed step w steady (more_branches (branch p below) bs) =
+      let given : Provision = record p { own = record p.own { content = content p.wid p.own.content; num = num p.wid p.own.num } } in
+      let under : other (changed step w below) ≡ changed step w (other below) = restated_changed step w steady below in
+      let after_it : other (changed step w bs) ≡ changed step w (other bs) = restated_changed step w steady bs in
+      elim (cases_Bool (bytes_eq p.wid w)) [
+        | inl it ↦
+            ap (restated content num) (at_place step w (branch p below) bs it)
+            ∙ steady (branch p (changed step w below)) (changed step w bs) it
+            ∙ ap (λ cs. step (branch given cs) (other (changed step w bs))) under
+            ∙ ap (step (branch given (changed step w (other below)))) after_it
+            ∙ sym (at_place step w (branch given (other below)) (other bs) it)
+        | inr not_it ↦
+            ap (restated content num) (elsewhere step w (branch p below) bs not_it)
+            ∙ ap (λ cs. more_branches (branch given cs) (other (changed step w bs))) under
+            ∙ ap (more_branches (branch given (changed step w (other below)))) after_it
+            ∙ sym (elsewhere step w (branch given (other below)) (other bs) not_it)
+      ]
+
+pub found_has : (v : List ℕ) (b : Branch Provision) (bs : Branches Provision) → found v bs ≡ Some b → has_wid v b ≡ true
+found_has v b no_branches is = absurd cc
+found_has v b (more_branches (branch p below) bs) is =
+    elim (cases_Bool (bytes_eq p.wid v)) [
+      | inl it ↦ (let same : Some (branch p below) ≡ Some b = sym (first_found v p below bs it) ∙ is in let one : branch p below ≡ b = cc in ap (has_wid v) (sym one) ∙ it)
+      | inr not_it ↦ elim (first_of v b below bs (sym (found_past v p below bs not_it) ∙ is)) [ beneath_it here held ↦ found_has v b below here | behind_it none later ↦ found_has v b bs later ]
+    ]
+
+-- the content that a provision has, given to it, changes nothing; and what is so unchanged has it
+pub content_is_there : (v : List ℕ) (p : Provision) (under bs : Branches Provision) → Alone v (branch p under) bs → restated (content_at v p.own.content) as_it_was bs ≡ bs
+content_is_there v p under no_branches alone = refl
+content_is_there v p under (more_branches (branch q below) bs) alone =
+    ap (λ x. more_branches (branch (record q { own = record q.own { content = x } }) (restated (content_at v p.own.content) as_it_was below)) (restated (content_at v p.own.content) as_it_was bs)) (same (cases_Bool (bytes_eq q.wid v)))
+    ∙ ap (λ cs. more_branches (branch q cs) (restated (content_at v p.own.content) as_it_was bs)) (content_is_there v p under below alone.1.0)
+    ∙ ap (more_branches (branch q below)) (content_is_there v p under bs alone.1.1)
+  where
+    same : (bytes_eq q.wid v ≡ true) ⊎ (bytes_eq q.wid v ≡ false) → cond (bytes_eq q.wid v) p.own.content q.own.content ≡ q.own.content
+    same (inl it) = ap (λ t. cond t p.own.content q.own.content) it ∙ ap content_of (sym (alone.0 it).is)
+    same (inr none) = ap (λ t. cond t p.own.content q.own.content) none
+
+pub content_found : (v content : List ℕ) (x : Branches Provision) → restated (content_at v content) as_it_was x ≡ x → any_holds v x ≡ true → option_map content_of (found v x) ≡ Some content
+content_found v content x same held = by_found (found v x) refl
+  where
+    by_found : (o : Option (Branch Provision)) → found v x ≡ o → option_map content_of (found v x) ≡ Some content
+    by_found None is = absurd (let never : true ≡ false = sym held ∙ sym (held_found v x) ∙ ap is_some is in cc)
+    by_found (Some (branch p below)) is =
+        ap (λ cs. option_map content_of (found v cs)) (sym same) ∙ ap (option_map content_of) (found_restated (content_at v content) as_it_was v x ∙ ap (option_map (inside_restated (content_at v content) as_it_was)) is)
+        ∙ ap (λ t. Some (cond t content p.own.content)) (found_has v (branch p below) x is)

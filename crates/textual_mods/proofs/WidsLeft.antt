@@ -1,25 +1,26 @@
 -- The wIds that an edit leaves: those that were there, but for those that go with it, in their order.
-use Rattle.std.proofs.Common.{◌≡◌, ◌∙◌, sym, ap, refl, ℕ, Bool, true, false, cond, not, ◌||◌, List, [], ◌∷◌, ◌++◌, append_assoc, Option, Some, None, ◌⊎◌, inl, inr}
+use Rattle.std.proofs.Common.{◌≡◌, ◌∙◌, sym, ap, refl, subst, ℕ, Bool, true, false, cond, not, ◌||◌, List, [], ◌∷◌, ◌++◌, append_assoc, Option, Some, None, ◌⊎◌, inl, inr}
 use Rattle.std.specs.Prelude.{is_some, Result, Ok, Err}
 use Rattle.std.specs.List.{filter, list_any}
 use Rattle.std.specs.Str.{bytes_eq}
-use Rattle.std.proofs.lemmas.Bool.{cases_Bool, cond_both}
+use Rattle.std.proofs.lemmas.Bool.{cases_Bool, cond_both, and_parts}
 use Rattle.std.proofs.lemmas.Bool.Decides.{Decides-eqb}
 use Rattle.std.proofs.lemmas.List.{append-nil}
 use Rattle.std.proofs.lemmas.List.Elements.{filter-append}
 use Rattle.std.proofs.lemmas.List.Folds.{list_any-append}
+use Rattle.std.proofs.lemmas.Map.Views.{any-filter_same}
 use Rattle.std.proofs.lemmas.Slice.Eq.{starts_is}
 use Rattle.desk_base.specs.declared.id.Id.{Id}
 use Rattle.eid_paths.specs.Levels.{level_text}
 use Rattle.act_tree.specs.Branches.{Branch, Branches, branch, no_branches, more_branches, branches_of}
 use Rattle.act_tree.specs.Brought.{bringer, brought, has_brought, second_part}
-use Rattle.act_tree.specs.Changes.{Step, has_wid, any_holds, is_in, without, removed, inside_changed, changed, joined, first, behind, instead, before, after, put_in, among_children, with_content, parted, merged, substituted, grafted, renumbered, root_wid, found, next_of}
+use Rattle.act_tree.specs.Changes.{Step, has_wid, any_holds, is_in, removed, inside_changed, changed, joined, first, behind, instead, before, after, put_in, among_children, parted, merged, substituted, grafted, renumbered, root_wid, found, next_of}
 use Rattle.act_tree.specs.Provisions.{Own, Provision}
 use Rattle.act_tree.specs.Wids.{wids, all_wids, is_among, one_twice}
 use Rattle.act_tree.specs.declared.cause.Cause.{Cause}
 use Rattle.act_tree.proofs.ChangeLaws.{all_wids_renumbered, all_wids_changed}
-use Rattle.act_tree.proofs.Frames.{or_left, or_right, none_left, none_right, neither, Apart, twice_apart}
-use Rattle.act_tree.proofs.Texts.{same_text, equal_text}
+use Rattle.act_tree.proofs.Frames.{or_left, or_right, none_left, none_right, Apart, twice_apart}
+use Rattle.act_tree.proofs.Texts.{same_text}
 use Rattle.textual_mods.specs.Edits.{edited}
 use Rattle.textual_mods.specs.Joins.{join_of_kind, join_with_next, join_of}
 use Rattle.textual_mods.specs.Laws.{is_brought_by, wids_beneath, wids_at, wids_taken}
@@ -37,7 +38,7 @@ use Rattle.textual_mods.proofs.Behind.{brought_behind, all_none}
 use Rattle.textual_mods.proofs.Held.{first_and_behind, fails_there, is_named}
 use Rattle.textual_mods.proofs.JoinChange.{next_followed, own_apart}
 use Rattle.textual_mods.proofs.OneChange.{taken_away}
-use Rattle.textual_mods.proofs.OnePlace.{not_changed, elsewhere, held_found, AreDistinct, are_distinct, first_found, found_past, beneath_it, behind_it, first_of, IsOnly, Alone, one_place}
+use Rattle.textual_mods.proofs.OnePlace.{not_changed, elsewhere, held_found, AreDistinct, are_distinct, found_past, beneath_it, behind_it, first_of, IsOnly, Alone, one_place}
 use Rattle.textual_mods.proofs.OneRestating.{first_of_them}
 use Rattle.textual_mods.proofs.Swapping.{IsBefore, Followed, always_followed, Makes, made_there}
 
@@ -367,3 +368,12 @@ module _ (by : Id) (body : Branches Provision) (once : one_twice (all_wids body)
   edit_leaves (Renumber pairs) = tested [] _ (renumbered pairs body) _ (λ _. ap (filter old) (all_wids_renumbered pairs body) ∙ all_stay)
   edit_leaves (Split w at num heading) = split_leaves w at num heading (provision_named w body)
   edit_leaves (Join w second separator) = join_leaves w second separator (provision_named w body) (provision_named second body) refl
+
+  -- a wId that does not go is still there
+  pub left_there : (edit : TextualMod) (x : Branches Provision) → edited by edit body ≡ Ok x → (w : List ℕ) → is_among w (all_wids body) ≡ true → is_among w (wids_taken body edit) ≡ false → is_among w (all_wids x) ≡ true
+  left_there edit x made w there none =
+      let P : Result (Branches Provision) Cause → Type 0 = OkLeaves (wids_taken body edit) in
+      let leaves : Leaves (wids_taken body edit) x = subst P made (edit_leaves edit) in
+      (and_parts (old w) (is_among w (all_wids x))
+      (sym (any-filter_same (bytes_eq w) old (old w) (λ v same. ap old (sym (same_text w v same))) (all_wids x)) ∙ ap (is_among w) leaves
+      ∙ any-filter_same (bytes_eq w) (none_of (wids_taken body edit)) true (λ v same. ap (none_of (wids_taken body edit)) (sym (same_text w v same)) ∙ ap not none) (all_wids body) ∙ there)).1

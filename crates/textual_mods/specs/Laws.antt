@@ -1,5 +1,5 @@
 -- Words of the laws: trees after edits, what undoes an edit, and edits at provisions that stand apart.
-use Rattle.std.specs.Prelude.{ℕ, ◌≡◌, Bool, false, not, ◌&&◌, List, [], ◌∷◌, ◌++◌, map, Option, Some, None, if◌then◌else◌, nat_eq}
+use Rattle.std.specs.Prelude.{ℕ, ◌≡◌, Bool, true, false, not, ◌&&◌, List, [], ◌∷◌, ◌++◌, map, Option, Some, None, if◌then◌else◌, nat_eq}
 use Rattle.std.specs.List.{list_all, starts_with}
 use Rattle.std.specs.Str.{bytes_eq}
 use Rattle.desk_base.specs.declared.id.Id.{Id}
@@ -86,29 +86,46 @@ stand_apart body v w = are_apart (provision_named v body) (provision_named w bod
 abbrev pub edits_apart : Branches Provision → TextualMod → TextualMod → Bool
 edits_apart body one other = list_all (λ v. list_all (stand_apart body v) (named_by other)) (named_by one)
 
--- what an edit touches of the provisions that it names: their content, their num, or all that stands at and beneath them
+-- what an edit touches of the provisions that it names: their content; their num; where provisions stand at and beneath
+-- them, and of themselves nothing; this and their content and num; or all that stands at and beneath them
 pub data Touch : Type 0 where
   a_content : Touch
   a_num : Touch
+  a_place : Touch
+  of_itself : Touch
   all_beneath : Touch
 
 abbrev pub touch_of : TextualMod → Touch
 touch_of (SubstituteText wid spot new) = a_content
 touch_of (InsertText wid at new) = a_content
 touch_of (Renumber pairs) = a_num
+touch_of (InsertNodes wid pos new) = a_place
+touch_of (Split wid at num heading) = of_itself
+touch_of (Join wid second separator) = of_itself
 touch_of (Repeal wid) = all_beneath
 touch_of (SubstituteNodes wid new) = all_beneath
-touch_of (InsertNodes wid pos new) = all_beneath
-touch_of (Split wid at num heading) = all_beneath
-touch_of (Join wid second separator) = all_beneath
+
+-- an edit changes which provisions stand where
+abbrev pub moves : Touch → Bool
+moves a_content = false
+moves a_num = false
+moves a_place = true
+moves of_itself = true
+moves all_beneath = true
+
+-- the content or num of a wId that another touches is among those that are touched with a provision
+abbrev pub takes_text : Touch → Touch → Branch Provision → List ℕ → Bool
+takes_text all_beneath other b wid = holds wid b
+takes_text of_itself other b wid = has_wid wid b
+takes_text a_place other b wid = false
+takes_text a_content a_content b wid = has_wid wid b
+takes_text a_content other b wid = false
+takes_text a_num a_num b wid = has_wid wid b
+takes_text a_num other b wid = false
 
 -- what is touched of a provision takes in something that another touches of the provision of a wId
 abbrev pub takes_in : Touch → Touch → Branch Provision → List ℕ → Bool
-takes_in all_beneath other b wid = holds wid b
-takes_in a_content a_num b wid = false
-takes_in a_content other b wid = has_wid wid b
-takes_in a_num a_content b wid = false
-takes_in a_num other b wid = has_wid wid b
+takes_in one other b wid = if moves one && moves other then holds wid b else takes_text one other b wid
 
 -- two provisions, of neither of which anything is touched that is touched of the other
 abbrev pub are_unmixed : Touch → Touch → Option (Branch Provision) → Option (Branch Provision) → Bool

@@ -135,9 +135,11 @@ pub fn edits_apart_go_in_either_order(
 {}
 
 /// So do two edits of which neither touches anything that the other touches. A substitution or insertion of text touches
-/// the content of the provision that it names, and a renumbering the nums of those that it names; any other edit touches
-/// all that stands at and beneath those that it names. So a provision's content and its num can be changed in either
-/// order, and either before or after any edit of what stands beneath it.
+/// the content of the provision that it names, a renumbering the nums of those that it names. An insertion of provisions,
+/// a split and a join touch where provisions stand, at and beneath those that they name, and a split and a join also the
+/// content and the num of these; a repeal and a substitution of provisions touch all that stands at and beneath the
+/// target. So the content of a provision and its num are changed in either order, each of them before or after any edit
+/// of what stands beneath it, and before or after an insertion beside it, in it or above it.
 pub fn edits_of_other_things_go_in_either_order(
     tree: &Tree,
     by: Id,
