@@ -6,3 +6,4 @@ pub mod Places
 pub mod Spelling
 pub mod Printed
 pub mod ReadBack
+pub mod TypedParts

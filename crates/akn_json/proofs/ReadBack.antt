@@ -3,3 +3,8 @@ pub mod Nodes
 pub mod Edits
 pub mod Bearings
 pub mod Modifications
+pub mod Texts
+pub mod Plain
+pub mod Depths
+pub mod Drafts
+pub mod Registers

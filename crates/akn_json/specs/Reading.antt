@@ -10,3 +10,4 @@ pub mod Bytes
 pub mod Dossiers
 pub mod CommandKinds
 pub mod Commands
+pub mod Drafts

@@ -11,6 +11,7 @@ mod nodes;
 mod parts;
 mod provisions;
 mod refusals;
+pub(crate) mod typed;
 mod values;
 
 pub use answers::put_answer;

@@ -34,7 +34,7 @@ place_back wid pos.End = refl
 
 pair_back : (p : List ℕ × List ℕ) → IsTypedPair p → pair_in (pair_data p) ≡ Ok p
 unfolding pair_in members_in has_members field_in text_in
-pair_back p is = rw (num_back p.1 is) refl
+pair_back p is = rw (num_back p.1 is.0) refl
 
 pairs_back : (ps : List (List ℕ × List ℕ)) → All IsTypedPair ps → each pair_in (pairs_data ps) ≡ Ok ps
 pairs_back [] are = refl
@@ -45,23 +45,23 @@ pub textual_back : (source : ModSource) (force : Period) (edit : TextualMod) →
 unfolding textual_data textual_in kind_in payload_in form_in has_members members_in either_in field_in optional_in items_in text_in repeal_in substitute_nodes_in substitute_text_in insert_nodes_in no_spot_in text_pos_in insert_text_in renumber_in split_at_in split_in join_in wid_in destination_in anchor_in occurrence_in spot_in
 textual_back source force (Repeal wid) from days typed well = rw (source_back source from, period_back force days) refl
 textual_back source force (SubstituteNodes wid new) from days typed well =
-    rw (source_back source from, period_back force days, nodes_back new typed well) refl
+    rw (source_back source from, period_back force days, nodes_back new typed.1 well) refl
 textual_back source force (SubstituteText wid spot new) from days typed well =
-    rw (source_back source from, period_back force days, number_back 65535 spot.occurrence typed) refl
+    rw (source_back source from, period_back force days, number_back 65535 spot.occurrence typed.1.0) refl
 textual_back source force (InsertNodes wid at new) from days typed well =
-    rw (source_back source from, period_back force days, place_back wid at, nodes_back new typed well) refl
+    rw (source_back source from, period_back force days, place_back wid at, nodes_back new typed.1 well) refl
 textual_back source force (InsertText wid stands.Start new) from days typed well =
     rw (source_back source from, period_back force days, place_back wid pos.Start) refl
 textual_back source force (InsertText wid stands.End new) from days typed well =
     rw (source_back source from, period_back force days, place_back wid pos.End) refl
 textual_back source force (InsertText wid (stands.Before spot) new) from days typed well =
-    rw (source_back source from, period_back force days, place_back wid pos.Before, number_back 65535 spot.occurrence typed) refl
+    rw (source_back source from, period_back force days, place_back wid pos.Before, number_back 65535 spot.occurrence typed.1.0) refl
 textual_back source force (InsertText wid (stands.After spot) new) from days typed well =
-    rw (source_back source from, period_back force days, place_back wid pos.After, number_back 65535 spot.occurrence typed) refl
+    rw (source_back source from, period_back force days, place_back wid pos.After, number_back 65535 spot.occurrence typed.1.0) refl
 textual_back source force (Renumber pairs) from days typed well =
     rw (source_back source from, period_back force days, pairs_back pairs typed) refl
 textual_back source force (Split wid (cuts.Text spot) num heading) from days typed well =
-    rw (source_back source from, period_back force days, number_back 65535 spot.occurrence typed.0, num_back num typed.1) refl
+    rw (source_back source from, period_back force days, number_back 65535 spot.occurrence typed.1.0, num_back num typed.2) refl
 textual_back source force (Split wid (cuts.Child child) num heading) from days typed well =
-    rw (source_back source from, period_back force days, num_back num typed.1) refl
+    rw (source_back source from, period_back force days, num_back num typed.2) refl
 textual_back source force (Join wid second separator) from days typed well = rw (source_back source from, period_back force days) refl

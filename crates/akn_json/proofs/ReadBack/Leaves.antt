@@ -57,7 +57,7 @@ work_back iri is = by (work_of iri) refl is
 
 pub source_back : (s : ModSource) → IsTypedSource s → source_in (source_data s) ≡ Ok s
 unfolding source_in members_in has_members field_in
-source_back s typed = rw (work_back s.href typed.0, number_back 65535 s.place typed.1) refl
+source_back s typed = rw (work_back s.href typed.0.0, number_back 65535 s.place typed.1) refl
 
 -- no digit is a full stop
 no_stop : (n : ℕ) → n ≤ 4294967295 → list_all (λ b. not (is_stop b)) (decimal n) ≡ true

@@ -59,7 +59,7 @@ mutual
   node_back (branch own below) typed well =
       let parts = and_parts (list_all is_expression own.refs) (are_spelled_nodes below) well in
       ap (λ (r : Read Own). r >>= λ (o : Own). each_node (all_brought_data below) >>= λ (bs : List (Branch Own)). Ok (branch o (branches_of bs)))
-      (own_back own (all_brought_data below) typed.0 parts.0)
+      (own_back own (all_brought_data below) typed.0.0 parts.0)
       ∙ ap (λ (r : Read (List (Branch Own))). r >>= λ (bs : List (Branch Own)). Ok (branch own (branches_of bs))) (each_back below typed.1 parts.1)
       ∙ ap (λ (bs : Branches Own). Ok (branch own bs)) (branches_of-listed below)
 
