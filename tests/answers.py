@@ -28,7 +28,7 @@ def rows():
 
 
 def words():
-    """Words that are no form of the command line: status 2, one usage line on standard error, nothing read or written."""
+    """Words that are no form of the command line: status 2, the usage on standard error, nothing read or written."""
     for line in cases.NO_WORDS:
         done = subprocess.run([PROGRAM] + line, input=cases.dossier(), capture_output=True, timeout=60)
         check(f"the words {line}", (done.returncode, done.stdout, done.stderr), (2, b"", cases.USAGE))

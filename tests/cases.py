@@ -5,6 +5,8 @@ Each table is a list of (name, dossier, line), or of (name, dossier) where the d
 """
 import json
 
+from checks import read
+
 LIMIT = 8_388_608
 IRI = "/akn/gb/act/2010-05-01/7"
 SOURCE = "/akn/gb/act/2010-12-01/20"
@@ -139,10 +141,8 @@ def padded(length):
     return text + b" " * (length - len(text))
 
 
-USAGE = (b"usage: lawdesk text DATE [force|efficacy], with DATE as 2011-01-01 and the dossier on standard input; "
-         b"lawdesk batch, with requests there; lawdesk check; lawdesk report lifecycle WORK; "
-         b"lawdesk report correspondence WORK DATE DATE; lawdesk report unapplied DATE; "
-         b"or lawdesk generate SEED COUNT\n")
+# What is said of words that are no form: the script shows this file, and the program says the same.
+USAGE = read("crates", "lawdesk", "usage.txt")
 
 # Words that are no form of the command line.
 NO_WORDS = [

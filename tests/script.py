@@ -66,6 +66,7 @@ def stubbed(folder, given, answer, last, status):
     os.makedirs(os.path.join(folder, "desk", "crates", "lawdesk"))
     os.makedirs(os.path.join(folder, "bin"))
     shutil.copy(SCRIPT, os.path.join(folder, "desk", "lawdesk"))
+    shutil.copy(os.path.join(TOP, "crates", "lawdesk", "usage.txt"), os.path.join(folder, "desk", "crates", "lawdesk"))
     files = {}
     for name, content in [("given", given), ("answer", answer)]:
         files[name] = os.path.join(folder, name)

@@ -15,6 +15,7 @@ mod run;
 mod stop;
 mod tabling;
 mod texting;
+mod usage;
 
 ghost use Rattle.std.specs.Prelude.{◌≡◌, ◌↔◌, ◌≢◌, None, map, string_bytes};
 ghost use Rattle.std.specs.declared.io.ErrorKind.TheVariants.{OutOfMemory};
@@ -33,11 +34,7 @@ use std::process::ExitCode;
 use std::sync::ledger::{Blank, Ledger};
 use std::thread::Threads;
 use std::time::Clock;
-
-const USAGE: &str =
-    "usage: lawdesk text DATE [force|efficacy], with DATE as 2011-01-01 and the dossier on standard input; \
-    lawdesk batch, with requests there; lawdesk check; lawdesk report lifecycle WORK; \
-    lawdesk report correspondence WORK DATE DATE; lawdesk report unapplied DATE; or lawdesk generate SEED COUNT";
+use usage::USAGE_TEXT;
 
 /// The journal in the working folder, which `batch`, `check` and `report` open.
 const JOURNAL: &str = "lawdesk.jnl";
@@ -110,7 +107,7 @@ fn main(rt: HostRuntime) -> ExitCode {
         Err(error) => refused(error.kind()),
     };
     if status == 2 {
-        let _ = eprintln!(rt; "{USAGE}");
+        let _ = eprintln!(rt; "{USAGE_TEXT}");
     }
     if keeper.disk().is_held() {
         let _ = eprintln!(rt; "{HELD}");
