@@ -6,7 +6,7 @@ import subprocess
 import bearing
 import cases
 import checks
-from checks import PROGRAM, TOP, check, over_a_folder, read, run, to_a_full_device
+from checks import PROGRAM, SAID, TOP, check, over_a_folder, read, run, said_to_a_full_device
 
 
 def examples():
@@ -41,7 +41,7 @@ def checked():
         check("the files of a text", os.listdir(folder), [])
         check("a check", run(["check"], b"", cwd=folder), (0, b"entries 0 law 0\n"))
         check("a check reads nothing", over_a_folder([PROGRAM, "check"], cwd=folder), (0, b"entries 0 law 0\n"))
-        check("a check to a full device", to_a_full_device([PROGRAM, "check"], b"", cwd=folder), 4)
+        check("a check to a full device", said_to_a_full_device([PROGRAM, "check"], b"", cwd=folder), (4, SAID[4]))
         check("the files of a check", os.listdir(folder), ["lawdesk.jnl"])
 
 

@@ -9,7 +9,7 @@ import histories
 import queries
 import refusals
 
-from checks import check, over_a_folder, to_a_full_device
+from checks import SAID, check, said_over_a_folder, said_to_a_full_device, to_a_full_device
 from messages import at_most, batch, bytewise, check_written, closed, cut_at, drained
 
 
@@ -96,10 +96,10 @@ def devices():
     """A sink that takes nothing ends a stream with 4, and a source that can't be read with 3, at once and before any other status."""
     with checks.folder() as folder:
         line, settings = [checks.PROGRAM, "batch"], {"cwd": folder}
-        check("requests to a full device", to_a_full_device(line, histories.FRONT, **settings), 4)
+        check("requests to a full device", said_to_a_full_device(line, histories.FRONT, **settings), (4, SAID[4]))
         check("what is no request, to a full device", to_a_full_device(line, b"x\r\n\r\n", **settings), 4)
         check("nothing, to a full device", to_a_full_device(line, b"", **settings), 0)
-        check("requests of a folder", over_a_folder(line, **settings), (3, b""))
+        check("requests of a folder", said_over_a_folder(line, **settings), (3, b"", SAID[3]))
         check("requests of a folder, to a full device", folder_to_a_full_device(line, **settings), 3)
         check("responses that nobody reads", unread(line, **settings), 4)
         check("a response of which the first byte is read", first_byte_read(line, **settings), (4, b"H"))

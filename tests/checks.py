@@ -17,6 +17,16 @@ failed = 0
 skipped = []
 
 
+# What the program says on standard error beside a status, but for the usage at 2 and a journal that another process holds.
+SAID = {
+    3: b"lawdesk: standard input could not be read\n",
+    4: b"lawdesk: standard output could not be written\n",
+    5: b"lawdesk: the journal lawdesk.jnl could not be opened, read or written\n",
+    7: b"lawdesk: there was not enough memory\n",
+}
+HELD = b"lawdesk: another process holds lawdesk.jnl\n"
+
+
 def check(name, got, want):
     """Counts one check, and shows what differs."""
     global passed, failed
@@ -49,18 +59,29 @@ def run(words, given, **settings):
     return done.returncode, done.stdout
 
 
-def over_a_folder(line, **settings):
-    """A run whose standard input is a folder, which can't be read."""
+def said_over_a_folder(line, **settings):
+    """A run whose standard input is a folder, which can't be read: its status, what it wrote, and what it said on standard error."""
     folder = os.open(TOP, os.O_RDONLY)
     done = subprocess.run(line, stdin=folder, capture_output=True, timeout=60, **settings)
     os.close(folder)
-    return done.returncode, done.stdout
+    return done.returncode, done.stdout, done.stderr
+
+
+def over_a_folder(line, **settings):
+    """The status of a run whose standard input is a folder, and what it wrote."""
+    return said_over_a_folder(line, **settings)[:2]
+
+
+def said_to_a_full_device(line, given, **settings):
+    """The status of a run whose standard output takes nothing, and what it said on standard error."""
+    with open("/dev/full", "wb") as full:
+        done = subprocess.run(line, input=given, stdout=full, stderr=subprocess.PIPE, timeout=60, **settings)
+    return done.returncode, done.stderr
 
 
 def to_a_full_device(line, given, **settings):
     """The status of a run whose standard output takes nothing."""
-    with open("/dev/full", "wb") as full:
-        return subprocess.run(line, input=given, stdout=full, stderr=subprocess.DEVNULL, timeout=60, **settings).returncode
+    return said_to_a_full_device(line, given, **settings)[0]
 
 
 def end():

@@ -135,10 +135,10 @@ def as_somebody():
 
 
 def refused(folder, name, program=None, **settings):
-    """An opening that fails: status 5, nothing is written, and the one line on standard error is that of a file that is held."""
+    """An opening that fails: status 5, nothing is written, and one line on standard error says that the journal failed."""
     for word in ("check", "batch"):
         done = subprocess.run([program or checks.PROGRAM, word], input=histories.FRONT, capture_output=True, cwd=folder, timeout=60, **settings)
-        check(f"{name}, {word}", (done.returncode, done.stdout, done.stderr), (5, b"", b""))
+        check(f"{name}, {word}", (done.returncode, done.stdout, done.stderr), (5, b"", checks.SAID[5]))
 
 
 def kept_out():
@@ -181,4 +181,4 @@ def folder_gone():
             os.mkdir(folder)
             line = ["sh", "-c", f'rmdir "$1"; exec "$2" {word}', "sh", folder, checks.PROGRAM]
             done = subprocess.run(line, input=histories.FRONT, capture_output=True, cwd=folder, timeout=60)
-            check(f"a folder that is gone, {word}", (done.returncode, done.stdout, done.stderr), (5, b"", b""))
+            check(f"a folder that is gone, {word}", (done.returncode, done.stdout, done.stderr), (5, b"", checks.SAID[5]))

@@ -6,7 +6,7 @@ import random
 from datetime import date, timedelta
 
 import checks
-from checks import PROGRAM, check, over_a_folder, run, to_a_full_device
+from checks import PROGRAM, SAID, check, over_a_folder, run, said_to_a_full_device
 
 FIRST = date(2000, 1, 1)
 ASKED = date(2010, 1, 1)
@@ -118,7 +118,7 @@ def rows():
         first = run(["generate", "7", "400"], b"{", cwd=folder)
         check("generate 7 400 begins", (first[0], first[1][:22]), (0, b"commands 400 accepted "))
         check("generate 7 400 twice", over_a_folder([PROGRAM, "generate", "7", "400"], cwd=folder), first)
-        check("generate to a full device", to_a_full_device([PROGRAM, "generate", "7", "400"], b"", cwd=folder), 4)
+        check("generate to a full device", said_to_a_full_device([PROGRAM, "generate", "7", "400"], b"", cwd=folder), (4, SAID[4]))
         check("the files of generate", os.listdir(folder), [])
 
 

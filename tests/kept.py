@@ -144,8 +144,10 @@ def no_file():
     """A journal that can't be opened is a fault of the keeper."""
     with checks.folder() as folder:
         os.mkdir(os.path.join(folder, JOURNAL))
-        check("a folder as the journal, checked", called(folder, "check"), (5, b""))
-        check("a folder as the journal, asked", called(folder, "batch", histories.FRONT), (5, b""))
+        for words in (["check"], ["batch"], ["report", "unapplied", "2011-01-01"]):
+            done = subprocess.run([checks.PROGRAM, *words], input=histories.FRONT, capture_output=True, cwd=folder, timeout=60)
+            got = done.returncode, done.stdout, done.stderr
+            check(f"a folder as the journal, {words[0]}", got, (5, b"", checks.SAID[5]))
 
 
 def held_file():
@@ -156,10 +158,10 @@ def held_file():
             first.stdin.write(histories.FRONT)
             first.stdin.flush()
             first.stdout.read(1)
-            for word in ("check", "batch"):
-                done = subprocess.run([checks.PROGRAM, word], input=histories.FRONT, capture_output=True, cwd=folder, timeout=60)
+            for words in (["check"], ["batch"], ["report", "unapplied", "2011-01-01"]):
+                done = subprocess.run([checks.PROGRAM, *words], input=histories.FRONT, capture_output=True, cwd=folder, timeout=60)
                 got = done.returncode, done.stdout, done.stderr
-                check(f"a second {word}", got, (5, b"", b"lawdesk: another process holds lawdesk.jnl\n"))
+                check(f"a second {words[0]}", got, (5, b"", checks.HELD))
             first.stdin.close()
             first.stdout.read()
             check("the first", first.wait(), 0)

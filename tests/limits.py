@@ -24,11 +24,21 @@ ENDS = [sum(len(wanted) for _, wanted, _ in ROWS[:count]) for count in range(len
 
 
 def within(size, words, given, folder):
-    """The status of a run that may have so many bytes of addresses, and what it wrote."""
+    """The status of a run that may have so many bytes of addresses, and what it wrote. What it says on standard error is that of its status."""
     def limit():
         resource.setrlimit(resource.RLIMIT_AS, (size, size))
     done = subprocess.run([checks.PROGRAM, *words], input=given, capture_output=True, cwd=folder, preexec_fn=limit, timeout=60)
+    check_said(size, words, done)
     return done.returncode, done.stdout
+
+
+def check_said(size, words, done):
+    """Counts a check only where what a run said is not what belongs to its status, since a search makes many runs. Of one that could not
+    even start, the system says something."""
+    said = {0: b"", 2: cases.USAGE, 7: checks.SAID[7]}
+    wanted = said.get(done.returncode, done.stderr)
+    if done.stderr != wanted:
+        check(f"what {words} says with {size} bytes of addresses", (done.returncode, done.stderr), (done.returncode, wanted))
 
 
 def least(holds):

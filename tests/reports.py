@@ -245,5 +245,5 @@ def of_files():
             check(f"report, {name}, the status", reported(folder, life())[0], 6)
     with checks.folder() as folder:
         line = [checks.PROGRAM, "report"] + held("2011-01-01")
-        check("report, a full device", checks.to_a_full_device(line, b"", cwd=folder), 4)
+        check("report, a full device", checks.said_to_a_full_device(line, b"", cwd=folder), (4, checks.SAID[4]))
         check("report, a folder as input", checks.over_a_folder(line, cwd=folder), (0, b"work,id,cause\n"))

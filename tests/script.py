@@ -10,7 +10,7 @@ import tempfile
 
 import cases
 import checks
-from checks import SCRIPT, TOP, check, over_a_folder, read, to_a_full_device
+from checks import SAID, SCRIPT, TOP, check, read, said_over_a_folder, said_to_a_full_device
 
 ANSWER = read("tests", "expected", "repeal-2011-01-01.out")
 EARLY = read("tests", "expected", "enacted-2010-04-30.out")
@@ -54,8 +54,8 @@ def built():
             check(f"an answer {where}", run([line, "text", "2011-01-01"], given, **settings), (0, ANSWER, b""))
             check(f"a rule {where}", run([line, "text", "2010-04-30"], read("examples", "enacted.json"), **settings), (9, EARLY, b""))
             check(f"no dossier {where}", run([line, "text", "2011-01-01"], b"{", **settings), (10, cases.form(1), b""))
-            check(f"a folder as input {where}", over_a_folder([line, "text", "2011-01-01"], **settings), (3, b""))
-            check(f"a full device {where}", to_a_full_device([line, "text", "2011-01-01"], given, **settings), 4)
+            check(f"a folder as input {where}", said_over_a_folder([line, "text", "2011-01-01"], **settings), (3, b"", SAID[3]))
+            check(f"a full device {where}", said_to_a_full_device([line, "text", "2011-01-01"], given, **settings), (4, SAID[4]))
             check(f"requests {where}", run([line, "batch"], REQUESTS, **settings), (0, RESPONSES, b""))
             check(f"a part of a request {where}", run([line, "batch"], b"GET", **settings)[::2], (1, b""))
             faulty_words(line, where, **settings)
@@ -88,11 +88,13 @@ def not_built():
         with tempfile.TemporaryDirectory() as folder:
             line, settings = stubbed(folder, given, answer, f"run=ended status={status} runners=1 proved=no", status)
             got = run([line, "text", "2011-01-01", "efficacy"], given, **settings)
-            check(f"status {status}, not built", got, (status, answer, UNPROVED))
+            check(f"status {status}, not built", got, (status, answer, UNPROVED + SAID.get(status, b"")))
     with tempfile.TemporaryDirectory() as folder:
         line, settings = stubbed(folder, given, ANSWER, "run=ended status=0 runners=1 proved=no", 0)
-        check("a folder as input, not built", over_a_folder([line, "text", "2011-01-01"], **settings), (3, b""))
-        check("a full device, not built", to_a_full_device([line, "text", "2011-01-01"], given, **settings), 4)
+        got = said_over_a_folder([line, "text", "2011-01-01"], **settings)
+        check("a folder as input, not built", got, (3, b"", UNPROVED + SAID[3]))
+        got = said_to_a_full_device([line, "text", "2011-01-01"], given, **settings)
+        check("a full device, not built", got, (4, UNPROVED + SAID[4]))
         for word in ("batch", "check"):
             check(f"{word}, not built", run([line, word], REQUESTS, **settings), (127, b"", JOURNAL % word.encode()))
         faulty_words(line, "not built", **settings)

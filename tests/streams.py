@@ -3,7 +3,7 @@ import subprocess
 import tempfile
 
 import cases
-from checks import PROGRAM, check, over_a_folder, read, run, to_a_full_device
+from checks import PROGRAM, SAID, check, read, run, said_over_a_folder, said_to_a_full_device
 
 
 def slow_pipe():
@@ -49,5 +49,5 @@ def closed_pipes():
 
 def failing_devices():
     line = [PROGRAM, "text", "2011-01-01"]
-    check("a full device", to_a_full_device(line, read("examples", "repeal.json")), 4)
-    check("a folder as standard input", over_a_folder(line), (3, b""))
+    check("a full device", said_to_a_full_device(line, read("examples", "repeal.json")), (4, SAID[4]))
+    check("a folder as standard input", said_over_a_folder(line), (3, b"", SAID[3]))

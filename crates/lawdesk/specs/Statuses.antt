@@ -1,5 +1,5 @@
 -- The statuses that the program ends with.
-use Rattle.std.specs.Prelude.{ℕ, ◌≡◌, ◌⊎◌}
+use Rattle.std.specs.Prelude.{ℕ, ◌≡◌, ◌⊎◌, ◌==◌, ◌||◌, Bool}
 use Rattle.lawdesk.specs.Batching.{IsBatchStatus}
 use Rattle.lawdesk.specs.Checking.{IsCheckStatus}
 use Rattle.lawdesk.specs.Generating.{IsGenerateStatus}
@@ -10,3 +10,7 @@ use Rattle.lawdesk.specs.Tabling.{IsReportStatus}
 abbrev pub IsStatus : ℕ → Type 0
 IsStatus status = (status ≡ 2) ⊎ (IsTextStatus status ⊎ (IsCheckStatus status ⊎ (IsBatchStatus status
     ⊎ (IsReportStatus status ⊎ IsGenerateStatus status))))
+
+-- something is said of it on standard error: of words that are no form, of a device that failed, or of memory
+abbrev pub has_notice : ℕ → Bool
+has_notice status = status == 2 || (status == 3 || (status == 4 || (status == 5 || status == 7)))

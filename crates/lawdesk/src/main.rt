@@ -8,6 +8,7 @@ mod generating;
 mod input;
 mod job;
 mod line;
+mod notice;
 mod report;
 mod report_job;
 mod reporting;
@@ -25,6 +26,7 @@ ghost use Rattle.lawdesk.specs.Statuses.{IsStatus};
 use desk_base::{Reading, Steps, UtcClock, Writing};
 use law_journal::FileDisk;
 use law_keeper::{JournalKeeper, Keeper};
+use notice::notice;
 use run::run;
 use std::alloc::Global;
 use std::env;
@@ -34,12 +36,9 @@ use std::process::ExitCode;
 use std::sync::ledger::{Blank, Ledger};
 use std::thread::Threads;
 use std::time::Clock;
-use usage::USAGE_TEXT;
 
 /// The journal in the working folder, which `batch`, `check` and `report` open.
 const JOURNAL: &str = "lawdesk.jnl";
-
-const HELD: &str = "lawdesk: another process holds lawdesk.jnl";
 
 // The words of the command line, without the program's name.
 fn words(rt: &HostRuntime) -> io::Result<Vec<String>> {
@@ -106,11 +105,8 @@ fn main(rt: HostRuntime) -> ExitCode {
         ),
         Err(error) => refused(error.kind()),
     };
-    if status == 2 {
-        let _ = eprintln!(rt; "{USAGE_TEXT}");
-    }
-    if keeper.disk().is_held() {
-        let _ = eprintln!(rt; "{HELD}");
+    if let Some(said) = notice(status, keeper.disk().is_held()) {
+        let _ = eprintln!(rt; "{said}");
     }
     ExitCode::from(status)
 }
