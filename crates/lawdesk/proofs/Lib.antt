@@ -10,3 +10,4 @@ pub mod Telling
 pub mod Statuses
 pub mod WellSpelled
 pub mod Staying
+pub mod Wanting

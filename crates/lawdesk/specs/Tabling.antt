@@ -3,7 +3,7 @@ use Rattle.std.specs.Prelude.{ℕ, ◌≡◌, ◌≢◌, List, Option, Result, O
 use Rattle.desk_base.specs.Streams.{AppendsFront, Rose}
 use Rattle.akn_json.specs.Printing.Refusals.{query_data}
 use Rattle.law_journal.specs.Grammar.{Listing}
-use Rattle.law_keeper.specs.Keepers.{Holding, Keeps}
+use Rattle.law_keeper.specs.Keepers.{Holding, Keeps, LeavesOldOrSame}
 use Rattle.law_office.specs.Opening.{opened_of}
 use Rattle.law_register.specs.declared.answer.queries.QueryRule.{QueryRule}
 use Rattle.law_register.specs.declared.desk.damage.Damage.{Damage}
@@ -87,5 +87,7 @@ pub record RanReport {K W : Type 0} (holding : K → Holding) (faults : K → �
   -- no count rose but that of the device which the status names
   pub keeper_stays : (status ≡ 0) ⊎ (status ≡ 9) → faults keeper_new ≡ faults keeper
   pub sink_stays : status ≢ 4 → write_faults sink_new ≡ write_faults sink
-  -- the payloads stay
+  -- the payloads stay, and where the keeper tells it, a crash at any moment since the run began leaves a list that it
+  -- could leave before, or the list itself
   pub same : Keeps (holding keeper) (holding keeper_new)
+  pub crash : LeavesOldOrSame (holding keeper) (holding keeper_new)

@@ -2,7 +2,7 @@
 
 ghost use Rattle.std.specs.Prelude.{◌≡◌, ◌≢◌, ◌⊎◌, ℕ, IfOk, List, Result};
 ghost use Rattle.desk_base.specs.Streams.{Rose};
-ghost use Rattle.law_keeper.specs.Keepers.{Keeps};
+ghost use Rattle.law_keeper.specs.Keepers.{Keeps, LeavesOldOrSame};
 ghost use Rattle.law_office.specs.Opening.{HasOpenCause, Opens};
 ghost use Rattle.law_register.specs.declared.answer.queries.QueryRule.{QueryRule as Rule};
 ghost use Rattle.law_register.specs.declared.desk.damage.Damage.{Damage};
@@ -97,6 +97,7 @@ fn report_kept<K: Keeper, L: Ledger>(
         → IfOk result (λ report. IsReported job.now (K.holding keeper.old).list (report_view report)) }
     ensures cause { HasReportCause (K.faults keeper.old) (K.faults keeper.new) result }
     ensures same { Keeps (K.holding keeper.old) (K.holding keeper.new) }
+    ensures crash { LeavesOldOrSame (K.holding keeper.old) (K.holding keeper.new) }
 {
     let opened = Book::open(alloc, keeper);
     let report = report_opened(alloc, job, &opened, steps);
@@ -124,6 +125,7 @@ pub fn tabulate<W: Sink, K: Keeper, L: Ledger>(
     ensures keeper_stays { (result ≡ 0) ⊎ (result ≡ 9) → K.faults keeper.new ≡ K.faults keeper.old }
     ensures sink_stays { result ≢ 4 → W.faults sink.new ≡ W.faults sink.old }
     ensures same { Keeps (K.holding keeper.old) (K.holding keeper.new) }
+    ensures crash { LeavesOldOrSame (K.holding keeper.old) (K.holding keeper.new) }
 {
     match report_kept(alloc, job, keeper, steps) {
         Ok(report) => match sink.write_all(report.bytes.as_slice()) {

@@ -4,6 +4,7 @@ use Rattle.std.proofs.Common.{◌≡◌, ◌∙◌, Some, subst}
 use Rattle.lawdesk.specs.Jobs.{AsksForReport}
 use Rattle.lawdesk.specs.Tabling.{RanReport}
 use Rattle.lawdesk.specs.declared.job.Job.TheVariants.{Report}
+use Rattle.lawdesk.proofs.Wanting.{report_wanting}
 use Rattle.lawdesk.proofs.run.run.Goals as goal
 
 pub returns-in-Err-clause-words : goal.returns-in-Err-clause-words
@@ -24,6 +25,11 @@ returns-in-Err-clause-check_alone g c same = absurd (subst AsksForReport same c.
 
 pub returns-in-Err-clause-batch : goal.returns-in-Err-clause-batch
 returns-in-Err-clause-batch g c same = absurd (subst AsksForReport same c.in-Err.ensures.asked)
+
+pub returns-in-Err-clause-report : goal.returns-in-Err-clause-report
+returns-in-Err-clause-report g c job same =
+    report_wanting g.K.Keeper.holding g.K.Keeper.faults g.W.Sink.written g.W.Sink.faults c.args.keeper.now
+    (g.met.K.Keeper.is_holding c.args.keeper.now) c.args.sink.now job
 
 pub returns-in-Err-clause-generate : goal.returns-in-Err-clause-generate
 returns-in-Err-clause-generate g c job same = absurd (subst AsksForReport same c.in-Err.ensures.asked)
@@ -49,4 +55,5 @@ returns-in-Ok-Some-Report-clause-report g c job same =
       keeper_stays = c.tabulate.ensures.keeper_stays;
       sink_stays = c.tabulate.ensures.sink_stays;
       same = c.tabulate.ensures.same;
+      crash = c.tabulate.ensures.crash;
     })
