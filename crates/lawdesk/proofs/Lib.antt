@@ -10,4 +10,7 @@ pub mod Telling
 pub mod Statuses
 pub mod WellSpelled
 pub mod Staying
+pub mod WordWalk
+pub mod Dashes
+pub mod FourWords
 pub mod Wanting

@@ -57,8 +57,3 @@ job_of [] = None
 job_of (word ∷ words) =
     if bytes_eq word (codes "report") then option_map (λ job. Report job) (report_job words)
     else (if bytes_eq word (codes "generate") then seeded_job words else plain_job (word ∷ words))
-
--- a table is asked for
-abbrev pub AsksForReport : Option Job → Type 0
-AsksForReport (Some (Report job)) = Unit {0}
-AsksForReport _ = ⊥

@@ -5,6 +5,7 @@ pub mod Batching
 pub mod Checking
 pub mod Input
 pub mod Jobs
+pub mod Taking
 pub mod Outliving
 pub mod Stops
 pub mod ReportJobs

@@ -41,9 +41,13 @@ short_job name word =
     if bytes_eq name (codes "lifecycle") then lifecycle_job word
     else if bytes_eq name (codes "unapplied") then unapplied_job word else None
 
+-- the table of four words
+abbrev pub long_job : List ℕ → List ℕ → List ℕ → List ℕ → Option ReportJob
+long_job name work first second =
+    if bytes_eq name (codes "correspondence") then correspondence_job work first second else None
+
 -- `lifecycle WORK`, `correspondence WORK DATE DATE` and `unapplied DATE` ask for a table, and no other words
 abbrev pub report_job : List (List ℕ) → Option ReportJob
 report_job (name ∷ word ∷ []) = short_job name word
-report_job (name ∷ work ∷ first ∷ second ∷ []) =
-    if bytes_eq name (codes "correspondence") then correspondence_job work first second else None
+report_job (name ∷ work ∷ first ∷ second ∷ []) = long_job name work first second
 report_job words = None

@@ -1,14 +1,18 @@
 //! Job: what the words of the command line ask for.
 
-ghost use Rattle.std.specs.Prelude.{◌≡◌, map, option_map, string_bytes, IfOk, OnErr};
-ghost use Rattle.lawdesk.specs.Jobs.{AsksForReport, generate_job, job_of, plain_job, seeded_job, text_job, word_job};
+ghost use Rattle.std.specs.Prelude.{◌≡◌, ◌≢◌, None, ℕ, List, map, option_map, string_bytes, IfOk, OnErr};
+ghost use Rattle.lawdesk.specs.Jobs.{generate_job, job_of, plain_job, seeded_job, text_job, word_job};
+ghost use Rattle.lawdesk.specs.Taking.{given, words_in};
 ghost use Rattle.lawdesk.specs.ReportJobs.{report_job};
 ghost use Rattle.lawdesk.specs.declared.job.Job.TheVariants as jobs;
 
 use crate::report_job::ReportJob;
+use crate::taking::{has_dash, take_words};
+use clap::ArgMatches;
 use desk_base::{Day, Memory, decimal_number};
 use law_register::Reading;
 use std::alloc::Global;
+use std::convert::AsStr;
 
 /// A day, and what of the text counts on it.
 #[derive(Clone, Copy, Debug, PartialEq, Eq)]
@@ -69,8 +73,8 @@ fn generate_job(seed: &str, count: &str) -> Option<Job>
 }
 
 // The job of generating a register, where the words behind `generate` are a seed and a count.
-fn seeded_job(words: &[String]) -> Option<Job>
-    ensures { result ≡ seeded_job (map string_bytes words.now) }
+fn seeded_job<S: AsStr>(words: &[S]) -> Option<Job>
+    ensures { result ≡ seeded_job (map S.text words.now) }
 {
     if words.len() == 2 {
         return generate_job(words[0].as_str(), words[1].as_str());
@@ -92,8 +96,8 @@ fn word_job(word: &str) -> Option<Job>
 }
 
 // The job that words other than those of a report, and other than `generate` with what follows it, ask for.
-fn plain_job(words: &[String]) -> Option<Job>
-    ensures { result ≡ plain_job (map string_bytes words.now) }
+fn plain_job<S: AsStr>(words: &[S]) -> Option<Job>
+    ensures { result ≡ plain_job (map S.text words.now) }
 {
     if words.len() == 1 {
         return word_job(words[0].as_str());
@@ -108,11 +112,10 @@ fn plain_job(words: &[String]) -> Option<Job>
 }
 
 // The job of the table that the words behind `report` ask for.
-fn report_job(alloc: Global, words: &[String]) -> Result<Option<Job>, Memory>
+fn report_job<S: AsStr>(alloc: Global, words: &[S]) -> Result<Option<Job>, Memory>
     ensures job { IfOk result
-        (λ job. job ≡ option_map (λ j. jobs.Report j) (report_job (map string_bytes words.now))) }
-    ensures asked { OnErr result
-        (AsksForReport (option_map (λ j. jobs.Report j) (report_job (map string_bytes words.now)))) }
+        (λ job. job ≡ option_map (λ j. jobs.Report j) (report_job (map S.text words.now))) }
+    ensures asked { OnErr result (report_job (map S.text words.now) ≢ None) }
 {
     match ReportJob::from_words(alloc, words)? {
         Some(job) => Ok(Some(Job::Report(job))),
@@ -120,22 +123,58 @@ fn report_job(alloc: Global, words: &[String]) -> Result<Option<Job>, Memory>
     }
 }
 
+// The job that words ask for.
+fn job_in<S: AsStr>(alloc: Global, words: &[S]) -> Result<Option<Job>, Memory>
+    ensures job { IfOk result (λ job. job ≡ job_of (map S.text words.now)) }
+    ensures asked { OnErr result (job_of (map S.text words.now) ≢ None) }
+{
+    if words.is_empty() {
+        return Ok(None);
+    }
+    if words[0].as_str() == "report" {
+        return report_job(alloc, &words[1..]);
+    }
+    if words[0].as_str() == "generate" {
+        return Ok(seeded_job(&words[1..]));
+    }
+    Ok(plain_job(words))
+}
+
+// The job that the words ask for which were taken.
+fn taken_job(alloc: Global, matches: &ArgMatches<'_>) -> Result<Option<Job>, Memory>
+    ensures job { (words : List (List ℕ)) → words_in matches.now ≡ given words → IfOk result (λ job. job ≡ job_of words) }
+    ensures asked { (words : List (List ℕ)) → words_in matches.now ≡ given words → OnErr result (job_of words ≢ None) }
+{
+    match matches.get_strs("words") {
+        Some(words) => job_in(alloc, words),
+        None => Ok(None),
+    }
+}
+
+// What is told of words that could not be taken for want of memory: whether they ask for nothing.
+fn untaken_job(alloc: Global, words: &[String]) -> Result<Option<Job>, Memory>
+    ensures job { IfOk result (λ job. job ≡ job_of (map string_bytes words.now)) }
+    ensures asked { OnErr result (job_of (map string_bytes words.now) ≢ None) }
+{
+    match job_in(alloc, words)? {
+        Some(_) => Err(Memory),
+        None => Ok(None),
+    }
+}
+
 impl Job {
-    /// The job that the words ask for, without the program's name. `None`: they are no form of the command line. `Err`: they ask
-    /// for a report, and there was not enough memory for it.
+    /// The job that the words ask for, without the program's name. `None`: they are no form of the command line, as where one
+    /// begins with a dash. `Err`: they are one, and there was not enough memory to take them.
     pub fn from_words(alloc: Global, words: &[String]) -> Result<Option<Job>, Memory>
         ensures job { IfOk result (λ job. job ≡ job_of (map string_bytes words.now)) }
-        ensures asked { OnErr result (AsksForReport (job_of (map string_bytes words.now))) }
+        ensures asked { OnErr result (job_of (map string_bytes words.now) ≢ None) }
     {
-        if words.is_empty() {
+        if has_dash(words) {
             return Ok(None);
         }
-        if words[0].as_str() == "report" {
-            return report_job(alloc, &words[1..]);
+        match take_words(alloc, words) {
+            Ok(matches) => taken_job(alloc, &matches),
+            Err(_) => untaken_job(alloc, words),
         }
-        if words[0].as_str() == "generate" {
-            return Ok(seeded_job(&words[1..]));
-        }
-        Ok(plain_job(words))
     }
 }

@@ -15,6 +15,7 @@ mod reporting;
 mod run;
 mod stop;
 mod tabling;
+mod taking;
 mod texting;
 mod usage;
 

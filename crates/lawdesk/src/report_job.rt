@@ -1,11 +1,12 @@
 //! Report jobs: which table the words of the command line ask for.
 
-ghost use Rattle.std.specs.Prelude.{◌≡◌, ◌≢◌, None, map, string_bytes, IfOk, OnErr};
+ghost use Rattle.std.specs.Prelude.{◌≡◌, ◌≢◌, None, map, IfOk, OnErr};
 ghost use Rattle.lawdesk.specs.ReportJobs as spec;
 
 use desk_base::{Day, Memory};
 use frbr_names::{WorkName, parse_work};
 use std::alloc::Global;
+use std::convert::AsStr;
 
 /// A table of what the register that is kept knows.
 #[derive(Debug, PartialEq, Eq, Drop)]
@@ -98,19 +99,37 @@ fn short_job(alloc: Global, name: &str, word: &str) -> Result<Option<ReportJob>,
     Ok(None)
 }
 
+// The table that four words behind `report` ask for.
+fn long_job(
+    alloc: Global,
+    name: &str,
+    work: &str,
+    first: &str,
+    second: &str,
+) -> Result<Option<ReportJob>, Memory>
+    ensures job { IfOk result (λ job. job ≡ spec.long_job name.now work.now first.now second.now) }
+    ensures some { OnErr result (spec.long_job name.now work.now first.now second.now ≢ None) }
+{
+    if name == "correspondence" {
+        return correspondence_job(alloc, work, first, second);
+    }
+    Ok(None)
+}
+
 impl ReportJob {
     /// The table that the words behind `report` ask for. `None`: they ask for none. `Err`: they ask for one, and there was not
     /// enough memory for it.
-    pub fn from_words(alloc: Global, words: &[String]) -> Result<Option<ReportJob>, Memory>
-        ensures job { IfOk result (λ job. job ≡ spec.report_job (map string_bytes words.now)) }
-        ensures some { OnErr result (spec.report_job (map string_bytes words.now) ≢ None) }
+    pub fn from_words<S: AsStr>(alloc: Global, words: &[S]) -> Result<Option<ReportJob>, Memory>
+        ensures job { IfOk result (λ job. job ≡ spec.report_job (map S.text words.now)) }
+        ensures some { OnErr result (spec.report_job (map S.text words.now) ≢ None) }
     {
         if words.len() == 2 {
             return short_job(alloc, words[0].as_str(), words[1].as_str());
         }
-        if words.len() == 4 && words[0].as_str() == "correspondence" {
-            return correspondence_job(
+        if words.len() == 4 {
+            return long_job(
                 alloc,
+                words[0].as_str(),
                 words[1].as_str(),
                 words[2].as_str(),
                 words[3].as_str(),
