@@ -1,6 +1,7 @@
 pub mod Lists
 pub mod Snoc
 pub mod Puts
+pub mod Noting
 pub mod ShortNames
 pub mod Lookups
 pub mod Empty

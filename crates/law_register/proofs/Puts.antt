@@ -1,8 +1,8 @@
 -- A look-up by a test, once a key was put, and look-ups by tests that agree.
-use Rattle.std.proofs.Common.{◌≡◌, ◌∙◌, sym, ap, ℕ, ◌==◌, Bool, true, false, cond, ◌&&◌, List, [], ◌∷◌, Option, Some, Result, Ok, Err, IsOk, OnOk, refl, arith}
+use Rattle.std.proofs.Common.{◌≡◌, ◌∙◌, sym, ap, ℕ, ◌==◌, Bool, true, false, cond, ◌&&◌, List, [], ◌∷◌, Option, Some, is_some, Result, Ok, Err, IsOk, OnOk, refl, arith}
 use Rattle.std.proofs.lemmas.Bool.Decides.{nat_tests}
 use Rattle.std.specs.Str.{bytes_eq}
-use Rattle.std.specs.Map.{lookup}
+use Rattle.std.specs.Map.{lookup, set_value}
 use Rattle.indexmap.specs.IndexMap.{insert_entry}
 use Rattle.std.proofs.lemmas.Slice.Eq.{bytes_eq-Decides}
 use Rattle.desk_base.specs.declared.id.Id.{Id}
@@ -151,6 +151,18 @@ text_put {K} {X} bytes new es key v w is =
     ap (lookup (λ k. bytes_eq w (bytes k))) is
     ∙ put (λ x y. bytes_eq (bytes x) (bytes y)) (λ k. bytes_eq w (bytes k)) key v (text_tells bytes w key) es
     ∙ ap (λ b. cond b (Some v) (lookup (λ k. bytes_eq w (bytes k)) es)) (bytes_either w (bytes key))
+
+-- a value that is set at a key which is there is put there
+module _ {K X : Type 0} (eq : K → K → Bool) (key : K) (v : X) where
+  set_front : (b : Bool) (e : K × X) (es : List (K × X)) → (is_some (lookup (eq key) es) ≡ true → set_value (eq key) es v ≡ insert_entry eq es key v)
+      → is_some (cond b (Some e.1) (lookup (eq key) es)) ≡ true
+      → cond b ((e.0, v) ∷ es) (e ∷ set_value (eq key) es v) ≡ cond b ((e.0, v) ∷ es) (e ∷ insert_entry eq es key v)
+  set_front true e es rest there = refl
+  set_front false e es rest there = ap (λ t. e ∷ t) (rest there)
+
+  pub set_is_put : (es : List (K × X)) → is_some (lookup (eq key) es) ≡ true → set_value (eq key) es v ≡ insert_entry eq es key v
+  set_is_put [] there = absurd (let no : false ≡ true = there in cc)
+  set_is_put (e ∷ es) there = set_front (eq key e.0) e es (set_is_put es) there
 
 pub request_put : {X : Type 0} (new es : List (RequestKey × X)) (key : RequestKey) (v : X) (d : List ℕ) (r : ℕ) → new ≡ insert_entry request_eq es key v
     → lookup (is_request d r) new ≡ cond (bytes_eq key.drafter.items d && (key.request == r)) (Some v) (lookup (is_request d r) es)

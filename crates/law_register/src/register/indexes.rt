@@ -1,6 +1,10 @@
 //! Indexes: what of the entries is looked up in place of walking them. A mark names an entry by its index.
 
 ghost use Rattle.std.specs.Prelude.{◌≡◌, ◌==◌, ◌&&◌, ◌+◌, ◌-◌, ◌<◌, ◌≤◌, ℕ, List, [], ◌∷◌, ◌++◌, length, slice_get, take, drop, Option, Some, None, option_map, is_some, if◌then◌else◌};
+ghost use Rattle.std.proofs.Common.{rules};
+ghost use Rattle.std.specs.Cmp.Rules.{comparing, hashing};
+ghost use Rattle.std.specs.Cmp.Lexicographic.{pointwise};
+ghost use Rattle.std.specs.Hash as fed;
 ghost use Rattle.std.specs.Str.{bytes_eq};
 ghost use Rattle.indexmap.specs.IndexMap.{get_by, index_map_len, spare};
 ghost use Rattle.law_register.specs.Answer.Counted.{is_same_id};
@@ -11,12 +15,52 @@ use desk_base::{Id, Memory};
 use frbr_names::WorkName;
 use indexmap::IndexMap;
 use std::alloc::Global;
+use std::hash::{Hash, Hasher};
+use std::marker::Model;
 
 /// The bytes of a drafter's name, as a key that takes no memory.
 pub type DrafterKey = ArrayVec<u8, 32>;
 
-/// The bytes of a work's IRI, as a key that takes no memory. No IRI of a work is longer.
-pub type WorkKey = ArrayVec<u8, 162>;
+/// The bytes of a work's IRI, as a key that takes no memory. No IRI of a work is longer. They are hashed in one call, and not byte by
+/// byte.
+#[derive(Debug, Drop)]
+pub struct WorkKey {
+    bytes: ArrayVec<u8, 162>,
+}
+
+impl Model for WorkKey {
+    ghost use Rattle.std.specs.Prelude.{ℕ};
+    ghost use Rattle.arrayvec.specs.declared.array_vec.ArrayVec.{ArrayVec};
+
+    ghost Value = { ArrayVec ℕ 162 (Unit {0}) };
+
+    ghost view = { λ k. k.bytes };
+}
+
+impl PartialEq for WorkKey {
+    ghost eq = { λ k l. pointwise ◌==◌ k.items l.items };
+
+    ghost laws = { Prim.search (comparing, rules) };
+
+    fn eq(&self, other: &WorkKey) -> bool {
+        self.bytes == other.bytes
+    }
+}
+
+impl Eq for WorkKey {
+    ghost laws = { Prim.search (comparing, rules) };
+}
+
+impl Hash for WorkKey {
+    ghost hash_input = { λ k. fed.str k.items };
+
+    ghost respects_eq = { Prim.search (hashing, rules) };
+
+    fn hash<H: Hasher>(&self, state: &mut H) {
+        state.write(self.bytes.as_slice());
+        state.write_u8(0xff);
+    }
+}
 
 /// A request of a drafter.
 #[derive(Debug, PartialEq, Eq, Hash, Drop)]
@@ -86,9 +130,6 @@ pub struct BodyMark {
     pub place: usize,
 }
 
-/// The modifications that a law entry records, in order.
-pub type BodyMarks = ArrayVec<BodyMark, 64>;
-
 /// What is known of an id.
 #[derive(Clone, Copy, Debug)]
 pub struct IdMark {
@@ -157,16 +198,21 @@ pub fn drafter_key(drafter: &Drafter) -> DrafterKey
     drafter.key()
 }
 
+// The name of a work fits in a key.
+fn fits_in_a_key(work: &WorkName)
+    ensures { length work.now ≤ 162 }
+{
+    let _ = work.date();
+}
+
 /// The key of a work.
 pub fn work_key(work: &WorkName) -> WorkKey
     ensures { result.items ≡ work.now }
 {
-    let _ = work.date();
-    let mut key = ArrayVec::new();
-    for byte in work.as_str().as_bytes() {
-        key.push(*byte);
-    }
-    key
+    fits_in_a_key(work);
+    let mut bytes = ArrayVec::new();
+    let _ = bytes.try_extend_from_slice(work.as_str().as_bytes());
+    WorkKey { bytes }
 }
 
 impl Indexes {

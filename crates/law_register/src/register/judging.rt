@@ -170,7 +170,7 @@ impl Register {
         ensures { result ≡ verdicts.drafters_full self.now.entries drafter.now }
     {
         let full = self.drafter_count() >= usize::from(MOST_DRAFTERS);
-        (!self.has_drafter(drafter) && full).then_some(Rule::DraftersFull(MOST_DRAFTERS))
+        (full && !self.has_drafter(drafter)).then_some(Rule::DraftersFull(MOST_DRAFTERS))
     }
 
     fn unknown_in(&self, work: &WorkName) -> Result<Option<Rule>, Memory>

@@ -1,6 +1,6 @@
 //! Marks: what one more entry makes of those of each index. None of these calls takes memory.
 
-ghost use Rattle.std.specs.Prelude.{◌≡◌, ◌||◌, ◌==◌, ◌&&◌, ◌+◌, ◌-◌, ◌<◌, ◌≤◌, ◌^◌, ℕ, List, [], ◌∷◌, ◌++◌, length, map, slice_get, take, drop, Option, Some, None, option_map, is_some, if◌then◌else◌, vec_len, vec_capacity};
+ghost use Rattle.std.specs.Prelude.{◌≡◌, ◌||◌, ◌==◌, ◌&&◌, ◌+◌, ◌-◌, ◌<◌, ◌≤◌, ◌^◌, ℕ, List, [], ◌∷◌, ◌++◌, length, filter, map, slice_get, take, drop, Option, Some, None, IfSome, IfNone, option_map, is_some, if◌then◌else◌, vec_len, vec_capacity};
 ghost use Rattle.std.specs.Str.{bytes_eq};
 ghost use Rattle.indexmap.specs.IndexMap.{get_by, index_map_len, spare};
 ghost use Rattle.law_register.specs.Answer.Counted.{is_same_id};
@@ -13,9 +13,9 @@ ghost use Rattle.law_register.specs.Register.Drafts.{additions};
 use crate::law::sizes::entry_size;
 use crate::register::contents;
 use crate::register::indexes::{
-    BodyMark, BodyMarks, DrafterKey, DrafterMark, Drafters, EnactedMark, IdMark, Indexes, ItemMark,
-    ItemMarks, KnownIds, RequestKey, RequestMark, Requests, StepMark, WorkKey, WorkMark, Works,
-    drafter_key, work_key,
+    BodyMark, DrafterKey, DrafterMark, Drafters, EnactedMark, IdMark, Indexes, ItemMark, ItemMarks,
+    KnownIds, RequestKey, RequestMark, Requests, StepMark, WorkKey, WorkMark, Works, drafter_key,
+    work_key,
 };
 use crate::{Command, Drafter, Entry, Modification, Reply, Standing};
 use arrayvec::ArrayVec;
@@ -304,8 +304,34 @@ fn enacted_after(
     }
 }
 
+// Changes the mark of a work where it stands, and gives the one that it was.
+fn change_work(
+    works: &mut Works,
+    key: &WorkKey,
+    number: u32,
+    at: usize,
+    command: &Command,
+    count: u32,
+) -> Option<WorkMark>
+    requires { ids_in (work_in works.old key.now.items) + count < 2 ^ 32 }
+    ensures had { result ≡ work_in works.old key.now.items }
+    ensures marks { IfSome result (λ had. (w : List ℕ) → work_in works.new w
+        ≡ (if bytes_eq key.now.items w then Some (spec.work_after number at command.now count (Some had))
+        else work_in works.old w)) }
+    ensures same { IfNone result (works.new ≡ works.old) }
+{
+    match works.get_mut(key) {
+        Some(mark) => {
+            let had = *mark;
+            *mark = work_after(Some(had), number, at, command, count);
+            Some(had)
+        }
+        None => None,
+    }
+}
+
 /// Notes what the command of law entry `number`, which stands at this index and records so many modifications, makes of the work that
-/// it concerns.
+/// it concerns. It gives the number of the last law entry before it that concerns the work, or 0.
 pub fn note_work(
     works: &mut Works,
     work: &WorkName,
@@ -313,53 +339,123 @@ pub fn note_work(
     at: usize,
     command: &Command,
     count: u32,
-)
+) -> u32
     requires room { 0 < spare works.old }
     requires few { ids_in (work_in works.old work.now) + count < 2 ^ 32 }
-    ensures { (w : List ℕ) → work_in works.new w
+    ensures marks { (w : List ℕ) → work_in works.new w
         ≡ (if bytes_eq work.now w then Some (spec.work_after number at command.now count (work_in works.old w))
         else work_in works.old w) }
+    ensures before { result ≡ spec.last_in (work_in works.old work.now) }
 {
     let key = work_key(work);
-    let mark = work_after(works.get(&key).copied(), number, at, command, count);
-    put_work(works, key, mark);
-}
-
-fn places(at: usize, mods: &[Modification]) -> BodyMarks
-    requires { length mods.now ≤ 64 }
-    ensures { result.items ≡ marking.places at 0 mods.now }
-{
-    let mut bodies = ArrayVec::new();
-    for (place, _) in mods.iter().enumerate() {
-        bodies.push(BodyMark { entry: at, place });
+    match change_work(works, &key, number, at, command, count) {
+        Some(had) => had.last,
+        None => {
+            put_work(works, key, work_after(None, number, at, command, count));
+            0
+        }
     }
-    bodies
 }
 
-fn item_bodies(items: &[ItemMark]) -> BodyMarks
-    requires { length items.now ≤ 64 }
-    ensures { result.items ≡ map marking.item_body items.now }
+fn note_places(all: &mut Vec<BodyMark>, at: usize, mods: &[Modification])
+    requires { vec_len all.old + length mods.now ≤ vec_capacity all.old }
+    ensures items { all.new.items ≡ all.old.items ++ marking.places at 0 mods.now }
+    ensures len { vec_len all.new ≡ vec_len all.old + length mods.now }
 {
-    let mut bodies = ArrayVec::new();
+    for (place, _) in mods.iter().enumerate() {
+        all.push_reserved(BodyMark { entry: at, place });
+    }
+}
+
+fn note_items(all: &mut Vec<BodyMark>, items: &[ItemMark])
+    requires { vec_len all.old + length items.now ≤ vec_capacity all.old }
+    ensures items { all.new.items ≡ all.old.items ++ map marking.item_body items.now }
+    ensures len { vec_len all.new ≡ vec_len all.old + length items.now }
+{
     for item in items {
-        bodies.push(BodyMark {
+        all.push_reserved(BodyMark {
             entry: item.entry,
             place: 0,
         });
     }
-    bodies
 }
 
-fn bodies_of(entries: &[Entry], at: usize, draft: &[ItemMark], command: &Command) -> BodyMarks
-    requires few { length draft.now ≤ 64 }
+fn note_filed(
+    all: &mut Vec<BodyMark>,
+    drafters: &Drafters,
+    drafter: &Drafter,
+    entries: &[Entry],
+    work: &WorkName,
+)
+    requires few { length (items_in (drafter_in drafters.now drafter.now)) ≤ 64 }
+    requires room { vec_len all.old + 64 ≤ vec_capacity all.old }
+    ensures items { all.new.items ≡ all.old.items ++ map marking.item_body
+        (filter (spec.marks_work entries.now work.now) (items_in (drafter_in drafters.now drafter.now))) }
+    ensures more { vec_len all.old ≤ vec_len all.new }
+    ensures few { vec_len all.new ≤ vec_len all.old + 64 }
+{
+    match drafters.get(&drafter_key(drafter)) {
+        Some(mark) => note_items(all, &contents::items_of(entries, &mark.items, work)),
+        None => {}
+    }
+}
+
+// A mark is written where it stays, and only a command that files looks its drafter up: most entries record nothing.
+fn put_bodies(
+    all: &mut Vec<BodyMark>,
+    drafters: &Drafters,
+    drafter: &Drafter,
+    entries: &[Entry],
+    command: &Command,
+)
+    requires few { length (items_in (drafter_in drafters.now drafter.now)) ≤ 64 }
     requires mods { length (marking.mods_of command.now) ≤ 64 }
-    ensures { result.items ≡ marking.bodies_of entries.now at draft.now command.now }
+    requires room { vec_len all.old + 64 ≤ vec_capacity all.old }
+    ensures items { all.new.items ≡ all.old.items ++ marking.bodies_of entries.now (length entries.now)
+        (items_in (drafter_in drafters.now drafter.now)) command.now }
+    ensures more { vec_len all.old ≤ vec_len all.new }
+    ensures few { vec_len all.new ≤ vec_len all.old + 64 }
 {
     match command {
-        Command::Record { mods, .. } => places(at, mods.as_slice()),
-        Command::File { work, .. } => item_bodies(&contents::items_of(entries, draft, work)),
-        _ => ArrayVec::new(),
+        Command::Record { mods, .. } => note_places(all, entries.len(), mods.as_slice()),
+        Command::File { work, .. } => note_filed(all, drafters, drafter, entries, work),
+        _ => {}
     }
+}
+
+fn count_from(all: &[BodyMark], first: usize) -> u32
+    requires more { first ≤ length all.now }
+    requires few { length all.now ≤ first + 64 }
+    ensures value { result ≡ length (drop first all.now) }
+    ensures few { result ≤ 64 }
+{
+    all[first..].len() as u32
+}
+
+// Notes the modifications that a command of a drafter records, behind `first` others, and counts them.
+fn note_bodies(
+    all: &mut Vec<BodyMark>,
+    first: usize,
+    drafters: &Drafters,
+    drafter: &Drafter,
+    entries: &[Entry],
+    command: &Command,
+) -> u32
+    requires first { first ≡ length all.old.items }
+    requires few { length (items_in (drafter_in drafters.now drafter.now)) ≤ 64 }
+    requires mods { length (marking.mods_of command.now) ≤ 64 }
+    requires room { vec_len all.old + 64 ≤ vec_capacity all.old }
+    ensures items { all.new.items ≡ all.old.items ++ marking.bodies_of entries.now (length entries.now)
+        (items_in (drafter_in drafters.now drafter.now)) command.now }
+    ensures behind { drop first all.new.items ≡ marking.bodies_of entries.now (length entries.now)
+        (items_in (drafter_in drafters.now drafter.now)) command.now }
+    ensures count { result ≡ length (marking.bodies_of entries.now (length entries.now)
+        (items_in (drafter_in drafters.now drafter.now)) command.now) }
+    ensures more { vec_len all.old ≤ vec_len all.new }
+    ensures few { result ≤ 64 }
+{
+    put_bodies(all, drafters, drafter, entries, command);
+    count_from(all, first)
 }
 
 fn work_of_id<'a>(ids: &KnownIds, entries: &'a [Entry], id: Id) -> Option<&'a WorkName>
@@ -389,18 +485,19 @@ fn note_concerned(
     at: usize,
     command: &Command,
     count: u32,
-)
+) -> u32
     requires room { 0 < spare works.old }
     requires few { (w : List ℕ) → ids_in (work_in works.old w) ≤ 512 }
     requires count { count ≤ 64 }
-    ensures { (w : List ℕ) → work_in works.new w
+    ensures marks { (w : List ℕ) → work_in works.new w
         ≡ (if is_named w (option_map (λ n. n.now) work.entry)
         then Some (spec.work_after number at command.now count (work_in works.old w))
         else work_in works.old w) }
+    ensures before { result ≡ marking.last_before (work_in works.old) (option_map (λ n. n.now) work.entry) }
 {
     match work {
         Some(work) => note_work(works, work, number, at, command, count),
-        None => {}
+        None => 0,
     }
 }
 
@@ -411,15 +508,6 @@ pub fn last_on(works: &Works, work: &WorkName) -> u32
     works.get(&work_key(work)).map_or(0, |mark| mark.last)
 }
 
-fn last_before(works: &Works, work: Option<&WorkName>) -> u32
-    ensures { result ≡ marking.last_before (work_in works.now) (option_map (λ n. n.now) work.entry) }
-{
-    match work {
-        Some(work) => last_on(works, work),
-        None => 0,
-    }
-}
-
 fn note_step(steps: &mut Vec<StepMark>, command: &Command, step: StepMark)
     requires { vec_len steps.old < vec_capacity steps.old }
     ensures { steps.new.items ≡ marking.with_step command.now step steps.old.items }
@@ -428,15 +516,6 @@ fn note_step(steps: &mut Vec<StepMark>, command: &Command, step: StepMark)
         Command::DraftAdd { .. } => {}
         Command::DraftDrop { .. } => {}
         _ => steps.push_reserved(step),
-    }
-}
-
-fn note_bodies(all: &mut Vec<BodyMark>, bodies: &[BodyMark])
-    requires { vec_len all.old + length bodies.now ≤ vec_capacity all.old }
-    ensures { all.new.items ≡ all.old.items ++ bodies.now }
-{
-    for body in bodies {
-        all.push_reserved(*body);
     }
 }
 
@@ -463,18 +542,8 @@ pub fn law_count(command: &Command) -> u32
 
 impl Indexes {
     ghost use Rattle.law_register.specs.Register.Registers.{index_room};
-    ghost use Rattle.law_register.specs.Register.Marks.{CanNote, IsNoted, new_bodies};
+    ghost use Rattle.law_register.specs.Register.Marks.{CanNote, IsNoted};
     ghost use Rattle.law_register.specs.Register.Indexes.{drafter_mark};
-
-    fn new_bodies(&self, entries: &[Entry], entry: &Entry) -> BodyMarks
-        requires { CanNote self.now entry.now }
-        ensures { result.items ≡ new_bodies self.now entries.now entry.now }
-    {
-        match self.drafter(&entry.drafter) {
-            Some(mark) => bodies_of(entries, entries.len(), &mark.items, &entry.command),
-            None => bodies_of(entries, entries.len(), &[], &entry.command),
-        }
-    }
 
     /// Notes an entry behind others, which gets this reply. It takes no memory.
     pub fn note(&mut self, entries: &[Entry], entry: &Entry, reply: Reply)
@@ -485,26 +554,26 @@ impl Indexes {
         let at = entries.len();
         let number = self.front + 1;
         let command = &entry.command;
-        let bodies = self.new_bodies(entries, entry);
         let work = concerned(&self.ids, entries, command);
+        let first = self.bodies.len();
+        let count = note_bodies(
+            &mut self.bodies,
+            first,
+            &self.drafters,
+            &entry.drafter,
+            entries,
+            command,
+        );
+        let before = note_concerned(&mut self.works, work, number, at, command, count);
         let step = StepMark {
             entry: at,
-            first: self.bodies.len(),
-            until: self.bodies.len() + bodies.len(),
-            before: last_before(&self.works, work),
+            first,
+            until: first + count as usize,
+            before,
         };
         note_step(&mut self.steps, command, step);
-        note_bodies(&mut self.bodies, &bodies);
         note_act(&mut self.acts, command, at);
-        note_concerned(
-            &mut self.works,
-            work,
-            number,
-            at,
-            command,
-            bodies.len() as u32,
-        );
-        note_ids(&mut self.ids, number, at, command, &bodies);
+        note_ids(&mut self.ids, number, at, command, &self.bodies[first..]);
         put_request(
             &mut self.requests,
             drafter_key(&entry.drafter),
