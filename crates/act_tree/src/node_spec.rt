@@ -1,6 +1,6 @@
 //! Nodes as an act or a payload brings them: a clause sees them as a list of nested branches.
 
-ghost use Rattle.std.specs.Prelude.{◌≡◌, [], ◌++◌, ◌∷◌, IfOk, OnOk, OnErr};
+ghost use Rattle.std.specs.Prelude.{◌≡◌, [], ◌++◌, ◌∷◌, OnOk, OnErr};
 ghost use Rattle.act_tree.specs.Specs.{spec_view};
 
 use crate::Refs;
@@ -58,23 +58,6 @@ impl Model for Nodes {
     ghost size_decreases = { λ a h. omega (arith, most_le-tallest a.items.items) };
 }
 
-impl NodeSpec {
-    /// The same node, with all beneath it; texts are shared.
-    #[cycle(copying)]
-    pub fn copy(&self, alloc: Global) -> Result<NodeSpec, Memory>
-        ensures { IfOk result (λ node. spec_view node ≡ spec_view self.now) }
-    {
-        Ok(NodeSpec {
-            element: self.element,
-            num: self.num.copy(),
-            heading: self.heading.copy()?,
-            content: self.content.copy()?,
-            refs: self.refs.copy(alloc)?,
-            children: self.children.copy(alloc)?,
-        })
-    }
-}
-
 impl Nodes {
     /// No nodes. It takes no memory.
     pub fn new(alloc: Global) -> Nodes
@@ -92,16 +75,5 @@ impl Nodes {
     {
         self.items.push(node)?;
         Ok(())
-    }
-    /// The same nodes, with all beneath them; texts are shared.
-    #[cycle(copying)]
-    pub fn copy(&self, alloc: Global) -> Result<Nodes, Memory>
-        ensures { IfOk result (λ nodes. nodes ≡ self.now) }
-    {
-        let mut copies = Nodes::new(alloc);
-        for node in &self.items {
-            copies.push(node.copy(alloc)?)?;
-        }
-        Ok(copies)
     }
 }

@@ -6,7 +6,7 @@ ghost use Rattle.law_generator.specs.Acts as spec;
 
 use crate::days::first_day;
 use crate::names::{section_num, work};
-use act_tree::{NodeSpec, Nodes, Refs};
+use act_tree::{NodeSpec, Nodes, Refs, SharedNodes};
 use desk_base::{Memory, Period, Text};
 use eid_paths::{Element, Numbering};
 use law_register::{Act, Command};
@@ -57,7 +57,7 @@ fn sections(alloc: Global) -> Result<Nodes, Memory>
 pub fn enactment(alloc: Global) -> Result<Command, Memory>
     ensures { IfOk result (λ command. command ≡ spec.enactment) }
 {
-    let body = sections(alloc)?;
+    let body = SharedNodes::new(alloc, sections(alloc)?)?;
     let work = work(alloc)?;
     Ok(Command::Enact {
         act: Act {

@@ -1,4 +1,4 @@
-//! Copies of edits. Their texts are shared.
+//! Copies of edits. Their texts and nodes are shared.
 
 ghost use Rattle.std.specs.Prelude.{◌≡◌, IfOk};
 
@@ -53,7 +53,7 @@ impl TextualMod {
             TextualMod::Repeal { wid } => Ok(TextualMod::Repeal { wid: wid.copy()? }),
             TextualMod::SubstituteNodes { wid, new } => Ok(TextualMod::SubstituteNodes {
                 wid: wid.copy()?,
-                new: new.copy(alloc)?,
+                new: new.copy()?,
             }),
             TextualMod::SubstituteText { wid, spot, new } => Ok(TextualMod::SubstituteText {
                 wid: wid.copy()?,
@@ -63,7 +63,7 @@ impl TextualMod {
             TextualMod::InsertNodes { wid, pos, new } => Ok(TextualMod::InsertNodes {
                 wid: wid.copy()?,
                 pos: *pos,
-                new: new.copy(alloc)?,
+                new: new.copy()?,
             }),
             TextualMod::InsertText { wid, at, new } => Ok(TextualMod::InsertText {
                 wid: wid.copy()?,

@@ -1,7 +1,7 @@
 //! The edit that a textual modification makes.
 
 use crate::Pairs;
-use act_tree::Nodes;
+use act_tree::SharedNodes;
 use desk_base::Text;
 use eid_paths::Num;
 
@@ -64,7 +64,7 @@ pub enum TextualMod {
         /// The wId of the target.
         wid: Text,
         /// The nodes, 1 to 64 side by side.
-        new: Nodes,
+        new: SharedNodes,
     },
     /// An occurrence in the content of the target becomes another text.
     SubstituteText {
@@ -82,7 +82,7 @@ pub enum TextualMod {
         /// Where they stand.
         pos: Pos,
         /// The nodes, 1 to 64 side by side.
-        new: Nodes,
+        new: SharedNodes,
     },
     /// A text stands in the content of a provision.
     InsertText {

@@ -18,6 +18,7 @@ use super::names::work;
 use super::nodes::{element, nodes};
 use super::tables::ACT;
 use crate::ReadFail;
+use act_tree::SharedNodes;
 use desk_base::Day;
 use eid_paths::{Element, Numbering};
 use frbr_names::WorkName;
@@ -92,7 +93,7 @@ pub(super) fn act(alloc: Global, value: &Value) -> Result<Act, ReadFail>
     let language = language(field(value, Key::FrbrLanguage)?)?;
     let numbering = numbering(alloc, value)?;
     let force = period(field(value, Key::Force)?)?;
-    let body = nodes(alloc, field(value, Key::Body)?)?;
+    let body = SharedNodes::new(alloc, nodes(alloc, field(value, Key::Body)?)?)?;
     Ok(Act {
         work,
         language,

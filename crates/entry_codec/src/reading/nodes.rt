@@ -8,7 +8,7 @@ ghost use Rattle.entry_codec.specs.Nodes as spec;
 ghost use Rattle.entry_codec.specs.Modifications.{payload};
 
 use super::reader::{Reader, Stop};
-use act_tree::{NodeSpec, Nodes};
+use act_tree::{NodeSpec, Nodes, SharedNodes};
 use eid_paths::Element;
 use std::alloc::Global;
 
@@ -92,9 +92,10 @@ impl<'a> Reader<'a> {
 
     /// The nodes that an act or an edit brings.
     #[tactic(auto, unfolding(crate::specs::Modifications::payload))]
-    pub fn payload(&mut self, alloc: Global) -> Result<Nodes, Stop>
+    pub fn payload(&mut self, alloc: Global) -> Result<SharedNodes, Stop>
         ensures { Reads (λ n. n) result self.new.left.now (payload.read self.old.left.now) }
     {
-        self.nodes(alloc, 12)
+        let nodes = self.nodes(alloc, 12)?;
+        Ok(SharedNodes::new(alloc, nodes)?)
     }
 }

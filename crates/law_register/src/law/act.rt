@@ -2,11 +2,10 @@
 
 ghost use Rattle.std.specs.Prelude.{◌≡◌, IfOk};
 
-use act_tree::Nodes;
+use act_tree::SharedNodes;
 use desk_base::{Day, Memory, Period};
 use eid_paths::Numbering;
 use frbr_names::WorkName;
-use std::alloc::Global;
 
 /// An act as it was enacted.
 #[derive(Debug, PartialEq, Eq, Drop)]
@@ -22,12 +21,12 @@ pub struct Act {
     /// When it is in force.
     pub force: Period,
     /// The children of its root.
-    pub body: Nodes,
+    pub body: SharedNodes,
 }
 
 impl Act {
-    /// The same act; its texts are shared.
-    pub fn copy(&self, alloc: Global) -> Result<Act, Memory>
+    /// The same act; its texts and its nodes are shared.
+    pub fn copy(&self) -> Result<Act, Memory>
         ensures { IfOk result (λ act. act ≡ self.now) }
     {
         Ok(Act {
@@ -36,7 +35,7 @@ impl Act {
             day: self.day,
             numbering: self.numbering,
             force: self.force,
-            body: self.body.copy(alloc)?,
+            body: self.body.copy()?,
         })
     }
 }

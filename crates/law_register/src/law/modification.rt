@@ -117,7 +117,7 @@ impl Modification {
         }
     }
 
-    /// The same modification; its texts are shared.
+    /// The same modification; its texts and nodes are shared.
     pub fn copy(&self, alloc: Global) -> Result<Modification, Memory>
         ensures { IfOk result (λ modification. modification ≡ self.now) }
     {

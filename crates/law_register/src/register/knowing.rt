@@ -220,7 +220,7 @@ fn known_of_act(
         Some(act) => {
             let known = ids_of(alloc, indexes, entries, work, viewpoint)?;
             Ok(Some(Known {
-                act: act.copy(alloc)?,
+                act: act.copy()?,
                 enacted: mark.number,
                 viewpoint,
                 front,

@@ -19,7 +19,7 @@ pub struct KnownMod {
 }
 
 impl KnownMod {
-    /// The same modification; its texts are shared.
+    /// The same modification; its texts and nodes are shared.
     pub fn copy(&self, alloc: Global) -> Result<KnownMod, Memory>
         ensures { IfOk result (λ copy. copy ≡ self.now) }
     {
@@ -35,7 +35,7 @@ impl KnownMod {
 pub type KnownMods = Series<KnownMod>;
 
 impl KnownMods {
-    /// The same modifications; their texts are shared.
+    /// The same modifications; their texts and nodes are shared.
     pub fn copy(&self, alloc: Global) -> Result<KnownMods, Memory>
         ensures { IfOk result (λ copy. copy ≡ self.now) }
     {
@@ -63,12 +63,12 @@ pub struct Known {
 }
 
 impl Known {
-    /// The same work as it is known; its texts are shared.
+    /// The same work as it is known; its texts and nodes are shared.
     pub fn copy(&self, alloc: Global) -> Result<Known, Memory>
         ensures { IfOk result (λ copy. copy ≡ self.now) }
     {
         Ok(Known {
-            act: self.act.copy(alloc)?,
+            act: self.act.copy()?,
             enacted: self.enacted,
             viewpoint: self.viewpoint,
             front: self.front,

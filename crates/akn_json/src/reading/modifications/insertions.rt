@@ -11,6 +11,7 @@ use crate::reading::faults::WRONG_SHAPE;
 use crate::reading::fields::{copied, field};
 use crate::reading::key::Key;
 use crate::reading::nodes::nodes;
+use act_tree::SharedNodes;
 use serde_json::Value;
 use std::alloc::Global;
 use textual_mods::{Pos, TextPos, TextualMod};
@@ -20,7 +21,7 @@ pub(super) fn insert_nodes(alloc: Global, value: &Value) -> Result<TextualMod, R
     ensures { Gives (λ e. e) result (spec.insert_nodes_in (view value.now)) }
 {
     let anchor = read_anchor(alloc, value)?;
-    let new = nodes(alloc, field(value, Key::New)?)?;
+    let new = SharedNodes::new(alloc, nodes(alloc, field(value, Key::New)?)?)?;
     Ok(TextualMod::InsertNodes {
         wid: anchor.wid,
         pos: anchor.pos,

@@ -10,6 +10,7 @@ use crate::ReadFail;
 use crate::reading::fields::{copied, field};
 use crate::reading::key::Key;
 use crate::reading::nodes::nodes;
+use act_tree::SharedNodes;
 use serde_json::Value;
 use std::alloc::Global;
 use textual_mods::TextualMod;
@@ -27,7 +28,7 @@ pub(super) fn substitute_nodes(alloc: Global, value: &Value) -> Result<TextualMo
     ensures { Gives (λ e. e) result (spec.substitute_nodes_in (view value.now)) }
 {
     let wid = destination(alloc, value)?;
-    let new = nodes(alloc, field(value, Key::New)?)?;
+    let new = SharedNodes::new(alloc, nodes(alloc, field(value, Key::New)?)?)?;
     Ok(TextualMod::SubstituteNodes { wid, new })
 }
 
