@@ -108,12 +108,12 @@ def devices():
 
 def folder_to_a_full_device(line, **settings):
     with open("/dev/full", "wb") as full:
-        return subprocess.run(["sh", "-c", '"$@" < .', "sh", *line], stdout=full, timeout=60, **settings).returncode
+        return subprocess.run(["sh", "-c", '"$@" < .', "sh", *line], stdout=full, timeout=60, **{"stderr": subprocess.DEVNULL, **settings}).returncode
 
 
 def unread(line, **settings):
     """The status where nobody reads what is written."""
-    child = subprocess.Popen(line, stdin=subprocess.PIPE, stdout=subprocess.PIPE, **settings)
+    child = subprocess.Popen(line, stdin=subprocess.PIPE, stdout=subprocess.PIPE, **{"stderr": subprocess.DEVNULL, **settings})
     child.stdout.close()
     child.stdin.write(histories.FRONT)
     child.stdin.close()
@@ -136,7 +136,7 @@ def broken_connection(line, **settings):
         sender = socket.create_connection(listening.getsockname())
         receiver, _ = listening.accept()
     with receiver:
-        child = subprocess.Popen(line, stdin=receiver, stdout=subprocess.PIPE, **settings)
+        child = subprocess.Popen(line, stdin=receiver, stdout=subprocess.PIPE, **{"stderr": subprocess.DEVNULL, **settings})
     with at_most(60, child):
         sender.sendall(histories.FRONT * 2)
         written = child.stdout.read(2 * len(histories.FRONT_0))

@@ -137,7 +137,7 @@ def session(rows, status):
     """One desk, and all that curl sends to it."""
     with checks.folder() as folder, socket.create_server(("127.0.0.1", 0)) as listening:
         listening.settimeout(60)
-        child = subprocess.Popen([checks.PROGRAM, "batch"], stdin=subprocess.PIPE, stdout=subprocess.PIPE, cwd=folder)
+        child = subprocess.Popen([checks.PROGRAM, "batch"], stdin=subprocess.PIPE, stdout=subprocess.PIPE, stderr=subprocess.DEVNULL, cwd=folder)
         with at_most(120, child):
             for words, given, wanted in rows:
                 told, written = exchanged(words, given, len(wanted), listening, child)

@@ -158,7 +158,7 @@ def run_to_a_crash(folder, point):
 
 def killed_some_time(folder, seconds):
     """All commands at once, and a kill after so many seconds."""
-    child = subprocess.Popen([checks.PROGRAM, "batch"], stdin=subprocess.PIPE, stdout=subprocess.PIPE, cwd=folder)
+    child = subprocess.Popen([checks.PROGRAM, "batch"], stdin=subprocess.PIPE, stdout=subprocess.PIPE, stderr=subprocess.DEVNULL, cwd=folder)
     with at_most(seconds, child):
         try:
             whole(child.stdin.fileno(), STREAM)

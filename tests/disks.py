@@ -22,7 +22,7 @@ PAGE = 4096
 
 def opened(folder, **settings):
     """`batch` in a folder."""
-    return subprocess.Popen([checks.PROGRAM, "batch"], stdin=subprocess.PIPE, stdout=subprocess.PIPE, cwd=folder, **settings)
+    return subprocess.Popen([checks.PROGRAM, "batch"], stdin=subprocess.PIPE, stdout=subprocess.PIPE, cwd=folder, **{"stderr": subprocess.DEVNULL, **settings})
 
 
 def faults_of_a_run(folder, child, mended, wanted_faults=1):

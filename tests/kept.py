@@ -20,7 +20,7 @@ NEW = MAGIC + b"\x00"
 
 def called(folder, word, given=b""):
     """The status of a run of one word in a folder, and what it wrote."""
-    done = subprocess.run([checks.PROGRAM, word], input=given, stdout=subprocess.PIPE, cwd=folder, timeout=60)
+    done = subprocess.run([checks.PROGRAM, word], input=given, stdout=subprocess.PIPE, stderr=subprocess.DEVNULL, cwd=folder, timeout=60)
     return done.returncode, done.stdout
 
 
@@ -129,7 +129,7 @@ def kills():
     rows = histories.GROWING[:28]
     for count in range(1, len(rows) + 1):
         with tempfile.TemporaryDirectory() as folder:
-            child = subprocess.Popen([checks.PROGRAM, "batch"], stdin=subprocess.PIPE, stdout=subprocess.PIPE, cwd=folder)
+            child = subprocess.Popen([checks.PROGRAM, "batch"], stdin=subprocess.PIPE, stdout=subprocess.PIPE, stderr=subprocess.DEVNULL, cwd=folder)
             with at_most(60, child):
                 child.stdin.write(b"".join(given for given, _ in rows[:count]))
                 child.stdin.flush()
@@ -153,7 +153,7 @@ def no_file():
 def held_file():
     """One process holds the journal: a second one ends with 5, says why, and asks nothing of the file; afterwards it is free."""
     with tempfile.TemporaryDirectory() as folder:
-        first = subprocess.Popen([checks.PROGRAM, "batch"], stdin=subprocess.PIPE, stdout=subprocess.PIPE, cwd=folder)
+        first = subprocess.Popen([checks.PROGRAM, "batch"], stdin=subprocess.PIPE, stdout=subprocess.PIPE, stderr=subprocess.DEVNULL, cwd=folder)
         with at_most(60, first):
             first.stdin.write(histories.FRONT)
             first.stdin.flush()

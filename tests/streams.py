@@ -8,7 +8,7 @@ from checks import PROGRAM, SAID, check, read, run, said_over_a_folder, said_to_
 
 def slow_pipe():
     """A pipe through which the dossier comes byte by byte."""
-    slow = subprocess.Popen([PROGRAM, "text", "2011-01-01"], stdin=subprocess.PIPE, stdout=subprocess.PIPE)
+    slow = subprocess.Popen([PROGRAM, "text", "2011-01-01"], stdin=subprocess.PIPE, stdout=subprocess.PIPE, stderr=subprocess.DEVNULL)
     for byte in read("examples", "repeal.json"):
         slow.stdin.write(bytes([byte]))
         slow.stdin.flush()
@@ -33,7 +33,7 @@ def largest_input():
 def closed_pipes():
     """A pipe that nobody reads, and one of which only the first byte is read."""
     large = cases.dossier(cases.act(body=cases.sections(500, "c" * 16000)))
-    closed = subprocess.Popen([PROGRAM, "text", "2011-01-01"], stdin=subprocess.PIPE, stdout=subprocess.PIPE)
+    closed = subprocess.Popen([PROGRAM, "text", "2011-01-01"], stdin=subprocess.PIPE, stdout=subprocess.PIPE, stderr=subprocess.DEVNULL)
     closed.stdout.close()
     closed.stdin.write(large)
     closed.stdin.close()
