@@ -1,12 +1,12 @@
 -- A number whose way up ends at the root is one of the text, and each number of the text is such a one.
 use Rattle.std.proofs.Common.{◌≡◌, ◌∙◌, sym, ap, refl, subst, ℕ, zero, suc, ◌+◌, ◌-◌, ◌<◌, ◌≤◌, ◌==◌, Bool, true, false, not, ◌||◌, ◌&&◌, List, [], ◌∷◌, Option, Some, None, inl, inr, arith}
 use Rattle.std.specs.List.{list_any}
-use Rattle.std.proofs.lemmas.Bool.{or_cases, and_parts, and_from, eqb-true, ne_eqb}
+use Rattle.std.proofs.lemmas.Bool.{cases_eq, or_cases, and_parts, and_from, eqb-true, eq-eqb, ne_eqb}
 use Rattle.act_tree.specs.Branches.{Branch, Branches, branch, no_branches, more_branches, height, heights}
 use Rattle.act_tree.specs.Provisions.{Provision}
 use Rattle.act_tree.specs.Changes.{holds, any_holds}
 use Rattle.std.specs.Str.{bytes_eq}
-use Rattle.act_tree.specs.Arena.{Laid, provision_in, above_in, below_in, branches_below, branch_from, hangs_on, climbs, is_hung, Stands, StandAll, IsWhole}
+use Rattle.act_tree.specs.Arena.{Laid, provision_in, above_in, below_in, branches_below, branch_from, hangs_on, climbs, climbs_past, is_hung, Stands, StandAll, IsWhole}
 use Rattle.act_tree.proofs.Texts.{same_text}
 use Rattle.act_tree.proofs.Standing.{one_branch, stands_below, Among, among}
 
@@ -162,3 +162,40 @@ climbs_on f at i x some here below other =
     ∙ ap (λ b. b || (hangs_on i (at i) && climbs (f - 1) at (above_in (at i)))) (ne_eqb i 0 below)
     ∙ ap (λ b. b && climbs (f - 1) at (above_in (at i))) (hangs_there i (at i) x here other)
     ∙ ap (λ o. climbs (f - 1) at (above_in o)) here)
+
+-- past the root, each way up is as it is
+pub past_root : (f : ℕ) (at : ℕ → Option Laid) (i : ℕ) → climbs_past f at 0 i ≡ climbs f at i
+past_root zero at i = refl
+past_root (suc f) at i =
+    elim (cases_eq i 0) [
+      | inl root ↦
+          ap (λ t. t || (not (i == 0) && (hangs_on i (at i) && climbs_past f at 0 (above_in (at i))))) (eq-eqb i 0 root)
+          ∙ sym (ap (λ t. t || (hangs_on i (at i) && climbs f at (above_in (at i)))) (eq-eqb i 0 root))
+      | inr other ↦
+          ap (λ t. (i == 0) || (not t && (hangs_on i (at i) && climbs_past f at 0 (above_in (at i))))) (ne_eqb i 0 other)
+          ∙ ap (λ t. (i == 0) || (hangs_on i (at i) && t)) (past_root f at (above_in (at i)))
+    ]
+
+-- one step of the way up past another number
+pub past_on : (f : ℕ) (at : ℕ → Option Laid) (gone i : ℕ) (x : Laid) → 0 < f → at i ≡ Some x → (i ≡ 0 → ⊥) → (i ≡ gone → ⊥) → (x.above ≡ i → ⊥) → climbs_past (f - 1) at gone x.above ≡ climbs_past f at gone i
+past_on zero at gone i x some here below apart other = absurd (omega arith)
+past_on (suc f) at gone i x some here below apart other =
+    let less : suc f - 1 ≡ f = omega arith in
+    ap (λ n. climbs_past n at gone x.above) less
+    ∙ sym (
+    ap (λ b. b || (not (i == gone) && (hangs_on i (at i) && climbs_past f at gone (above_in (at i))))) (ne_eqb i 0 below)
+    ∙ ap (λ b. not b && (hangs_on i (at i) && climbs_past f at gone (above_in (at i)))) (ne_eqb i gone apart)
+    ∙ ap (λ b. b && climbs_past f at gone (above_in (at i))) (hangs_there i (at i) x here other)
+    ∙ ap (λ o. climbs_past f at gone (above_in o)) here)
+
+-- no way up leads on from what was taken off
+pub past_off : (f : ℕ) (at : ℕ → Option Laid) (gone i : ℕ) (x : Laid) → at i ≡ Some x → (i ≡ 0 → ⊥) → x.above ≡ i → climbs_past f at gone i ≡ false
+past_off zero at gone i x here below own = refl
+past_off (suc f) at gone i x here below own =
+    ap (λ b. b || (not (i == gone) && (hangs_on i (at i) && climbs_past f at gone (above_in (at i))))) (ne_eqb i 0 below)
+    ∙ ap (λ b. not (i == gone) && (b && climbs_past f at gone (above_in (at i)))) (ap (hangs_on i) here ∙ ap not (eq-eqb x.above i own))
+    ∙ none (not (i == gone))
+  where
+    none : (b : Bool) → (b && false) ≡ false
+    none true = refl
+    none false = refl

@@ -56,3 +56,4 @@ pub mod LevelsNoted
 pub mod Copying
 pub mod NotAsMany
 pub mod KeptNumbers
+pub mod LevelsLeft

@@ -61,6 +61,12 @@ abbrev pub climbs : ℕ → (ℕ → Option Laid) → ℕ → Bool
 climbs zero at i = false
 climbs (suc steps) at i = (i == 0) || (hangs_on i (at i) && climbs steps at (above_in (at i)))
 
+-- the way up from a number ends so, and does not pass another number; where that is the root, it is no hindrance
+abbrev pub climbs_past : ℕ → (ℕ → Option Laid) → ℕ → ℕ → Bool
+climbs_past zero at gone i = false
+climbs_past (suc steps) at gone i =
+    (i == 0) || (not (i == gone) && (hangs_on i (at i) && climbs_past steps at gone (above_in (at i))))
+
 -- the branch stands at the number: its provision is laid down there, below the number above, and the index leads to it
 abbrev mutual
   pub Stands : (ℕ → Option Laid) → (List ℕ → Option ℕ) → ℕ → ℕ → Branch Provision → Type 0

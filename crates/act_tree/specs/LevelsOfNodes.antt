@@ -3,7 +3,7 @@ use Rattle.std.specs.Prelude.{ℕ, zero, suc, ◌==◌, ◌||◌, ◌&&◌, Bool
 use Rattle.std.specs.Str.{bytes_eq}
 use Rattle.eid_paths.specs.declared.numbering.Numbering.{Numbering}
 use Rattle.act_tree.specs.declared.tree.Tree.{Tree}
-use Rattle.act_tree.specs.Arena.{Laid, provision_in, above_in, climbs}
+use Rattle.act_tree.specs.Arena.{Laid, provision_in, above_in, climbs, climbs_past}
 use Rattle.act_tree.specs.Branches.{branches_of}
 use Rattle.act_tree.specs.EidLevels.{begins, own_level, levels_on}
 use Rattle.act_tree.specs.Seen.{tree_view, branch_at}
@@ -23,3 +23,16 @@ abbrev pub begins_before : Numbering → (ℕ → Option Laid) → ℕ → List 
 begins_before numbering at size level zero = false
 begins_before numbering at size level (suc i) =
     begins_before numbering at size level i || begins_by numbering at size level i
+
+-- the number is that of a provision that begins an eId by this level in the text that is left without another number
+-- and all beneath it
+abbrev pub begins_past : Numbering → (ℕ → Option Laid) → ℕ → ℕ → List ℕ → ℕ → Bool
+begins_past numbering at size gone level i =
+    bytes_eq level (own_level (provision_in (at i)).own)
+    && (begins numbering (above_in (at i) == 0) (provision_in (at i)).own && (not (i == 0) && climbs_past size at gone i))
+
+-- one of the first so many numbers is
+abbrev pub some_past : Numbering → (ℕ → Option Laid) → ℕ → ℕ → List ℕ → ℕ → Bool
+some_past numbering at size gone level zero = false
+some_past numbering at size gone level (suc i) =
+    some_past numbering at size gone level i || begins_past numbering at size gone level i

@@ -97,7 +97,7 @@ impl Slot {
 impl Arena {
     ghost use Rattle.std.specs.Prelude.{ℕ, ◌==◌, not, false, filter, map};
     ghost use Rattle.std.specs.List.{All, list_any};
-    ghost use Rattle.act_tree.specs.Arena.{climbs, above_in, below_in};
+    ghost use Rattle.act_tree.specs.Arena.{climbs, climbs_past, above_in, below_in};
     ghost use Rattle.act_tree.specs.TakenOff.{with_above, with_below, IsTakenOff, IsEmptied};
     ghost use Rattle.act_tree.specs.Slots.{at, number, size, laid_of, LeadsTo};
 
@@ -157,11 +157,22 @@ impl Arena {
     pub fn climbs(&self, id: NodeId) -> bool
         ensures { result ≡ climbs (size self.now) (at self.now) id }
     {
+        self.climbs_past(NodeId::root(), id)
+    }
+
+    /// Whether the way up from a number ends at the root and does not pass another one. Where that is the root, it is no
+    /// hindrance.
+    pub fn climbs_past(&self, gone: NodeId, id: NodeId) -> bool
+        ensures { result ≡ climbs_past (size self.now) (at self.now) gone id }
+    {
         let mut id = id;
         let mut steps = self.slots.len();
         while steps > 0 {
             if id.place() == 0 {
                 return true;
+            }
+            if id == gone {
+                return false;
             }
             let Some(slot) = self.slots.get(id.place()) else {
                 return false;

@@ -92,14 +92,22 @@ pub fn goes_on(tree: &Tree, element: Element, num: &Num, ids: &[NodeId]) -> bool
 
 impl Arena {
     ghost use Rattle.std.specs.Prelude.{ℕ, ◌<◌, ◌≤◌, ◌^◌};
-    ghost use Rattle.act_tree.specs.LevelsOfNodes.{begins_by, begins_before};
+    ghost use Rattle.act_tree.specs.LevelsOfNodes.{begins_before, begins_past, some_past};
     ghost use Rattle.act_tree.specs.Slots.{at, size};
 
-    // Whether a number is that of a provision of the text that begins an eId by this level.
-    fn begins_at(&self, numbering: Numbering, element: Element, num: &Num, place: usize) -> bool
+    // Whether a number is that of a provision that begins an eId by this level in the text that is left without another
+    // number and all beneath it.
+    fn begins_at(
+        &self,
+        numbering: Numbering,
+        gone: NodeId,
+        element: Element,
+        num: &Num,
+        place: usize,
+    ) -> bool
         requires within { place < size self.now }
         requires fits { size self.now ≤ 2 ^ 32 }
-        ensures { result ≡ begins_by numbering (at self.now) (size self.now) (level_text element num.now) place }
+        ensures { result ≡ begins_past numbering (at self.now) (size self.now) gone (level_text element num.now) place }
     {
         let slot = &self.slots[place];
         if !is_level(slot, element, num) {
@@ -107,20 +115,36 @@ impl Arena {
         }
         let begins = slot.above.place() == 0 || numbering.has(slot.element);
         let id = NodeId::of_place(place).unwrap();
-        begins && place != 0 && self.climbs(id)
+        begins && place != 0 && self.climbs_past(gone, id)
     }
 
-    /// Whether a provision of the text begins an eId by this level. What is laid down is searched from the first number
-    /// to the last, and the way up is gone only from a provision of the level.
-    pub fn begins(&self, numbering: Numbering, element: Element, num: &Num) -> bool
+    /// Whether a provision begins an eId by this level in the text that is left without a number and all beneath it; in
+    /// the whole text where that is the root. What is laid down is searched from the first number to the last, and the
+    /// way up is gone only from a provision of the level.
+    pub fn begins_without(
+        &self,
+        numbering: Numbering,
+        gone: NodeId,
+        element: Element,
+        num: &Num,
+    ) -> bool
         requires { size self.now ≤ 2 ^ 32 }
-        ensures { result ≡ begins_before numbering (at self.now) (size self.now) (level_text element num.now) (size self.now) }
+        ensures { result ≡ some_past numbering (at self.now) (size self.now) gone (level_text element num.now)
+            (size self.now) }
     {
         for place in 0..self.slots.len() {
-            if self.begins_at(numbering, element, num, place) {
+            if self.begins_at(numbering, gone, element, num, place) {
                 return true;
             }
         }
         false
+    }
+
+    /// Whether a provision of the text begins an eId by this level.
+    pub fn begins(&self, numbering: Numbering, element: Element, num: &Num) -> bool
+        requires { size self.now ≤ 2 ^ 32 }
+        ensures { result ≡ begins_before numbering (at self.now) (size self.now) (level_text element num.now) (size self.now) }
+    {
+        self.begins_without(numbering, NodeId::root(), element, num)
     }
 }

@@ -96,10 +96,10 @@ impl Tree {
     ghost use Rattle.act_tree.specs.Faults.{first_fault, first_cause, all_owns, FailsBy};
     ghost use Rattle.act_tree.specs.Slots.{provision_of};
     ghost use Rattle.act_tree.specs.Brought.{brought, has_brought, second_part};
-    ghost use Rattle.act_tree.specs.Changes.{after, before, changed, grafted, is_in, joined, merged, next_of, parted, removed, renumbered, substituted, with_content};
+    ghost use Rattle.act_tree.specs.Changes.{after, before, changed, grafted, is_in, joined, merged, next_of, parted, removed, renumbered, substituted, with_content, without};
     ghost use Rattle.act_tree.specs.declared.surveying.TheConstants.{NONE_THROUGHOUT};
     ghost use Rattle.act_tree.specs.Eids.{all_enacted};
-    ghost use Rattle.act_tree.specs.EidLevels.{levels_begun, levels_on};
+    ghost use Rattle.act_tree.specs.EidLevels.{all_beginning, levels_begun, levels_on};
     ghost use Rattle.eid_paths.specs.Levels.{level_text};
     ghost use Rattle.act_tree.specs.EidsOfNodes.{IsNodeOf};
     ghost use Rattle.act_tree.specs.EidsOfWids.{eid_of_wid, has_eid, level_of_own};
@@ -356,6 +356,17 @@ impl Tree {
         ensures { result ≡ is_among (level_text element num.now) (levels_begun (tree_view self.now)) }
     {
         self.arena.begins(self.numbering, element, num)
+    }
+
+    /// Whether a provision begins an eId by this level in the text that is left without a node and all beneath it. Where
+    /// the node is the root, nothing has its wId, and the whole text is left.
+    pub fn has_level_without(&self, gone: NodeId, element: Element, num: &Num) -> bool
+        requires { has_node self.now gone ≡ true }
+        ensures { result ≡ is_among (level_text element num.now) (all_beginning (tree_view self.now).numbering true
+            (all_owns (without (provision_at self.now gone).wid (tree_view self.now).body))) }
+    {
+        self.arena
+            .begins_without(self.numbering, gone, element, num)
     }
 
     /// Whether a child of a node that is not the root has this level, and begins no eId by it.

@@ -1,9 +1,0 @@
--- None of the numbers passed is one.
-use Rattle.std.proofs.Common.{◌≡◌, false}
-use Rattle.eid_paths.specs.Levels.{level_text}
-use Rattle.act_tree.specs.LevelsOfNodes.{begins_before}
-use Rattle.act_tree.specs.Slots.{at, size}
-use Rattle.act_tree.proofs.arena.Arena.begins.Given as goal
-
-abbrev pub invariant-loop-place : goal.invariant-loop-place
-invariant-loop-place l = begins_before l.numbering (at l.self) (size l.self) (level_text l.element l.num) l.place ≡ false
