@@ -14,10 +14,11 @@ pub mod JoinedTrees
 pub mod Keeping
 pub mod Limits
 pub mod Names
+pub mod ChangesDecide
 pub mod NamedNodes
 pub mod Naming
-pub mod NumWalks
 pub mod NumsTaken
+pub mod PlacedLevels
 pub mod OldOrBrought
 pub mod OneChange
 pub mod OneRestating

@@ -43,7 +43,7 @@ pub numbered_left : (t : Tree) (gone : Option ℕ) → are_numbered (text_left t
 numbered_left t None = nums_kept t
 numbered_left t (Some id) = without_kept (provision_at t id).wid (tree_view t).body (nums_kept t)
 
-kids_are : (t : Tree) (parent : ℕ) → has_node t parent ≡ true → branches_of (map (branch_at t) (children_at t parent)) ≡ below_at t parent
+pub kids_are : (t : Tree) (parent : ℕ) → has_node t parent ≡ true → branches_of (map (branch_at t) (children_at t parent)) ≡ below_at t parent
 unfolding has_node branch_at below_at children_at
 kids_are t parent node = children_branches (at t.arena) (number t.arena) (size t.arena) t.whole parent node
 

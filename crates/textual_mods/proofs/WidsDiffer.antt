@@ -5,9 +5,9 @@ use Rattle.std.specs.Str.{bytes_eq}
 use Rattle.std.proofs.lemmas.Bool.{cases_Bool, cases_order, or_cases, and_parts, eq-eqb, eqb-true}
 use Rattle.std.proofs.Math.Nat.{zero-add, suc-add}
 use Rattle.std.proofs.lemmas.List.Folds.{list_any-append}
-use Rattle.act_tree.specs.Arena.{Laid, above_in, below_in, branches_below, hangs_on, climbs, number_twice, Stands, StandAll, IsWhole}
+use Rattle.act_tree.specs.Arena.{Laid, provision_in, above_in, below_in, branches_below, hangs_on, climbs, number_twice, Stands, StandAll, IsWhole}
 use Rattle.act_tree.specs.Branches.{Branch, Branches, branch, no_branches, more_branches}
-use Rattle.act_tree.specs.Changes.{holds, any_holds}
+use Rattle.act_tree.specs.Changes.{holds, any_holds, root_wid}
 use Rattle.act_tree.specs.Provisions.{Provision}
 use Rattle.act_tree.specs.Seen.{tree_view}
 use Rattle.act_tree.specs.Slots.{at, number, size}
@@ -169,3 +169,12 @@ unfolding tree_view
 wids_differ t =
     differ (at t.arena) (number t.arena) (size t.arena) t.whole (branches_below (size t.arena) (at t.arena) (below_in (at t.arena 0))) 0 (below_in (at t.arena 0))
     (root_climbs (at t.arena) (number t.arena) (size t.arena) t.whole) t.whole.stands.1.1 (t.whole.once 0) (λ j found. found)
+
+-- no provision of a tree has the wId of the root
+pub root_apart : (t : Tree) → any_holds root_wid (tree_view t).body ≡ false
+unfolding tree_view
+root_apart t =
+    let body : Branches Provision = branches_below (size t.arena) (at t.arena) (below_in (at t.arena 0)) in
+    all_among root_wid body
+    ∙ ap (λ w. is_among w (all_wids body)) (sym (ap (λ p. p.wid) t.whole.root))
+    ∙ not_beneath_itself (at t.arena) (number t.arena) (size t.arena) t.whole (provision_in (at t.arena 0)) body 0 0 (root_climbs (at t.arena) (number t.arena) (size t.arena) t.whole) t.whole.stands

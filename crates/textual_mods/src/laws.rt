@@ -193,9 +193,8 @@ pub fn faults_of_substitutions_are_told_before(
         ≡ option_map fault_cause (substitution_fault tree.now id parent (branches_of nodes.now)) }
 {}
 
-/// What can be held against a renumbering is told before it is made, by the levels that provisions get: of those that
-/// begin an eId two get one, or one gets a level of the text that none of them gives up; or so do siblings that begin
-/// none.
+/// What can be held against a renumbering is told before it is made: a provision that gets a num has then the level of
+/// another, where both begin an eId, or are siblings that begin none.
 pub fn faults_of_renumberings_are_told_before(tree: &Tree, pairs: &Pairs)
     requires fits { first_cause (tree_view tree.now) ≡ None }
     requires nums { list_all (λ pair. is_num pair.1) pairs.now ≡ true }

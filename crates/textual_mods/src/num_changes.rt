@@ -1,146 +1,86 @@
 //! Nums that provisions get: whether one is taken, which is known before any is given.
 
-ghost use Rattle.std.specs.Prelude.{◌≡◌, ◌++◌, ◌||◌, [], map, true, false, IfOk, OnOk, if◌then◌else◌};
-ghost use Rattle.std.specs.List.{All};
+ghost use Rattle.std.specs.Prelude.{◌≡◌, ◌==◌, ◌&&◌, ◌||◌, map, not, true, None, IfOk};
+ghost use Rattle.std.specs.List.{All, list_any};
 ghost use Rattle.std.specs.Str.{bytes_eq};
-ghost use Rattle.act_tree.specs.Branches.{branches_of};
-ghost use Rattle.act_tree.specs.EidLevels.{begins, levels_begun, levels_on};
-ghost use Rattle.act_tree.specs.Seen.{tree_view, has_node, provision_at, branch_at, below_at, nums_by_wid};
-ghost use Rattle.act_tree.specs.Wids.{is_among, one_twice};
-ghost use Rattle.eid_paths.specs.Elements.{is_throughout};
+ghost use Rattle.act_tree.specs.Faults.{first_cause};
+ghost use Rattle.act_tree.specs.Seen.{tree_view, has_node, provision_at, nums_by_wid};
+ghost use Rattle.act_tree.specs.Wids.{is_among};
 ghost use Rattle.eid_paths.specs.Levels.{level_text};
-ghost use Rattle.textual_mods.specs.NumChanges as spec;
-ghost use Rattle.textual_mods.specs.NumChanges.{change_by, levels_before, levels_given, num_for_node, num_taken, one_stays, taken_by};
+ghost use Rattle.textual_mods.specs.NumChanges.{IsChange, IsUnder, gets_too, gives_up, is_taken, level_given, levels_under, num_by_node, num_taken};
 
 use act_tree::{NodeId, Tree};
 use desk_base::Memory;
 use eid_paths::{Element, Num};
 use std::alloc::Global;
 
-// The num of a provision, and the one that it gets.
+// How the num of a node changes. `under` is the node beneath which no other may have its level: the root, where it begins
+// an eId, or else the one right above it.
 #[derive(Drop)]
 struct NumChange {
+    id: NodeId,
+    under: NodeId,
     element: Element,
     before: Num,
     num: Num,
 }
 
-// The num that a node gets, by the first pair that names it.
-fn num_for(named: &[(NodeId, Num)], id: NodeId) -> Option<Num>
-    ensures { result ≡ num_for_node named.now id }
+// The num that a node gets, by the first pair that names it, or else the one that it had.
+fn num_for(named: &[(NodeId, Num)], id: NodeId, before: &Num) -> Num
+    ensures { result ≡ num_by_node named.now id before.now }
 {
     for (node, num) in named {
         if *node == id {
-            return Some(num.copy());
+            return num.copy();
         }
     }
-    None
+    before.copy()
 }
 
-// Notes how the num of a node changes, if it does.
-fn note_change(
-    tree: &Tree,
-    named: &[(NodeId, Num)],
-    id: NodeId,
-    changes: &mut Vec<NumChange>,
-) -> Result<(), Memory>
-    requires nodes { All (λ pair. has_node tree.now pair.0 ≡ true) named.now }
+// The node beneath which no other may have the level of this one.
+fn node_above(tree: &Tree, id: NodeId) -> NodeId
     requires node { has_node tree.now id ≡ true }
-    ensures { OnOk result (changes.new.items
-        ≡ changes.old.items ++ change_by (nums_by_wid tree.now named.now) (provision_at tree.now id)) }
+    requires provision { id ≡ 0 → ⊥ }
+    ensures { IsUnder tree.now id result }
 {
-    match num_for(named, id) {
-        Some(num) => {
-            let provision = tree.provision(id);
-            changes.push(NumChange {
-                element: provision.element,
-                before: provision.num.copy(),
-                num,
-            })?;
-            Ok(())
-        }
-        None => Ok(()),
+    if tree.numbering().has(tree.provision(id).element) {
+        return tree.root();
     }
+    let (parent, _place) = tree.place_of(id);
+    parent
 }
 
-// The same, if the node begins an eId; `top` says that it is a child of the root.
-fn note_if_begun(
-    tree: &Tree,
-    named: &[(NodeId, Num)],
-    top: bool,
-    id: NodeId,
-    changes: &mut Vec<NumChange>,
-) -> Result<(), Memory>
-    requires nodes { All (λ pair. has_node tree.now pair.0 ≡ true) named.now }
+fn change_of(tree: &Tree, named: &[(NodeId, Num)], id: NodeId) -> NumChange
     requires node { has_node tree.now id ≡ true }
-    ensures { OnOk result (changes.new.items ≡ changes.old.items
-        ++ (if begins (tree_view tree.now).numbering top (provision_at tree.now id).own
-        then change_by (nums_by_wid tree.now named.now) (provision_at tree.now id) else [])) }
+    requires provision { id ≡ 0 → ⊥ }
+    ensures id { result.id ≡ id }
+    ensures change { IsChange tree.now named.now result }
 {
-    if top || tree.numbering().has(tree.provision(id).element) {
-        note_change(tree, named, id, changes)?;
+    let provision = tree.provision(id);
+    let before = provision.num.copy();
+    let num = num_for(named, id, &before);
+    NumChange {
+        id,
+        under: node_above(tree, id),
+        element: provision.element,
+        before,
+        num,
     }
-    Ok(())
 }
 
-// Notes how nums change of the nodes that begin an eId, among these and all beneath them; `top` says that these are the
-// children of the root.
-fn note_begun(
-    tree: &Tree,
-    named: &[(NodeId, Num)],
-    top: bool,
-    ids: &[NodeId],
-    changes: &mut Vec<NumChange>,
-) -> Result<(), Memory>
+// How the nums of the nodes change that pairs name.
+fn changes_of(alloc: Global, tree: &Tree, named: &[(NodeId, Num)]) -> Result<Vec<NumChange>, Memory>
     requires nodes { All (λ pair. has_node tree.now pair.0 ≡ true) named.now }
-    requires ids { All (λ id. has_node tree.now id ≡ true) ids.now }
-    ensures { OnOk result (changes.new.items ≡ changes.old.items
-        ++ spec.begun_changes (nums_by_wid tree.now named.now) (tree_view tree.now).numbering top
-        (branches_of (map (branch_at tree.now) ids.now))) }
+    requires provisions { All (λ pair. pair.0 ≡ 0 → ⊥) named.now }
+    ensures each { IfOk result (λ changes. All (IsChange tree.now named.now) changes.items) }
+    ensures nodes { IfOk result (λ changes.
+        map (λ change. change.id) changes.items ≡ map (λ pair. pair.0) named.now) }
 {
-    for id in ids {
-        note_if_begun(tree, named, top, *id, changes)?;
-        note_begun(tree, named, false, tree.children(*id), changes)?;
+    let mut changes = Vec::new(alloc);
+    for (id, _) in named {
+        changes.push(change_of(tree, named, *id))?;
     }
-    Ok(())
-}
-
-// Notes how the num of a node changes, if the node is no child of the root and begins no eId.
-fn note_if_on(
-    tree: &Tree,
-    named: &[(NodeId, Num)],
-    id: NodeId,
-    changes: &mut Vec<NumChange>,
-) -> Result<(), Memory>
-    requires nodes { All (λ pair. has_node tree.now pair.0 ≡ true) named.now }
-    requires node { has_node tree.now id ≡ true }
-    ensures { OnOk result (changes.new.items ≡ changes.old.items
-        ++ (if is_throughout (tree_view tree.now).numbering (provision_at tree.now id).own.element
-        then [] else change_by (nums_by_wid tree.now named.now) (provision_at tree.now id))) }
-{
-    if !tree.numbering().has(tree.provision(id).element) {
-        note_change(tree, named, id, changes)?;
-    }
-    Ok(())
-}
-
-// Notes how nums change of siblings that are no children of the root and begin no eId.
-fn note_on(
-    tree: &Tree,
-    named: &[(NodeId, Num)],
-    ids: &[NodeId],
-    changes: &mut Vec<NumChange>,
-) -> Result<(), Memory>
-    requires nodes { All (λ pair. has_node tree.now pair.0 ≡ true) named.now }
-    requires ids { All (λ id. has_node tree.now id ≡ true) ids.now }
-    ensures { OnOk result (changes.new.items ≡ changes.old.items
-        ++ spec.on_changes (nums_by_wid tree.now named.now) (tree_view tree.now).numbering
-        (branches_of (map (branch_at tree.now) ids.now))) }
-{
-    for id in ids {
-        note_if_on(tree, named, *id, changes)?;
-    }
-    Ok(())
+    Ok(changes)
 }
 
 /// Whether two levels are one. (The copies carry the rule of nums, by which equal levels have equal parts.)
@@ -153,149 +93,94 @@ pub fn is_level(element: Element, num: &Num, other: Element, other_num: &Num) ->
     other == element && same
 }
 
-// Whether a provision gets this level.
-fn is_given(changes: &[NumChange], element: Element, num: &Num) -> bool
-    ensures { result ≡ is_among (level_text element num.now) (levels_given changes.now) }
+// Whether another node gets the level that a node gets, where both may not have it.
+fn gets_too(change: &NumChange, other: &NumChange) -> bool
+    ensures { result ≡ gets_too change.now other.now }
+{
+    if other.id == change.id || other.under != change.under {
+        return false;
+    }
+    is_level(change.element, &change.num, other.element, &other.num)
+}
+
+// Whether a node gives up the level that a node gets.
+fn gives_up(change: &NumChange, other: &NumChange) -> bool
+    ensures { result ≡ gives_up change.now other.now }
+{
+    if other.under != change.under {
+        return false;
+    }
+    is_level(change.element, &change.num, other.element, &other.before)
+}
+
+// Whether one of these gets the level that a node gets, too.
+fn is_given_twice(changes: &[NumChange], change: &NumChange) -> bool
+    ensures { result ≡ list_any (gets_too change.now) changes.now }
+{
+    for other in changes {
+        if gets_too(change, other) {
+            return true;
+        }
+    }
+    false
+}
+
+// Whether one of these gives up the level that a node gets.
+fn is_given_up(changes: &[NumChange], change: &NumChange) -> bool
+    ensures { result ≡ list_any (gives_up change.now) changes.now }
+{
+    for other in changes {
+        if gives_up(change, other) {
+            return true;
+        }
+    }
+    false
+}
+
+// Whether the level that a node gets stands in the tree, where the node may not have it, too.
+fn stands(tree: &Tree, change: &NumChange) -> bool
+    requires { has_node tree.now change.now.under ≡ true }
+    ensures { result ≡ is_among (level_given change.now) (levels_under tree.now change.now.under) }
+{
+    if change.under == tree.root() {
+        tree.has_level(change.element, &change.num)
+    } else {
+        tree.has_child_level(change.under, change.element, &change.num)
+    }
+}
+
+// Whether the num that a node gets is taken.
+fn is_taken(tree: &Tree, changes: &[NumChange], change: &NumChange) -> bool
+    requires { has_node tree.now change.now.under ≡ true }
+    ensures { result ≡ is_taken tree.now changes.now change.now }
+{
+    if is_given_twice(changes, change) {
+        return true;
+    }
+    stands(tree, change) && !is_given_up(changes, change)
+}
+
+// Whether one of the nums that nodes get is taken.
+fn are_taken(tree: &Tree, changes: &[NumChange]) -> bool
+    requires { All (λ change. has_node tree.now change.under ≡ true) changes.now }
+    ensures { result ≡ list_any (is_taken tree.now changes.now) changes.now }
 {
     for change in changes {
-        if is_level(element, num, change.element, &change.num) {
+        if is_taken(tree, changes, change) {
             return true;
         }
     }
     false
 }
 
-// Whether a provision gives this level up.
-fn is_given_up(changes: &[NumChange], element: Element, num: &Num) -> bool
-    ensures { result ≡ is_among (level_text element num.now) (levels_before changes.now) }
-{
-    for change in changes {
-        if is_level(element, num, change.element, &change.before) {
-            return true;
-        }
-    }
-    false
-}
-
-// Whether two provisions get one level.
-fn is_given_twice(changes: &[NumChange]) -> bool
-    ensures { result ≡ one_twice (levels_given changes.now) }
-{
-    for (place, change) in changes.iter().enumerate() {
-        if is_given(&changes[place + 1..], change.element, &change.num) {
-            return true;
-        }
-    }
-    false
-}
-
-// Whether a provision gets a level that begins an eId in the tree, and that none of them gives up.
-fn begins_still(tree: &Tree, changes: &[NumChange]) -> bool
-    ensures { result
-        ≡ one_stays (levels_given changes.now) (levels_begun (tree_view tree.now)) (levels_before changes.now) }
-{
-    for change in changes {
-        let stands = tree.has_level(change.element, &change.num);
-        if stands && !is_given_up(changes, change.element, &change.num) {
-            return true;
-        }
-    }
-    false
-}
-
-// Whether a provision gets a level of a child that begins no eId, and that none of them gives up.
-fn goes_on_still(tree: &Tree, parent: NodeId, changes: &[NumChange]) -> bool
-    requires { has_node tree.now parent ≡ true }
-    ensures { result ≡ one_stays (levels_given changes.now)
-        (levels_on (tree_view tree.now).numbering (below_at tree.now parent)) (levels_before changes.now) }
-{
-    for change in changes {
-        let stands = tree.has_child_level(parent, change.element, &change.num);
-        if stands && !is_given_up(changes, change.element, &change.num) {
-            return true;
-        }
-    }
-    false
-}
-
-// Whether a child of a node gets the level of another, of those that begin no eId.
-fn child_taken(
-    alloc: Global,
-    tree: &Tree,
-    named: &[(NodeId, Num)],
-    parent: NodeId,
-) -> Result<bool, Memory>
-    requires nodes { All (λ pair. has_node tree.now pair.0 ≡ true) named.now }
-    requires node { has_node tree.now parent ≡ true }
-    ensures { let n = (tree_view tree.now).numbering in let below = below_at tree.now parent in
-        IfOk result (λ taken. taken
-        ≡ taken_by (spec.on_changes (nums_by_wid tree.now named.now) n below) (levels_on n below)) }
-{
-    let mut changes = Vec::new(alloc);
-    note_on(tree, named, tree.children(parent), &mut changes)?;
-    let twice = is_given_twice(changes.as_slice());
-    let still = goes_on_still(tree, parent, changes.as_slice());
-    Ok(twice || still)
-}
-
-// The same of the children of these nodes, and of all beneath them.
-fn siblings_taken(
-    alloc: Global,
-    tree: &Tree,
-    named: &[(NodeId, Num)],
-    ids: &[NodeId],
-) -> Result<bool, Memory>
-    requires nodes { All (λ pair. has_node tree.now pair.0 ≡ true) named.now }
-    requires ids { All (λ id. has_node tree.now id ≡ true) ids.now }
-    ensures { IfOk result (λ taken. taken
-        ≡ spec.siblings_taken (nums_by_wid tree.now named.now) (tree_view tree.now).numbering
-        (branches_of (map (branch_at tree.now) ids.now))) }
-{
-    for id in ids {
-        let here = child_taken(alloc, tree, named, *id)?;
-        if here {
-            return Ok(true);
-        }
-        let beneath = siblings_taken(alloc, tree, named, tree.children(*id))?;
-        if beneath {
-            return Ok(true);
-        }
-    }
-    Ok(false)
-}
-
-// Whether one of these children of the root, or of the nodes beneath them, gets the level of another node, of those
-// that begin an eId.
-fn begun_taken(
-    alloc: Global,
-    tree: &Tree,
-    named: &[(NodeId, Num)],
-    ids: &[NodeId],
-) -> Result<bool, Memory>
-    requires nodes { All (λ pair. has_node tree.now pair.0 ≡ true) named.now }
-    requires ids { All (λ id. has_node tree.now id ≡ true) ids.now }
-    ensures { IfOk result (λ taken. taken
-        ≡ taken_by (spec.begun_changes (nums_by_wid tree.now named.now) (tree_view tree.now).numbering true
-        (branches_of (map (branch_at tree.now) ids.now))) (levels_begun (tree_view tree.now))) }
-{
-    let mut changes = Vec::new(alloc);
-    note_begun(tree, named, true, ids, &mut changes)?;
-    let twice = is_given_twice(changes.as_slice());
-    let still = begins_still(tree, changes.as_slice());
-    Ok(twice || still)
-}
-
-/// Whether one of the nums that nodes get is taken. The nodes of the tree are searched for the levels that are given;
-/// nothing of it is copied, and none of its eIds is spelled.
+/// Whether one of the nums that nodes get is taken. The tree is asked for the levels that are given, once for each node
+/// that is named, and what the nodes that are named get and give up is compared; none of its eIds is spelled.
 pub fn one_taken(alloc: Global, tree: &Tree, named: &[(NodeId, Num)]) -> Result<bool, Memory>
-    requires { All (λ pair. has_node tree.now pair.0 ≡ true) named.now }
+    requires fits { first_cause (tree_view tree.now) ≡ None }
+    requires nodes { All (λ pair. has_node tree.now pair.0 ≡ true) named.now }
+    requires provisions { All (λ pair. pair.0 ≡ 0 → ⊥) named.now }
     ensures { IfOk result (λ taken. taken ≡ num_taken (tree_view tree.now) (nums_by_wid tree.now named.now)) }
 {
-    let ids = tree.children(tree.root());
-    let begun = begun_taken(alloc, tree, named, ids)?;
-    if begun {
-        return Ok(true);
-    }
-    let siblings = siblings_taken(alloc, tree, named, ids)?;
-    Ok(siblings)
+    let changes = changes_of(alloc, tree, named)?;
+    Ok(are_taken(tree, changes.as_slice()))
 }

@@ -1,8 +1,8 @@
--- A level is given twice by the changes left exactly if one is by all, for none of those passed is given again.
+-- One of those left gets the level exactly if one of all does, for none of those passed does.
 use Rattle.std.proofs.Common.{◌≡◌, drop}
-use Rattle.act_tree.specs.Wids.{one_twice}
-use Rattle.textual_mods.specs.NumChanges.{levels_given}
+use Rattle.std.specs.List.{list_any}
+use Rattle.textual_mods.specs.NumChanges.{gets_too}
 use Rattle.textual_mods.proofs.num_changes.is_given_twice.Given as goal
 
-abbrev pub invariant-loop-place : goal.invariant-loop-place
-invariant-loop-place l = one_twice (levels_given (drop l.place l.changes)) ≡ one_twice (levels_given l.changes)
+abbrev pub invariant-loop-other : goal.invariant-loop-other
+invariant-loop-other l = list_any (gets_too l.change) (drop l.other-index l.changes) ≡ list_any (gets_too l.change) l.changes

@@ -1,9 +1,8 @@
--- A level is among those of the changes left exactly if it is among those of all, for it is none of those passed.
+-- One of those left gives the level up exactly if one of all does, for none of those passed does.
 use Rattle.std.proofs.Common.{◌≡◌, drop}
-use Rattle.eid_paths.specs.Levels.{level_text}
-use Rattle.act_tree.specs.Wids.{is_among}
-use Rattle.textual_mods.specs.NumChanges.{levels_before}
+use Rattle.std.specs.List.{list_any}
+use Rattle.textual_mods.specs.NumChanges.{gives_up}
 use Rattle.textual_mods.proofs.num_changes.is_given_up.Given as goal
 
-abbrev pub invariant-loop-change : goal.invariant-loop-change
-invariant-loop-change l = is_among (level_text l.element l.num) (levels_before (drop l.change-index l.changes)) ≡ is_among (level_text l.element l.num) (levels_before l.changes)
+abbrev pub invariant-loop-other : goal.invariant-loop-other
+invariant-loop-other l = list_any (gives_up l.change) (drop l.other-index l.changes) ≡ list_any (gives_up l.change) l.changes

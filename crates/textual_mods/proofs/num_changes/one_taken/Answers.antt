@@ -1,27 +1,16 @@
-use Rattle.std.proofs.Common.{◌≡◌, ◌∙◌, sym, ap, true, ◌||◌, ℕ, List, map}
-use Rattle.act_tree.specs.Branches.{branches_of}
-use Rattle.act_tree.specs.EidLevels.{levels_begun}
-use Rattle.act_tree.specs.Seen.{tree_view, branch_at, below_at, nums_by_wid}
-use Rattle.act_tree.proofs.Frames.{or_left}
-use Rattle.act_tree.proofs.Walking.{body_is}
-use Rattle.textual_mods.specs.NumChanges as spec
+use Rattle.std.proofs.Common.{◌≡◌, ◌∙◌, sym, ap, subst, true}
+use Rattle.std.specs.List.{All, list_any}
+use Rattle.act_tree.specs.Seen.{has_node}
+use Rattle.textual_mods.specs.NumChanges.{is_taken}
+use Rattle.textual_mods.specs.declared.num_changes.NumChange.{NumChange}
+use Rattle.textual_mods.proofs.ChangesDecide.{named_decide}
 use Rattle.textual_mods.proofs.num_changes.one_taken.Goals as goal
 
-pub returns-then-begun : goal.returns-then-begun
-returns-then-begun c =
-    let t = c.args.tree.now in
-    let n = (tree_view t).numbering in
-    let pairs : List (List ℕ × List ℕ) = nums_by_wid t c.args.named.now in
-    let body : branches_of (map (branch_at t) c.children-ids.result.now) ≡ (tree_view t).body = c.children-ids.ensures.branches ∙ ap (below_at t) c.root.ensures.root ∙ sym (body_is t) in
-    sym (or_left _ (spec.siblings_taken pairs n (tree_view t).body)
-    (sym (c.in_ok-begun.ensures ∙ ap (λ bs. spec.taken_by (spec.begun_changes pairs n true bs) (levels_begun (tree_view t))) body) ∙ c.if-begun.true))
+pub are_taken-requires : goal.are_taken-requires
+are_taken-requires c =
+    subst (All (λ (change : NumChange). has_node c.args.tree.now change.under ≡ true)) (sym c.as_slice.ensures.value) (λ k d low. (c.in_ok-changes.ensures.each k d low).under.node)
 
 pub returns : goal.returns
 returns c =
-    let t = c.args.tree.now in
-    let n = (tree_view t).numbering in
-    let pairs : List (List ℕ × List ℕ) = nums_by_wid t c.args.named.now in
-    let body : branches_of (map (branch_at t) c.children-ids.result.now) ≡ (tree_view t).body = c.children-ids.ensures.branches ∙ ap (below_at t) c.root.ensures.root ∙ sym (body_is t) in
-    c.in_ok-siblings.ensures ∙ ap (spec.siblings_taken pairs n) body
-    ∙ sym (ap (λ s. s || spec.siblings_taken pairs n (tree_view t).body)
-    (sym (c.in_ok-begun.ensures ∙ ap (λ bs. spec.taken_by (spec.begun_changes pairs n true bs) (levels_begun (tree_view t))) body) ∙ c.if-begun.false))
+    c.are_taken.ensures ∙ ap (λ cs. list_any (is_taken c.args.tree.now cs) cs) c.as_slice.ensures.value
+    ∙ named_decide c.args.tree.now c.args.named.now c.requires.nodes c.in_ok-changes.changes.items c.in_ok-changes.ensures.each c.in_ok-changes.ensures.nodes c.requires.fits

@@ -11,23 +11,23 @@ returns-then-taken-clause-outcome g c =
     let t = c.args.tree.now in
     let is = rw (← c.in_ok-taken.ensures.same) at c.one_taken.ensures in
     c.held_back.ensures.outcome
-    ∙ sym (ap outcome_of (nums_held t (nums_by_wid t c.args.named.now) c.requires.fits (nums_by_wid_kept t c.args.named.now c.requires.nums) (sym is ∙ c.if-taken.true)))
+    ∙ sym (ap outcome_of (nums_held t c.requires.fits (nums_by_wid t c.args.named.now) (nums_by_wid_kept t c.args.named.now c.requires.nums) (sym is ∙ c.if-taken.true)))
 
 pub returns-then-taken-clause-tree : goal.returns-then-taken-clause-tree
 returns-then-taken-clause-tree g c =
     let t = c.args.tree.now in
     let is = rw (← c.in_ok-taken.ensures.same) at c.one_taken.ensures in
-    sym (ap (tree_after (tree_view t)) (nums_held t (nums_by_wid t c.args.named.now) c.requires.fits (nums_by_wid_kept t c.args.named.now c.requires.nums) (sym is ∙ c.if-taken.true)))
+    sym (ap (tree_after (tree_view t)) (nums_held t c.requires.fits (nums_by_wid t c.args.named.now) (nums_by_wid_kept t c.args.named.now c.requires.nums) (sym is ∙ c.if-taken.true)))
 
 pub returns-clause-outcome : goal.returns-clause-outcome
 returns-clause-outcome g c =
     let t = c.args.tree.now in
     let is = rw (← c.in_ok-taken.ensures.same) at c.one_taken.ensures in
-    sym (ap outcome_of (nums_done t (nums_by_wid t c.args.named.now) c.requires.fits (nums_by_wid_kept t c.args.named.now c.requires.nums) (sym is ∙ c.if-taken.false)))
+    sym (ap outcome_of (nums_done t c.requires.fits (nums_by_wid t c.args.named.now) (nums_by_wid_kept t c.args.named.now c.requires.nums) (sym is ∙ c.if-taken.false)))
 
 pub returns-clause-tree : goal.returns-clause-tree
 returns-clause-tree g c =
     let t = c.args.tree.now in
     let is = rw (← c.in_ok-taken.ensures.same) at c.one_taken.ensures in
     c.set_nums.ensures.tree
-    ∙ sym (ap (tree_after (tree_view t)) (nums_done t (nums_by_wid t c.args.named.now) c.requires.fits (nums_by_wid_kept t c.args.named.now c.requires.nums) (sym is ∙ c.if-taken.false)))
+    ∙ sym (ap (tree_after (tree_view t)) (nums_done t c.requires.fits (nums_by_wid t c.args.named.now) (nums_by_wid_kept t c.args.named.now c.requires.nums) (sym is ∙ c.if-taken.false)))
