@@ -1,5 +1,5 @@
 -- What is left of the nodes of a tree where one goes: one node, what is left beneath it, and the nodes after it.
-use Rattle.std.proofs.Common.{◌≡◌, ◌∙◌, sym, ap, refl, ℕ, ◌+◌, ◌<◌, ◌==◌, Bool, true, false, not, cond, ◌&&◌, ◌||◌, max, min, List, [], ◌∷◌, ◌++◌, length, map, drop, get_or, Option, Some, None, inl, inr, arith}
+use Rattle.std.proofs.Common.{◌≡◌, ◌∙◌, sym, ap, refl, ℕ, ◌+◌, ◌<◌, ◌==◌, Bool, true, false, not, cond, ◌&&◌, ◌||◌, max, min, List, [], ◌∷◌, length, map, drop, get_or, Option, Some, None, inl, inr, arith}
 use Rattle.std.specs.Prelude.{IfSome}
 use Rattle.std.specs.Str.{bytes_eq}
 use Rattle.std.proofs.lemmas.Bool.{cases_Bool, eqb-true, eq-eqb}
@@ -8,7 +8,7 @@ use Rattle.eid_paths.specs.declared.numbering.Numbering.{Numbering}
 use Rattle.eid_paths.specs.Elements.{is_throughout}
 use Rattle.act_tree.specs.declared.tree.Tree.{Tree}
 use Rattle.act_tree.specs.Branches.{Branches, branch, no_branches, more_branches, branches_of, heights, counts}
-use Rattle.act_tree.specs.EidLevels.{begins, own_level, all_beginning, all_going_on}
+use Rattle.act_tree.specs.EidLevels.{own_level, all_going_on}
 use Rattle.act_tree.specs.Faults.{all_owns}
 use Rattle.act_tree.specs.Provisions.{Provision}
 use Rattle.act_tree.specs.Seen.{has_node, provision_at, branch_at, below_at}
@@ -96,34 +96,9 @@ module _ (t : Tree) (gone : Option ℕ) (ids : List ℕ) (i id : ℕ) (within : 
       by true told = omega (arith, low, same, told)
       by false told = omega (arith, low, same, told)
 
-  or_assoc : (a b c : Bool) → ((a || b) || c) ≡ (a || (b || c))
-  or_assoc true b c = refl
-  or_assoc false b c = refl
-
-  own_test : (r : Bool) (x l : List ℕ) → is_among x (cond r (l ∷ []) []) ≡ (r && bytes_eq x l)
-  own_test true x l = or_none (bytes_eq x l)
-  own_test false x l = refl
-
   not_test : (r : Bool) (x l : List ℕ) → is_among x (cond r [] (l ∷ [])) ≡ (not r && bytes_eq x l)
   not_test true x l = refl
   not_test false x l = or_none (bytes_eq x l)
-
-  -- a level begins at the node, beneath it, or at a later one
-  pub begun_from : (n : Numbering) (top : Bool) (x : List ℕ) → is_among x (all_beginning n top (all_owns from_here))
-      ≡ ((not s && (begins n top p.own && bytes_eq x (own_level p.own))) || (is_among x (all_beginning n false (all_owns beneath)) || is_among x (all_beginning n top (all_owns later))))
-  begun_from n top x = ap (λ bs. is_among x (all_beginning n top (all_owns bs))) left_from ∙ by s
-    where
-      by : (r : Bool) → is_among x (all_beginning n top (all_owns (cond r later (more_branches (branch p (left g (below_at t id))) later))))
-          ≡ ((not r && (begins n top p.own && bytes_eq x (own_level p.own))) || (is_among x (all_beginning n false (all_owns (left g (cond r no_branches (below_at t id))))) || is_among x (all_beginning n top (all_owns later))))
-      by true = sym (ap (λ bs. is_among x (all_beginning n false (all_owns bs)) || is_among x (all_beginning n top (all_owns later))) (left_none g))
-      by false =
-          let own : List (List ℕ) = cond (begins n top p.own) (own_level p.own ∷ []) [] in
-          let inner : List (List ℕ) = all_beginning n false (all_owns (left g (below_at t id))) in
-          let rest : List (List ℕ) = all_beginning n top (all_owns later) in
-          list_any-append (bytes_eq x) (own ++ inner) rest
-          ∙ ap (λ r. r || is_among x rest) (list_any-append (bytes_eq x) own inner)
-          ∙ or_assoc (is_among x own) (is_among x inner) (is_among x rest)
-          ∙ ap (λ r. r || (is_among x inner || is_among x rest)) (own_test (begins n top p.own) x (own_level p.own))
 
   -- a level goes on at the node, or at a later one
   pub on_from : (n : Numbering) (x : List ℕ) → is_among x (all_going_on n false (all_owns from_here))

@@ -1,4 +1,5 @@
--- What can be held against a renumbering, told before it is made: a provision that gets a num has then the level of another.
+-- What can be held against a renumbering, told before it is made: a provision that gets a num has then the level of
+-- another.
 use Rattle.std.specs.Prelude.{ℕ, ◌≡◌, ◌++◌, ◌==◌, ◌&&◌, ◌||◌, Bool, true, false, not, List, [], ◌∷◌, map, Option, Some, None, slice_get, if◌then◌else◌}
 use Rattle.std.specs.List.{list_any}
 use Rattle.std.specs.Str.{bytes_eq}
@@ -57,13 +58,15 @@ is_renumbered pairs p = is_among p.wid (map (λ pair. pair.0) pairs)
 -- a num that pairs give is taken
 abbrev pub num_taken : TreeValue → List (List ℕ × List ℕ) → Bool
 num_taken tree pairs =
-    list_any (λ one. is_renumbered pairs one.provision && list_any (collide pairs one) (placed_in tree)) (placed_in tree)
+    list_any (λ one. is_renumbered pairs one.provision && list_any (collide pairs one) (placed_in tree))
+    (placed_in tree)
 
 -- the first fault of a tree with the nums that pairs give
 abbrev pub renumbering_fault : TreeValue → List (List ℕ × List ℕ) → Option BuildFault
 renumbering_fault tree pairs = if num_taken tree pairs then Some EidTwice else None
 
--- the num that pairs of a node and a num give to a node, by the first of them that names it, or else the one that it had
+-- the num that pairs of a node and a num give to a node, by the first of them that names it, or else the one that it
+-- had
 abbrev pub num_by_node : List (ℕ × List ℕ) → ℕ → List ℕ → List ℕ
 num_by_node [] id num = num
 num_by_node (pair ∷ named) id num = if pair.0 == id then pair.1 else num_by_node named id num

@@ -14,8 +14,8 @@ use desk_base::Memory;
 use eid_paths::{Element, Num};
 use std::alloc::Global;
 
-// How the num of a node changes. `under` is the node beneath which no other may have its level: the root, where it begins
-// an eId, or else the one right above it.
+// How the num of a node changes. `under` is the node beneath which no other may have its level: the root, where it
+// begins an eId, or else the one right above it.
 #[derive(Drop)]
 struct NumChange {
     id: NodeId,

@@ -5,7 +5,7 @@ ghost use Rattle.std.specs.Prelude.{◌≡◌, ◌+◌, ◌-◌, ◌^◌, ◌&&�
 ghost use Rattle.std.specs.List.{All};
 ghost use Rattle.std.specs.Str.{bytes_eq};
 ghost use Rattle.act_tree.specs.Branches.{branches_of, counts, no_branches};
-ghost use Rattle.act_tree.specs.EidLevels.{all_beginning, begins, levels_on, own_level};
+ghost use Rattle.act_tree.specs.EidLevels.{all_beginning, levels_on, own_level};
 ghost use Rattle.act_tree.specs.Faults.{all_owns};
 ghost use Rattle.act_tree.specs.Seen.{tree_view, has_node, provision_at, branch_at, below_at};
 ghost use Rattle.act_tree.specs.Wids.{is_among};
@@ -46,61 +46,6 @@ fn children_left<'a>(tree: &'a Tree, gone: &Option<NodeId>, id: NodeId) -> &'a [
     }
 }
 
-// Whether a node is left, begins an eId and has this level; `top` says that it is a child of the root.
-fn begins_there(
-    tree: &Tree,
-    gone: &Option<NodeId>,
-    top: bool,
-    element: Element,
-    num: &Num,
-    id: NodeId,
-) -> bool
-    requires gone { IfSome gone.now (λ other. has_node tree.now other ≡ true) }
-    requires node { has_node tree.now id ≡ true }
-    ensures { let p = provision_at tree.now id in result ≡ (not (goes (wid_of tree.now gone.now) p.wid)
-        && (begins (tree_view tree.now).numbering top p.own
-        && bytes_eq (level_text element num.now) (own_level p.own))) }
-{
-    if is_gone(tree, gone, id) {
-        return false;
-    }
-    let provision = tree.provision(id);
-    if top || tree.numbering().has(provision.element) {
-        is_level(element, num, provision.element, provision.num)
-    } else {
-        false
-    }
-}
-
-// Whether one of these nodes, or of those beneath them, is left and begins an eId by this level; `top` says that they
-// are the children of the root.
-fn begin_left(
-    tree: &Tree,
-    gone: &Option<NodeId>,
-    top: bool,
-    element: Element,
-    num: &Num,
-    ids: &[NodeId],
-) -> bool
-    requires gone { IfSome gone.now (λ other. has_node tree.now other ≡ true) }
-    requires ids { All (λ id. has_node tree.now id ≡ true) ids.now }
-    ensures { result ≡ is_among (level_text element num.now) (all_beginning (tree_view tree.now).numbering top
-        (all_owns (left (wid_of tree.now gone.now) (branches_of (map (branch_at tree.now) ids.now))))) }
-{
-    for id in ids {
-        let here = begins_there(tree, gone, top, element, num, *id);
-        if here {
-            return true;
-        }
-        let children = children_left(tree, gone, *id);
-        let beneath = begin_left(tree, gone, false, element, num, children);
-        if beneath {
-            return true;
-        }
-    }
-    false
-}
-
 /// Whether a node that is left begins an eId by this level.
 pub fn has_level_left(tree: &Tree, gone: &Option<NodeId>, element: Element, num: &Num) -> bool
     requires { IfSome gone.now (λ other. has_node tree.now other ≡ true) }
@@ -108,7 +53,7 @@ pub fn has_level_left(tree: &Tree, gone: &Option<NodeId>, element: Element, num:
         (all_beginning (tree_view tree.now).numbering true (all_owns (text_left tree.now gone.now))) }
 {
     match gone {
-        Some(_) => begin_left(tree, gone, true, element, num, tree.children(tree.root())),
+        Some(id) => tree.has_level_without(*id, element, num),
         None => tree.has_level(element, num),
     }
 }
