@@ -1,15 +1,14 @@
 -- One step of the way up, and the eId that it gives.
-use Rattle.std.proofs.Common.{◌≡◌, ◌∙◌, sym, ap, refl, ℕ, zero, suc, ◌-◌, ◌<◌, ◌==◌, true, ◌&&◌, cond, List, get_or, Option, Some, None, inl, inr, arith}
+use Rattle.std.proofs.Common.{◌≡◌, ◌∙◌, sym, ap, refl, ℕ, zero, suc, ◌-◌, ◌<◌, ◌==◌, true, ◌&&◌, cond, Option, Some, None, inl, inr, arith}
 use Rattle.std.proofs.lemmas.Bool.{or_cases, and_parts, eqb-true, eq-eqb, ne_eqb}
-use Rattle.act_tree.specs.declared.arena.Slot.{Slot}
 use Rattle.act_tree.specs.declared.arena.Arena.{Arena}
 use Rattle.eid_paths.specs.declared.numbering.Numbering.{Numbering}
 use Rattle.act_tree.specs.Arena.{Laid, provision_in, above_in, hangs_on, climbs}
 use Rattle.act_tree.specs.Eids.{eid_below}
 use Rattle.act_tree.specs.EidsOfNodes.{eid_up}
-use Rattle.act_tree.specs.Slots.{laid_of, at, size}
+use Rattle.act_tree.specs.Slots.{at, size}
 use Rattle.act_tree.proofs.Climbing.{climbs_step}
-use Rattle.act_tree.proofs.LaidDown.{laid_within, laid_slot}
+use Rattle.act_tree.proofs.LaidDown.{laid_within}
 
 -- who climbs has a step left
 pub climbs_some : (f : ℕ) (at : ℕ → Option Laid) (i : ℕ) → climbs f at i ≡ true → 0 < f
@@ -34,12 +33,6 @@ climbs_within arena f i climbed other =
     let here : (x : Laid) × (at arena i ≡ Some x) = hangs_laid i (at arena i) (climbs_from f (at arena) i climbed other).0 in
     laid_within arena.slots.items i here.0 here.1
 
--- the number above, as its slot says
-pub slot_climbs : (arena : Arena) (f i j : ℕ) (s : Slot) → climbs f (at arena) i ≡ true → (i ≡ 0 → ⊥) → j ≡ i → s ≡ get_or arena.slots.items j s → climbs (f - 1) (at arena) s.above ≡ true
-slot_climbs arena f i j s climbed other place it =
-    ap (λ o. climbs (f - 1) (at arena) (above_in o)) (sym (laid_slot arena.slots.items i s (climbs_within arena f i climbed other) (it ∙ ap (λ k. get_or arena.slots.items k s) place)))
-    ∙ (climbs_from f (at arena) i climbed other).1
-
 -- the eId of a number that is not the root is below that of the number above
 pub eid_step : (f : ℕ) (n : Numbering) (at : ℕ → Option Laid) (i : ℕ) → 0 < f → (i ≡ 0 → ⊥)
     → eid_up f n at i ≡ Some (eid_below n (eid_up (f - 1) n at (above_in (at i))) (provision_in (at i)).own.element (provision_in (at i)).own.num)
@@ -52,12 +45,3 @@ eid_step (suc f) n at i some other =
 pub eid_root : (f : ℕ) (n : Numbering) (at : ℕ → Option Laid) (i : ℕ) → i ≡ 0 → eid_up f n at i ≡ None
 eid_root zero n at i root = refl
 eid_root (suc f) n at i root = ap (λ t. cond t None (Some (eid_below n (eid_up f n at (above_in (at i))) (provision_in (at i)).own.element (provision_in (at i)).own.num))) (eq-eqb i 0 root)
-
--- the eId below the eId of the number above, as the slot says
-pub slot_eid : (arena : Arena) (n : Numbering) (f i j : ℕ) (s : Slot) (above : Option (List ℕ)) (eid : List ℕ) → climbs f (at arena) i ≡ true → (i ≡ 0 → ⊥) → j ≡ i → s ≡ get_or arena.slots.items j s
-    → above ≡ eid_up (f - 1) n (at arena) s.above → eid ≡ eid_below n above s.element s.num → Some eid ≡ eid_up f n (at arena) i
-slot_eid arena n f i j s above eid climbed other place it over is =
-    let here : at arena i ≡ Some (laid_of s) = laid_slot arena.slots.items i s (climbs_within arena f i climbed other) (it ∙ ap (λ k. get_or arena.slots.items k s) place) in
-    ap (λ e. Some e) (is ∙ ap (λ a. eid_below n a s.element s.num) over)
-    ∙ sym (ap (λ o. Some (eid_below n (eid_up (f - 1) n (at arena) (above_in o)) (provision_in o).own.element (provision_in o).own.num)) here)
-    ∙ sym (eid_step f n (at arena) i (climbs_some f (at arena) i climbed) other)

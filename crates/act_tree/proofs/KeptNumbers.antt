@@ -16,7 +16,8 @@ one_node t i k one other same =
     let both : Some i ≡ Some k = sym (leads_node t.arena t.whole i one) ∙ ap (number t.arena) same ∙ leads_node t.arena t.whole k other in
     cc
 
-wid_there : (t : Tree) (i : ℕ) → has_node t i ≡ true → is_in (provision_at t i).wid (tree_view t).body ≡ true
+-- the wId of a node is in the text
+pub wid_there : (t : Tree) (i : ℕ) → has_node t i ≡ true → is_in (provision_at t i).wid (tree_view t).body ≡ true
 unfolding has_node provision_at tree_view
 wid_there t i node =
     found_held (at t.arena) (number t.arena) (size t.arena) t.whole (provision_in (at t.arena i)).wid i (leads_node t.arena t.whole i node) node

@@ -50,6 +50,7 @@ pub mod Ways
 pub mod LevelsDiffer
 pub mod EidsOfTree
 pub mod FoundNodes
+pub mod HowDeep
 pub mod LevelsBegun
 pub mod LevelsFound
 pub mod LevelsNoted

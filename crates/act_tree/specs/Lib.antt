@@ -27,6 +27,7 @@ pub mod Surveys
 pub mod EidsOfWids
 pub mod EidLevels
 pub mod EidsOfNodes
+pub mod Depths
 pub mod Brought
 pub mod SameNodes
 pub mod NodeSizes

@@ -4,6 +4,7 @@
 mod arena;
 mod build_fault;
 mod cause;
+mod depths;
 mod eid;
 mod eids;
 mod grafting;

@@ -7,6 +7,7 @@ ghost use Rattle.act_tree.specs.EidsOfWids.{level_of_own};
 ghost use Rattle.act_tree.specs.Slots.{at, number, provision_of, size};
 
 use crate::arena::{Arena, Slot};
+use crate::depths::count_up;
 use crate::eids::eid_of_number;
 use crate::grafting::{bringer, place_in};
 use crate::laying::plant;
@@ -99,6 +100,7 @@ impl Tree {
     ghost use Rattle.act_tree.specs.Changes.{after, before, changed, grafted, is_in, joined, merged, next_of, parted, removed, renumbered, substituted, with_content, without};
     ghost use Rattle.act_tree.specs.declared.surveying.TheConstants.{NONE_THROUGHOUT};
     ghost use Rattle.act_tree.specs.Eids.{all_enacted};
+    ghost use Rattle.act_tree.specs.Depths.{depth_of};
     ghost use Rattle.act_tree.specs.EidLevels.{all_beginning, levels_begun, levels_on};
     ghost use Rattle.eid_paths.specs.Levels.{level_text};
     ghost use Rattle.act_tree.specs.EidsOfNodes.{IsNodeOf};
@@ -328,6 +330,16 @@ impl Tree {
         ensures { (k : ℕ) → has_node self.now k ≡ true → k < result }
     {
         self.arena.slots.len()
+    }
+
+    /// How many provisions stand on the way from the root down to a node, itself included; none for the root. It is as
+    /// many steps as the node is deep.
+    #[tactic(auto, using(crate::proofs::HowDeep::depth_is), unfolding(crate::specs::Seen::has_node))]
+    pub fn depth(&self, id: NodeId) -> u32
+        requires { has_node self.now id ≡ true }
+        ensures { result ≡ depth_of (provision_at self.now id).wid (tree_view self.now).body }
+    {
+        count_up(&self.arena, id, self.arena.slots.len())
     }
 
     /// How many nodes there are, the root not counted. The number stands still at 2^32 - 1.
