@@ -1,9 +1,9 @@
 -- The first fault of a tree with provisions that are brought among the children of a node is told before.
-use Rattle.std.proofs.Common.{◌≡◌, ◌∙◌, sym, ap, refl, ℕ, ◌+◌, ◌≤◌, ◌==◌, Bool, true, false, not, cond, ◌&&◌, ◌||◌, max, min, List, [], ◌∷◌, ◌++◌, nat_lt, Some, None, inl, inr, arith}
+use Rattle.std.proofs.Common.{◌≡◌, ◌∙◌, sym, ap, refl, ℕ, ◌+◌, ◌≤◌, ◌==◌, Bool, true, false, not, cond, ◌&&◌, ◌||◌, max, List, [], ◌∷◌, ◌++◌, nat_lt, Some, None, inl, inr, arith}
 use Rattle.std.specs.Prelude.{Ok, Err, option_map, is_some, unwrap_or, slice_get}
 use Rattle.std.specs.List.{list_any}
 use Rattle.std.specs.Str.{bytes_eq}
-use Rattle.std.proofs.lemmas.Bool.{cases_Bool, cond_both, and_parts, eqb-true, eq-eqb, cases_lt, lt-ltb, le-ltb}
+use Rattle.std.proofs.lemmas.Bool.{cases_Bool, cond_both, and_parts, eqb-true, eq-eqb}
 use Rattle.std.proofs.lemmas.List.Folds.{list_any-append}
 use Rattle.desk_base.specs.declared.id.Id.{Id}
 use Rattle.eid_paths.specs.declared.element.Element.{Element}
@@ -34,10 +34,10 @@ use Rattle.act_tree.proofs.ReplacedNodes.{not_root}
 use Rattle.act_tree.proofs.Texts.{equal_text}
 use Rattle.act_tree.proofs.Walking.{branch_is}
 use Rattle.textual_mods.specs.Edits.{unless_for, within_limits}
-use Rattle.textual_mods.specs.Insertions.{one_among, begins_again, all_begun_among, goes_on_again, on_among, heights_over, height_with, is_root, taken_among, fault_among, insertion_fault, have_nums}
+use Rattle.textual_mods.specs.Insertions.{one_among, begins_again, all_begun_among, goes_on_again, on_among, heights_over, is_root, taken_among, fault_among, insertion_fault, have_nums}
 use Rattle.textual_mods.proofs.InsertionLimits.{after, clashes, twice_or, for_one, begun_put, counts_put, heights_put, unlike_put, short_put, begun_after, counts_after, heights_after, short_after, alike_after, of_one}
 use Rattle.textual_mods.proofs.JoinLimits.{times, times-append, few_once, once_few, one_if, or_none}
-use Rattle.textual_mods.proofs.Limits.{IsPlaced, is_placed, is_short, fault_by, faultless}
+use Rattle.textual_mods.proofs.Limits.{is_placed, is_short, fault_by, faultless}
 use Rattle.textual_mods.proofs.OnePlace.{held_found}
 use Rattle.textual_mods.proofs.Starting.{owns_again}
 use Rattle.textual_mods.proofs.WidsDiffer.{wids_differ}
@@ -187,13 +187,6 @@ pub root_says : (t : Tree) → (provision_at t 0).wid ≡ root_wid
 unfolding provision_at
 root_says t = ap (λ (p : Provision). p.wid) t.whole.root
 
-lt_most : (h r : ℕ) → r ≡ min h 4294967295 → nat_lt 12 r ≡ nat_lt 12 h
-lt_most h r is =
-    elim (cases_lt 12 h) [
-      | inl less ↦ lt-ltb 12 r (omega arith) ∙ sym (lt-ltb 12 h less)
-      | inr most ↦ le-ltb 12 r (omega arith) ∙ sym (le-ltb 12 h most)
-    ]
-
 -- a text that keeps the limits, and provisions that are brought
 module _ (n : Numbering) (body : Branches Provision) (by : Id) (new : Branches Own) (clean : first_fault n (all_owns body) ≡ None) (kept : are_numbered body ≡ true)
     (sound : first_fault NONE_THROUGHOUT new ≡ None) (nums : have_nums new ≡ true) where
@@ -302,26 +295,6 @@ module _ (n : Numbering) (body : Branches Provision) (by : Id) (new : Branches O
           twice_or (all_beginning n false new) (all_going_on n false new) (all_beginning n true new) (λ x. top_parts n x new) tops_once
           ∙ ap (λ s. one_twice (all_beginning n false new) || s) (one_begun (all_going_on n false new) n false new ∙ none_on n new nums new nums)
           ∙ or_none (one_twice (all_beginning n false new))
-
-  -- the text with what is brought below its root is not too deep
-  pub root_is_low : (w : List ℕ) → bytes_eq w root_wid ≡ true → false ≡ nat_lt 12 (height_with w (heights new) body)
-  root_is_low w root =
-      let placed : IsPlaced n (all_owns body) = is_placed n (all_owns body) clean in
-      let brought_placed : IsPlaced NONE_THROUGHOUT new = is_placed NONE_THROUGHOUT new sound in
-      let low : heights (all_owns body) ≤ 12 = placed.low in
-      let low_new : heights new ≤ 12 = brought_placed.low in
-      sym (ap (λ s. nat_lt 12 (cond s (max (heights body) (heights new)) (heights_over w (heights new) body))) root
-      ∙ le-ltb 12 (max (heights body) (heights new)) (omega (arith, heights_owns body)))
-
-  -- below another node, by the height that was told
-  pub node_is_told : (w : List ℕ) (high told_high : ℕ) → bytes_eq w root_wid ≡ false → high ≡ min (heights new) 4294967295 → told_high ≡ min (heights_over w high body) 4294967295
-      → nat_lt 12 told_high ≡ nat_lt 12 (height_with w (heights new) body)
-  node_is_told w high told_high other is_high is =
-      let brought_placed : IsPlaced NONE_THROUGHOUT new = is_placed NONE_THROUGHOUT new sound in
-      let low_new : heights new ≤ 12 = brought_placed.low in
-      let same : high ≡ heights new = omega arith in
-      lt_most (heights_over w (heights new) body) told_high (is ∙ ap (λ h. min (heights_over w h body) 4294967295) same)
-      ∙ sym (ap (λ s. nat_lt 12 (cond s (max (heights body) (heights new)) (heights_over w (heights new) body))) other)
 
   -- a number is taken by what is told of it
   module _ (top : Bool) (siblings : Branches Provision) where

@@ -1,5 +1,5 @@
 -- What is left of the nodes of a tree where one goes: one node, what is left beneath it, and the nodes after it.
-use Rattle.std.proofs.Common.{◌≡◌, ◌∙◌, sym, ap, refl, ℕ, ◌+◌, ◌<◌, ◌==◌, Bool, true, false, not, cond, ◌&&◌, ◌||◌, max, min, List, [], ◌∷◌, length, map, drop, get_or, Option, Some, None, inl, inr, arith}
+use Rattle.std.proofs.Common.{◌≡◌, ◌∙◌, sym, ap, refl, ℕ, ◌+◌, ◌<◌, ◌==◌, Bool, true, false, not, cond, ◌&&◌, ◌||◌, List, [], ◌∷◌, length, map, drop, get_or, Option, Some, None, inl, inr, arith}
 use Rattle.std.specs.Prelude.{IfSome}
 use Rattle.std.specs.Str.{bytes_eq}
 use Rattle.std.proofs.lemmas.Bool.{cases_Bool, eqb-true, eq-eqb}
@@ -15,7 +15,6 @@ use Rattle.act_tree.specs.Seen.{has_node, provision_at, branch_at, below_at}
 use Rattle.act_tree.specs.Wids.{is_among}
 use Rattle.act_tree.proofs.Texts.{equal_text, other_text}
 use Rattle.act_tree.proofs.Walking.{nodes_from, below_lower}
-use Rattle.textual_mods.specs.Insertions.{heights_over}
 use Rattle.textual_mods.specs.Substitutions.{goes, left, wid_of}
 use Rattle.textual_mods.proofs.JoinLimits.{or_none}
 use Rattle.textual_mods.proofs.NamedNodes.{same_node}
@@ -47,11 +46,11 @@ pub own_counted : (s : Bool) (told : ℕ) → told ≡ cond s 0 1 → told ≡ u
 own_counted true told is = is
 own_counted false told is = is
 
-left_none : (g : Option (List ℕ)) → left g no_branches ≡ no_branches
+pub left_none : (g : Option (List ℕ)) → left g no_branches ≡ no_branches
 left_none None = refl
 left_none (Some w) = refl
 
-left_more : (g : Option (List ℕ)) (p : Provision) (below bs : Branches Provision) → left g (more_branches (branch p below) bs) ≡ cond (goes g p.wid) (left g bs) (more_branches (branch p (left g below)) (left g bs))
+pub left_more : (g : Option (List ℕ)) (p : Provision) (below bs : Branches Provision) → left g (more_branches (branch p below) bs) ≡ cond (goes g p.wid) (left g bs) (more_branches (branch p (left g below)) (left g bs))
 left_more None p below bs = refl
 left_more (Some w) p below bs = refl
 
@@ -118,16 +117,3 @@ module _ (t : Tree) (gone : Option ℕ) (ids : List ℕ) (i id : ℕ) (within : 
       by : (r : Bool) → counts (cond r later (more_branches (branch p (left g (below_at t id))) later)) ≡ unless_gone r 1 + counts (left g (cond r no_branches (below_at t id))) + counts later
       by true = let none : counts (left g no_branches) ≡ 0 = ap counts (left_none g) in omega (arith, none)
       by false = omega arith
-
-  pub heights_from : (w : List ℕ) (high : ℕ) → heights_over w high from_here ≡ max (unless_gone s (max (cond (bytes_eq p.wid w) high 0) (heights_over w high beneath) + 1)) (heights_over w high later)
-  heights_from w high = ap (heights_over w high) left_from ∙ by s
-    where
-      by : (r : Bool) → heights_over w high (cond r later (more_branches (branch p (left g (below_at t id))) later))
-          ≡ max (unless_gone r (max (cond (bytes_eq p.wid w) high 0) (heights_over w high (left g (cond r no_branches (below_at t id)))) + 1)) (heights_over w high later)
-      by true = omega arith
-      by false = refl
-
--- a height that was told up to the most
-pub taller : (s : Bool) (own kept told result : ℕ) → told ≡ min kept 4294967295 → result ≡ cond s 0 (min (max own told + 1) 4294967295) → result ≡ min (unless_gone s (max own kept + 1)) 4294967295
-taller true own kept told result is made = omega (arith, made)
-taller false own kept told result is made = omega (arith, is, made)

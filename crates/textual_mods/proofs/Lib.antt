@@ -41,3 +41,4 @@ pub mod BodyReplaced
 pub mod PutInstead
 pub mod LeftNodes
 pub mod Substituted
+pub mod HeightsOver

@@ -1,6 +1,6 @@
 -- The first fault of a tree with provisions that are brought in the place of a node is told before.
 use Rattle.std.proofs.Common.{◌≡◌, ◌∙◌, sym, ap, subst, ℕ, zero, suc, true, false, ◌||◌, cond, List, [], ◌∷◌, map, Option, Some, None, inl, inr}
-use Rattle.std.specs.Prelude.{Result, Ok, Err, option_map, slice_get, if◌then◌else◌}
+use Rattle.std.specs.Prelude.{Result, Ok, Err, option_map, is_some, slice_get, if◌then◌else◌}
 use Rattle.std.specs.Str.{bytes_eq}
 use Rattle.std.proofs.lemmas.Bool.{cases_Bool, cases_eq}
 use Rattle.desk_base.specs.declared.id.Id.{Id}
@@ -19,6 +19,7 @@ use Rattle.act_tree.specs.Provisions.{Own, Provision}
 use Rattle.act_tree.specs.Seen.{tree_view, has_node, provision_at, children_at, branch_at, below_at, with_body, substituted_at}
 use Rattle.act_tree.specs.Slots.{at, number, size}
 use Rattle.act_tree.proofs.FoundNodes.{nums_kept}
+use Rattle.act_tree.proofs.Frames.{or_left, or_right}
 use Rattle.act_tree.proofs.Nums.{without_kept}
 use Rattle.act_tree.proofs.ReplacedNodes.{not_root}
 use Rattle.act_tree.proofs.Texts.{equal_text}
@@ -30,6 +31,7 @@ use Rattle.textual_mods.specs.StructureEdits.{nodes_substituted}
 use Rattle.textual_mods.specs.Substitutions.{text_left, substitution_fault}
 use Rattle.textual_mods.proofs.InsertedTrees.{fault_told, found_below, root_says}
 use Rattle.textual_mods.proofs.Limits.{faultless}
+use Rattle.textual_mods.proofs.OnePlace.{held_found}
 use Rattle.textual_mods.proofs.PutInstead.{ChildAt, differ_without, at_children, IsPutInstead, put_instead}
 use Rattle.textual_mods.proofs.Removals.{fits_without}
 use Rattle.textual_mods.proofs.WidsDiffer.{wids_differ}
@@ -93,6 +95,16 @@ module _ (t : Tree) (by : Id) (new : Branches Own) (fits : first_cause (tree_vie
         | inr beneath ↦
             let r : IsPutInstead w (brought by new) v place (provision_at t parent) (below_at t parent) child_there body = below_node beneath in
             r.made ∙ sym (ap (λ s. cond s (put_in place (brought by new) (without w body)) (changed (among_children place (brought by new)) v (without w body))) beneath)
+      ]
+
+  -- the node above it is left
+  pub parent_left : is_in v (text_left t (Some id)) ≡ true
+  parent_left =
+      elim (cases_Bool (bytes_eq v root_wid)) [
+        | inl top ↦ or_left _ _ top
+        | inr beneath ↦
+            let r : IsPutInstead w (brought by new) v place (provision_at t parent) (below_at t parent) child_there body = below_node beneath in
+            or_right (bytes_eq v root_wid) _ (sym (held_found v (without w body)) ∙ ap is_some r.there)
       ]
 
   pub fault_of_substitution : first_cause (with_body t (substituted_at t id (brought by new))) ≡ option_map fault_cause (substitution_fault t id parent new)

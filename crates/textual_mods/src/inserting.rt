@@ -3,6 +3,7 @@
 ghost use Rattle.std.specs.Prelude.{◌≡◌, ◌+◌, ◌≤◌, ◌||◌, length, nat_lt, true, false, None, Ok, IfOk, IfSome, OnOk, OnErr};
 ghost use Rattle.act_tree.specs.Branches.{branches_of, heights};
 ghost use Rattle.act_tree.specs.Brought.{brought, has_brought};
+ghost use Rattle.act_tree.specs.Changes.{is_in};
 ghost use Rattle.act_tree.specs.Faults.{all_eids, all_owns, first_cause, first_fault};
 ghost use Rattle.act_tree.specs.Seen.{tree_view, has_node, provision_at, children_at, grafted_at};
 ghost use Rattle.act_tree.specs.Wids.{one_twice};
@@ -16,29 +17,25 @@ ghost use Rattle.textual_mods.specs.Substitutions.{bringing_fault, left_below, t
 use crate::Outcome;
 use crate::brought::{begin_again, count_of_all, go_on_again, height_of_all, nums_are_kept};
 use crate::held_back::{held_back, or_step};
-use crate::staying::{are_too_many, height_left};
+use crate::staying::are_too_many;
 use act_tree::{BuildFault, NodeId, Nodes, Tree, fault_of};
 use desk_base::{Id, Memory, Steps};
 use eid_paths::{Element, Num};
 use std::alloc::Global;
 use std::sync::ledger::Ledger;
 
-// Whether what is left of a tree is too deep with nodes among the children of a node.
+// Whether what is left of a tree is too deep with nodes among the children of a node that is left.
+#[tactic(auto, using(crate::proofs::HeightsOver::deep_told))]
 fn is_too_deep(tree: &Tree, gone: &Option<NodeId>, parent: NodeId, new: &Nodes) -> bool
     requires fits { first_cause (tree_view tree.now) ≡ None }
-    requires gone { IfSome gone.now (λ other. has_node tree.now other ≡ true) }
     requires node { has_node tree.now parent ≡ true }
+    requires left { is_in (provision_at tree.now parent).wid (text_left tree.now gone.now) ≡ true }
     requires payload { first_fault NONE_THROUGHOUT (branches_of new.now) ≡ None }
-    requires nums { have_nums (branches_of new.now) ≡ true }
     ensures { result ≡ nat_lt 12 (spec.height_with (provision_at tree.now parent).wid
         (heights (branches_of new.now)) (text_left tree.now gone.now)) }
 {
-    if parent == tree.root() {
-        return false;
-    }
-    let wid = tree.provision(parent).wid;
-    let high = height_of_all(new);
-    height_left(tree, gone, wid.as_str(), high, tree.children(tree.root())) > 12
+    let _ = gone;
+    tree.depth(parent).saturating_add(height_of_all(new)) > 12
 }
 
 // Whether two nodes would have one eId right below the root of the tree.
@@ -141,8 +138,8 @@ pub fn fault_of_split(
 }
 
 /// The first fault of a tree with nodes among the children of a node, if it would have one; `gone`: that node goes for
-/// them. The nodes of the tree are searched for the levels that are brought; nothing of it is copied, and none of its
-/// eIds is spelled.
+/// them, and the other is left. The nodes of the tree are searched for the levels that are brought, and how deep they
+/// come to stand is told by the way up from the node; nothing of the tree is copied, and none of its eIds is spelled.
 pub fn fault_of_bringing(
     alloc: Global,
     tree: &Tree,
@@ -153,6 +150,7 @@ pub fn fault_of_bringing(
     requires fits { first_cause (tree_view tree.now) ≡ None }
     requires gone { IfSome gone.now (λ other. has_node tree.now other ≡ true) }
     requires node { has_node tree.now parent ≡ true }
+    requires left { is_in (provision_at tree.now parent).wid (text_left tree.now gone.now) ≡ true }
     requires payload { first_fault NONE_THROUGHOUT (branches_of new.now) ≡ None }
     requires nums { have_nums (branches_of new.now) ≡ true }
     ensures { IfOk result (λ fault. fault ≡ bringing_fault tree.now gone.now parent (branches_of new.now)) }

@@ -1,7 +1,7 @@
-//! What is left of a tree where a node goes, or none: its levels, its height and its number of nodes. Nothing is taken
+//! What is left of a tree where a node goes, or none: its levels and its number of nodes. Nothing is taken
 //! away for it, and no eId is spelled.
 
-ghost use Rattle.std.specs.Prelude.{◌≡◌, ◌+◌, ◌-◌, ◌^◌, ◌&&◌, map, max, min, not, nat_lt, true, IfSome, if◌then◌else◌};
+ghost use Rattle.std.specs.Prelude.{◌≡◌, ◌+◌, ◌-◌, ◌^◌, ◌&&◌, map, min, not, nat_lt, true, IfSome, if◌then◌else◌};
 ghost use Rattle.std.specs.List.{All};
 ghost use Rattle.std.specs.Str.{bytes_eq};
 ghost use Rattle.act_tree.specs.Branches.{branches_of, counts, no_branches};
@@ -11,7 +11,6 @@ ghost use Rattle.act_tree.specs.Seen.{tree_view, has_node, provision_at, branch_
 ghost use Rattle.act_tree.specs.Wids.{is_among};
 ghost use Rattle.eid_paths.specs.Elements.{is_throughout};
 ghost use Rattle.eid_paths.specs.Levels.{level_text};
-ghost use Rattle.textual_mods.specs.Insertions as spec;
 ghost use Rattle.textual_mods.specs.Substitutions.{goes, left, left_below, text_left, wid_of};
 
 use crate::num_changes::is_level;
@@ -167,46 +166,4 @@ pub fn are_too_many(tree: &Tree, gone: &Option<NodeId>, others: u32) -> bool
         return false;
     }
     count_left(tree, gone).saturating_add(others) > 4096
-}
-
-// The height of a node that is left, by that of what is put beneath it and of what is left there.
-fn height_there(
-    tree: &Tree,
-    gone: &Option<NodeId>,
-    wid: &str,
-    high: u32,
-    beneath: u32,
-    id: NodeId,
-) -> u32
-    requires gone { IfSome gone.now (λ other. has_node tree.now other ≡ true) }
-    requires node { has_node tree.now id ≡ true }
-    ensures { let p = provision_at tree.now id in result ≡ (if goes (wid_of tree.now gone.now) p.wid then 0
-        else min (max (if bytes_eq p.wid wid.now then high else 0) beneath + 1) (2 ^ 32 - 1)) }
-{
-    if is_gone(tree, gone, id) {
-        return 0;
-    }
-    if tree.provision(id).wid.as_str() == wid {
-        high.max(beneath).saturating_add(1)
-    } else {
-        beneath.saturating_add(1)
-    }
-}
-
-/// How high those of these nodes are that are left, with others of this height beneath each that has the wId. The
-/// number stands still at 2^32 - 1.
-pub fn height_left(tree: &Tree, gone: &Option<NodeId>, wid: &str, high: u32, ids: &[NodeId]) -> u32
-    requires gone { IfSome gone.now (λ other. has_node tree.now other ≡ true) }
-    requires ids { All (λ id. has_node tree.now id ≡ true) ids.now }
-    ensures { result ≡ min (spec.heights_over wid.now high
-        (left (wid_of tree.now gone.now) (branches_of (map (branch_at tree.now) ids.now)))) (2 ^ 32 - 1) }
-{
-    let mut tallest: u32 = 0;
-    for id in ids {
-        let children = children_left(tree, gone, *id);
-        let beneath = height_left(tree, gone, wid, high, children);
-        let here = height_there(tree, gone, wid, high, beneath, *id);
-        tallest = tallest.max(here);
-    }
-    tallest
 }

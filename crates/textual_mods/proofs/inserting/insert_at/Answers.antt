@@ -1,11 +1,17 @@
 -- An insertion is held back by what is told before, or made.
-use Rattle.std.proofs.Common.{◌∙◌, sym, ap}
+use Rattle.std.proofs.Common.{rules, ◌∙◌, sym, ap}
 use Rattle.act_tree.specs.Branches.{branches_of}
 use Rattle.act_tree.specs.Seen.{tree_view}
+use Rattle.act_tree.proofs.KeptNumbers.{wid_there}
 use Rattle.textual_mods.specs.Edits.{tree_after, outcome_of}
 use Rattle.textual_mods.specs.declared.outcome.Outcome.TheVariants.{Unapplied}
 use Rattle.textual_mods.proofs.InsertedTrees.{held_by, done_by}
 use Rattle.textual_mods.proofs.inserting.insert_at.Goals as goal
+
+pub fault_of_bringing-requires : goal.fault_of_bringing-requires
+fault_of_bringing-requires g c =
+    let left = wid_there c.args.tree.now c.args.parent c.requires.node in
+    search (rules, left)
 
 pub returns-in-Some-clause-outcome : goal.returns-in-Some-clause-outcome
 returns-in-Some-clause-outcome g c =

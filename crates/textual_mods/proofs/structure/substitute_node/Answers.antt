@@ -1,11 +1,17 @@
 -- A substitution is held back by what is told before, or made.
-use Rattle.std.proofs.Common.{◌∙◌, sym, ap}
+use Rattle.std.proofs.Common.{rules, ◌∙◌, sym, ap}
 use Rattle.act_tree.specs.Branches.{branches_of}
 use Rattle.act_tree.specs.Seen.{tree_view}
 use Rattle.textual_mods.specs.Edits.{tree_after, outcome_of}
 use Rattle.textual_mods.specs.declared.outcome.Outcome.TheVariants.{Unapplied}
-use Rattle.textual_mods.proofs.Substituted.{held_instead, done_instead}
+use Rattle.textual_mods.proofs.Substituted.{parent_left, held_instead, done_instead}
 use Rattle.textual_mods.proofs.structure.substitute_node.Goals as goal
+
+pub fault_of_bringing-requires : goal.fault_of_bringing-requires
+fault_of_bringing-requires g c =
+    let left = parent_left c.args.tree.now c.args.by (branches_of c.args.new.now) c.requires.fits c.requires.payload c.nums_are_kept.ensures c.args.id c.place_of-parent.result.0 c.place_of-parent.result.1
+    c.requires.node c.requires.provision c.place_of-parent.ensures.parent c.place_of-parent.ensures.child in
+    search (rules, left)
 
 pub returns-in-Some-clause-outcome : goal.returns-in-Some-clause-outcome
 returns-in-Some-clause-outcome g c =
