@@ -1,16 +1,24 @@
 -- The statuses that the program ends with.
-use Rattle.std.specs.Prelude.{ℕ, ◌≡◌, ◌⊎◌, ◌==◌, ◌||◌, Bool}
+use Rattle.std.specs.Prelude.{ℕ, ◌≡◌, ◌⊎◌, ◌==◌, Bool, List, Option, Some, None, if◌then◌else◌}
 use Rattle.lawdesk.specs.Batching.{IsBatchStatus}
 use Rattle.lawdesk.specs.Checking.{IsCheckStatus}
 use Rattle.lawdesk.specs.Generating.{IsGenerateStatus}
 use Rattle.lawdesk.specs.Runs.{IsTextStatus}
 use Rattle.lawdesk.specs.Tabling.{IsReportStatus}
+use Rattle.lawdesk.specs.declared.notice.TheConstants.{HELD, UNKEPT, UNREAD, UNWRITTEN, WANTING}
+use Rattle.lawdesk.specs.declared.usage.TheConstants.{USAGE_TEXT}
 
 -- those of the forms of the command line, and 2 for words that are no form
 abbrev pub IsStatus : ℕ → Type 0
 IsStatus status = (status ≡ 2) ⊎ (IsTextStatus status ⊎ (IsCheckStatus status ⊎ (IsBatchStatus status
     ⊎ (IsReportStatus status ⊎ IsGenerateStatus status))))
 
--- something is said of it on standard error: of words that are no form, of a device that failed, or of memory
-abbrev pub has_notice : ℕ → Bool
-has_notice status = status == 2 || (status == 3 || (status == 4 || (status == 5 || status == 7)))
+-- what is said on standard error beside a status: the usage at words that are no form, which device failed, or that
+-- memory was wanting; of a journal that another process holds, that one does
+abbrev pub notice_of : ℕ → Bool → Option (List ℕ)
+notice_of status is_held =
+    if status == 2 then Some USAGE_TEXT.now
+    else (if status == 3 then Some UNREAD.now
+    else (if status == 4 then Some UNWRITTEN.now
+    else (if status == 5 then Some (if is_held then HELD.now else UNKEPT.now)
+    else (if status == 7 then Some WANTING.now else None))))

@@ -1,24 +1,24 @@
 //! Notices: what is said on standard error, beside the status.
 
-ghost use Rattle.std.specs.Prelude.{◌≡◌, is_some};
-ghost use Rattle.lawdesk.specs.Statuses.{has_notice};
+ghost use Rattle.std.specs.Prelude.{◌≡◌, option_map};
+ghost use Rattle.lawdesk.specs.Statuses.{notice_of};
 
 use crate::usage::USAGE_TEXT;
 
-const UNREAD: &str = "lawdesk: standard input could not be read";
+pub const UNREAD: &str = "lawdesk: standard input could not be read";
 
-const UNWRITTEN: &str = "lawdesk: standard output could not be written";
+pub const UNWRITTEN: &str = "lawdesk: standard output could not be written";
 
-const UNKEPT: &str = "lawdesk: the journal lawdesk.jnl could not be opened, read or written";
+pub const UNKEPT: &str = "lawdesk: the journal lawdesk.jnl could not be opened, read or written";
 
-const HELD: &str = "lawdesk: another process holds lawdesk.jnl";
+pub const HELD: &str = "lawdesk: another process holds lawdesk.jnl";
 
-const WANTING: &str = "lawdesk: there was not enough memory";
+pub const WANTING: &str = "lawdesk: there was not enough memory";
 
 /// What is said beside a status: the usage at 2, and what failed at 3, 4, 5 and 7. Of a journal that another process holds, it is
 /// said that one does.
 pub fn notice(status: u8, is_held: bool) -> Option<&'static str>
-    ensures { is_some result ≡ has_notice status }
+    ensures { option_map (λ text. text.now) result ≡ notice_of status is_held }
 {
     match status {
         2 => Some(USAGE_TEXT),
