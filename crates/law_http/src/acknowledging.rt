@@ -1,4 +1,5 @@
 //! Acknowledging: the response to a command that is accepted stands in room that was made before the command was done.
+//! Each response whose body is an object of one number is laid out so.
 
 ghost use Rattle.std.specs.Prelude.{◌≡◌, ◌≤◌, ◌+◌, ◌++◌, None, length, codes, vec_capacity, IfOk};
 ghost use Rattle.std.specs.Fmt.{decimal};
@@ -7,20 +8,20 @@ ghost use Rattle.law_http.specs.Serving.{accepted_reply};
 ghost use Rattle.law_http.specs.declared.response.Response.TheVariants.{Made};
 ghost use Rattle.law_http.specs.declared.status.Status.TheVariants as status;
 
-use crate::response::put_first_lines;
+use crate::response::{ROOM, put_first_lines};
 use crate::{Bytes, Response, Status};
 use desk_base::Memory;
 use itoa::Buffer;
 use law_register::Reply;
 use std::alloc::Global;
 
-/// The first lines of the response to a command that is accepted, with room for what comes behind them.
-pub(crate) fn begun(alloc: Global, last: bool) -> Result<Vec<u8>, Memory>
-    ensures lines { IfOk result (λ message. message.items ≡ spec.first_lines status.Created None last) }
+/// The first lines of a response whose body is an object of one number, with room for what comes behind them.
+pub(crate) fn begun(alloc: Global, status: Status, last: bool) -> Result<Vec<u8>, Memory>
+    ensures lines { IfOk result (λ message. message.items ≡ spec.first_lines status None last) }
     ensures room { IfOk result (λ message. length message.items + 160 ≤ vec_capacity message) }
 {
-    let mut message = Vec::new(alloc);
-    put_first_lines(&mut message, Status::Created, None, last)?;
+    let mut message = Vec::with_capacity(alloc, ROOM)?;
+    put_first_lines(&mut message, status, None, last)?;
     message.reserve(160)?;
     Ok(message)
 }
@@ -49,13 +50,19 @@ fn put_body_lines(message: &mut Vec<u8>, size: usize)
     put_behind(message, b"\r\nContent-Type: application/json\r\n\r\n");
 }
 
-// A response whose body is an object of one number, for which there is room.
-fn numbered(message: Vec<u8>, last: bool, key: &str, number: u32) -> Response
+/// A response whose body is an object of one number, for which there is room. It takes no memory.
+pub(crate) fn numbered(
+    message: Vec<u8>,
+    status: Status,
+    last: bool,
+    key: &str,
+    number: u32,
+) -> Response
     requires key { length key.now ≤ 10 }
     requires room { length message.items + 160 ≤ vec_capacity message }
-    requires begun { message.items ≡ spec.first_lines status.Created None last }
+    requires begun { message.items ≡ spec.first_lines status None last }
     ensures { result ≡ Made (spec.reply_bytes
-        (spec.reply status.Created None last (key.now ++ decimal number ++ codes "}"))) last }
+        (spec.reply status None last (key.now ++ decimal number ++ codes "}"))) last }
 {
     let mut message = message;
     let mut buffer = Buffer::new();
@@ -77,7 +84,7 @@ pub(crate) fn acknowledged(message: Vec<u8>, last: bool, reply: Reply) -> Respon
     ensures { result ≡ Made (spec.reply_bytes (accepted_reply last reply)) last }
 {
     match reply {
-        Reply::Law(number) => numbered(message, last, "{\"law\":", number),
-        Reply::Draft(number) => numbered(message, last, "{\"draft\":", number),
+        Reply::Law(number) => numbered(message, Status::Created, last, "{\"law\":", number),
+        Reply::Draft(number) => numbered(message, Status::Created, last, "{\"draft\":", number),
     }
 }

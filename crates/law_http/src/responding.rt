@@ -1,6 +1,6 @@
 //! Responding: what a desk answers to a request.
 
-ghost use Rattle.std.specs.Prelude.{◌≡◌, ◌≤◌, ◌+◌, true, None, Result, Ok, length, string_bytes, vec_capacity, IfOk};
+ghost use Rattle.std.specs.Prelude.{◌≡◌, ◌≤◌, ◌+◌, true, None, Result, Ok, length, vec_capacity};
 ghost use Rattle.law_register.specs.Answer.Answers.{Answers};
 ghost use Rattle.law_register.specs.Answer.Asking.{answer_at};
 ghost use Rattle.law_register.specs.Answer.Costs.{bearing_at};
@@ -15,10 +15,10 @@ ghost use Rattle.law_http.specs.Responses.{Says, first_lines};
 ghost use Rattle.law_http.specs.Serving as spec;
 ghost use Rattle.law_http.specs.declared.status.Status.TheVariants as status;
 
-use crate::acknowledging::{acknowledged, begun};
+use crate::acknowledging::{acknowledged, begun, numbered};
 use crate::{Asking, PreviewAsked, Request, Response, Status, TextAsked, refused_request};
 use akn_json::{Asked, put_answer, put_draft, put_query_rule, put_rule};
-use desk_base::{Memory, Steps};
+use desk_base::Steps;
 use law_register::{
     Answer, AskFault, CommandFault, Desk, Draft, Drafter, QueryRule, Question, Reply, Rule,
 };
@@ -44,17 +44,11 @@ fn rule_status(rule: &Rule) -> Status
     }
 }
 
-fn front_object(alloc: Global, number: u32) -> Result<String, Memory>
-    ensures { IfOk result (λ text. string_bytes text ≡ spec.front_text number) }
-{
-    Ok(format!(in alloc; "{{\"front\":{number}}}")?)
-}
-
 fn front_response(alloc: Global, number: u32, last: bool) -> Response
     ensures { Says (spec.front_reply last number) result }
 {
-    match front_object(alloc, number) {
-        Ok(object) => Response::of(alloc, Status::Ok, None, last, object.as_bytes()),
+    match begun(alloc, Status::Ok, last) {
+        Ok(message) => numbered(message, Status::Ok, last, "{\"front\":", number),
         Err(_) => Response::MemoryFault,
     }
 }
@@ -201,7 +195,7 @@ fn command_response<D: Desk, L: Ledger>(
     ensures served { spec.ServesCommand D.state D.crashes last asked desk.old desk.new result }
     ensures steps { steps.new ≡ steps.old }
 {
-    let Ok(message) = begun(alloc, last) else {
+    let Ok(message) = begun(alloc, Status::Created, last) else {
         return Response::MemoryFault;
     };
     let Asked {

@@ -10,8 +10,8 @@ use desk_base::{Failed, Link, Memory};
 use itoa::Buffer;
 use std::alloc::Global;
 
-// Room for a head and a short body, which are laid out piece by piece.
-const ROOM: usize = 256;
+/// Room for a head and a short body, which are laid out piece by piece.
+pub(crate) const ROOM: usize = 256;
 
 // The fixed responses, which take no memory.
 const MEMORY_FAULT: &[u8] = b"HTTP/1.1 500 Internal Server Error\r\nConnection: close\r\n\
@@ -42,11 +42,19 @@ pub(crate) fn put_first_lines(
 ) -> Result<(), Memory>
     ensures { OnOk result (message.new.items ≡ message.old.items ++ spec.first_lines status allow last) }
 {
-    message.extend_from_slice(b"HTTP/1.1 ")?;
-    message.extend_from_slice(status.text().as_bytes())?;
-    message.extend_from_slice(b"\r\n")?;
-    message.extend_from_slice(allow_field(allow).as_bytes())?;
-    message.extend_from_slice(close_field(last).as_bytes())?;
+    message.extend_from_slice(status.line())?;
+    put_field(message, allow_field(allow).as_bytes())?;
+    put_field(message, close_field(last).as_bytes())?;
+    Ok(())
+}
+
+// Most responses have neither of these fields, and then nothing is called.
+fn put_field(message: &mut Vec<u8>, field: &[u8]) -> Result<(), Memory>
+    ensures { OnOk result (message.new.items ≡ message.old.items ++ field.now) }
+{
+    if !field.is_empty() {
+        message.extend_from_slice(field)?;
+    }
     Ok(())
 }
 

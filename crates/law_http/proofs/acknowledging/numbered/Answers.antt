@@ -2,14 +2,13 @@ use Rattle.std.proofs.Common.{None, length, ◌+◌, ◌++◌, ap, ◌∙◌}
 use Rattle.std.specs.Fmt.{decimal}
 use Rattle.law_http.specs.Responses.{first_lines}
 use Rattle.law_http.specs.declared.response.Response.TheVariants.{Made}
-use Rattle.law_http.specs.declared.status.Status.TheVariants as status
 use Rattle.law_http.proofs.Acknowledged.{laid}
 use Rattle.law_http.proofs.acknowledging.numbered.Goals as goal
 
 pub returns : goal.returns
 returns c =
     ap (λ message. Made message c.args.last) (c.from_vec.ensures
-    ∙ laid (first_lines status.Created None c.args.last) c.args.key.now (decimal c.args.number) _ _ _ _ _ _
+    ∙ laid (first_lines c.args.status None c.args.last) c.args.key.now (decimal c.args.number) _ _ _ _ _ _
     (ap (λ digits. length c.args.key.now + length digits + 1) c.format-digits.ensures.text)
     c.requires.begun
     c.put_body_lines.ensures.items
