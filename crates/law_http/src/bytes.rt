@@ -1,7 +1,9 @@
 //! Bytes: a clause sees them as a list.
 
-ghost use Rattle.std.specs.Prelude.{◌≡◌};
+ghost use Rattle.std.specs.Prelude.{◌≡◌, IfOk};
 
+use desk_base::Memory;
+use std::alloc::Global;
 use std::marker::Model;
 
 /// The bytes of a body.
@@ -22,6 +24,16 @@ impl Bytes {
         ensures { result ≡ bytes.items }
     {
         Bytes(bytes)
+    }
+
+    /// A copy of bytes. Most requests have no body, and then nothing is called.
+    pub(crate) fn copy_of(alloc: Global, bytes: &[u8]) -> Result<Bytes, Memory>
+        ensures { IfOk result (λ copy. copy ≡ bytes.now) }
+    {
+        if bytes.is_empty() {
+            return Ok(Bytes(Vec::new(alloc)));
+        }
+        Ok(Bytes(Vec::from_slice(alloc, bytes)?))
     }
 
     /// The bytes as a slice.

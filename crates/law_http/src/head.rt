@@ -5,9 +5,9 @@ ghost use Rattle.httparse.specs.Grammar.{IsToken};
 ghost use Rattle.httparse.specs.Spans.{IsHeaderWithin, IsWithin, header_bytes, span_bytes};
 ghost use Rattle.law_http.specs.Heads as spec;
 
-use crate::MessageRefusal;
 use crate::framing::body_length;
-use desk_base::{Memory, Text};
+use crate::{MessageRefusal, Target};
+use desk_base::Memory;
 use http::Method;
 use http::method::MethodError;
 use http1::fields::KnownFields;
@@ -23,7 +23,7 @@ pub(crate) const MAX_FIELDS: usize = 64;
 #[derive(Drop)]
 pub(crate) struct Framing {
     pub method: Method,
-    pub target: Text,
+    pub target: Target,
     pub last: bool,
     pub length: u64,
 }
@@ -35,11 +35,11 @@ fn method_of(alloc: Global, token: &[u8]) -> Result<Method, Memory>
     Method::from_bytes(alloc, token).map_err(|_| Memory)
 }
 
-fn text_of(alloc: Global, bytes: &[u8]) -> Result<Text, Memory>
+fn target_of(alloc: Global, bytes: &[u8]) -> Result<Target, Memory>
     requires { IsUtf8 bytes.now }
-    ensures { IfOk result (λ text. text ≡ bytes.now) }
+    ensures { IfOk result (λ target. target ≡ bytes.now) }
 {
-    Text::copy_of(alloc, str::from_utf8(bytes).unwrap())
+    Target::copy_of(alloc, str::from_utf8(bytes).unwrap())
 }
 
 // What the parts of a head say.
@@ -64,7 +64,7 @@ fn framed(
     };
     Ok(Ok(Framing {
         method: method_of(alloc, method)?,
-        target: text_of(alloc, target)?,
+        target: target_of(alloc, target)?,
         last: minor == 0 || known.close,
         length,
     }))

@@ -3,8 +3,8 @@
 ghost use Rattle.std.specs.Prelude.{◌≡◌};
 ghost use Rattle.law_http.specs.declared.heard.HearFault.TheVariants as fault;
 
-use crate::{Bytes, MessageRefusal};
-use desk_base::{Memory, Text};
+use crate::{Bytes, MessageRefusal, Target};
+use desk_base::Memory;
 use http::Method;
 use std::alloc::{AllocError, AllocFailed};
 
@@ -13,7 +13,7 @@ use std::alloc::{AllocError, AllocFailed};
 pub struct Request {
     pub method: Method,
     /// The target as it was sent, with nothing decoded.
-    pub target: Text,
+    pub target: Target,
     /// The bytes that Content-Length announces, and none where it is absent.
     pub body: Bytes,
     /// Whether the stream is closed after the response: a request of HTTP/1.0, or one whose Connection fields list

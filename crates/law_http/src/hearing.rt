@@ -32,12 +32,12 @@ fn take_request(
     if bytes.len() < end {
         return Ok(Heard::Refused(MessageRefusal::Truncated));
     }
-    let body = Vec::from_slice(alloc, &bytes.as_slice()[head..end])?;
+    let body = Bytes::copy_of(alloc, &bytes.as_slice()[head..end])?;
     bytes.skip(end);
     Ok(Heard::Request(Request {
         method: framing.method,
         target: framing.target,
-        body: Bytes::from_vec(body),
+        body,
         last: framing.last,
     }))
 }

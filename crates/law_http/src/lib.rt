@@ -21,6 +21,7 @@ mod rest;
 mod route;
 mod status;
 mod streaming;
+mod target;
 
 pub use asking::{Asking, TextAsked};
 pub use bytes::Bytes;
@@ -35,3 +36,4 @@ pub use rest::Rest;
 pub use route::Route;
 pub use status::{Allow, Status};
 pub use streaming::{Served, StreamEnd, serve_stream};
+pub use target::Target;
