@@ -1,10 +1,10 @@
 -- What a stream keeps from one read to the next.
-use Rattle.std.proofs.Common.{◌≡◌, ℕ, ◌≤◌, List, [], ◌++◌, length, Option, None, Some, Ok, refl, sym, ap, ◌∙◌, arith, append_assoc}
-use Rattle.std.specs.Prelude.{option_map, is_err, false, Result, Err}
+use Rattle.std.proofs.Common.{◌≡◌, ℕ, ◌<◌, ◌≤◌, List, [], ◌++◌, length, Option, None, Some, Ok, refl, sym, ap, subst, ◌∙◌, arith, append_assoc}
+use Rattle.std.specs.Prelude.{option_map, is_err, false, IfOk, Result, Err}
 use Rattle.law_http.specs.declared.refusal.MessageRefusal.{MessageRefusal}
 use Rattle.std.specs.Io.KnownBytes.{Keeps, Consumes, IsAtEnd, prepend_known}
 use Rattle.std.proofs.lemmas.List.{append-nil}
-use Rattle.law_http.specs.Cutting.{after_empty_lines, head_length}
+use Rattle.law_http.specs.Cutting.{IsHeadOf, after_empty_lines, head_length}
 use Rattle.law_http.specs.Streams.{KeepsRequest, IsReady}
 use Rattle.law_http.specs.declared.cutting.TheConstants.{MAX_HEAD}
 use Rattle.law_http.proofs.EmptyLines.{after_append, begins_on}
@@ -74,6 +74,12 @@ ready_ended bytes (Some left) begins ended =
       head = ap head_length whole;
       empty = λ _. ended;
     }
+
+-- how long the head is of a slice of the bytes
+pub head_of : (slice bytes : List ℕ) (head : Result ℕ MessageRefusal) → slice ≡ bytes → head ≡ head_length slice
+    → IfOk head (λ n. (0 < n) × (n ≤ length slice)) → IfOk head (λ n. n ≤ MAX_HEAD) → IsHeadOf bytes head
+head_of slice bytes head same value within limit =
+    subst (λ (l : List ℕ). IsHeadOf l head) same (record { value = value; within = within; limit = limit })
 
 pub found_where : (r : Result ℕ MessageRefusal) → is_err r ≡ false → (n : ℕ) × (r ≡ Ok n)
 found_where (Ok n) e = (n, refl)

@@ -4,7 +4,7 @@ use Rattle.std.specs.Prelude.{nat_le, OnErr, if◌then◌else◌}
 use Rattle.std.specs.Io.KnownBytes.{Keeps, IsAtEnd, prepend_known}
 use Rattle.std.proofs.lemmas.List.{append-nil, take-append-le, drop-append-le}
 use Rattle.std.proofs.lemmas.Bool.{le-leb, leb-true, leb-false}
-use Rattle.law_http.specs.Cutting.{after_empty_lines, head_length}
+use Rattle.law_http.specs.Cutting.{IsHeadOf, after_empty_lines, head_length}
 use Rattle.law_http.specs.Heads.{IsSaid}
 use Rattle.law_http.specs.Hearing.{with_body, IsHeardBy, IsHeardFrom, IsHeardOf, IsBodyHeard}
 use Rattle.law_http.specs.Streams.{KeepsRequest, IsReady}
@@ -74,6 +74,10 @@ whole_heard (Some all) bytes rest (Some l) (Some m) n h kept ready found some wi
     let by : IsHeardBy (Ok n) stream (h, rest ++ m) = (said, subst (λ (t : List ℕ). IsSaid t said) (sym head) holds, made_is) in
     let here = heard_from stream (h, rest ++ m) (omega (arith, some, within, length-append bytes l)) (subst (λ r. IsHeardBy r stream (h, rest ++ m)) (sym (ready.head ∙ found)) by) in
     subst (λ (t : List ℕ). IsHeardFrom t (h, rest ++ m)) begins here
+
+-- a head that has come ends within the bytes
+pub head_found : (bytes : List ℕ) (head : Result ℕ MessageRefusal) (n : ℕ) → IsHeadOf bytes head → head ≡ Ok n → IsHeadOf bytes (Ok n)
+head_found bytes head n has is = subst (IsHeadOf bytes) is has
 
 -- where no head can come
 pub refusal_heard : (old : Option (List ℕ)) (bytes : List ℕ) (left : Option (List ℕ)) (refusal : MessageRefusal)

@@ -1,5 +1,5 @@
 -- Where a request begins in a stream, and where its head ends (RFC 9112, sections 2.1 and 2.2).
-use Rattle.std.specs.Prelude.{ℕ, ◌+◌, Bool, true, false, ◌&&◌, ◌==◌, nat_lt, List, [], ◌∷◌, length, take, codes, Option, None, Some, option_map, Result, Ok, Err, if◌then◌else◌}
+use Rattle.std.specs.Prelude.{◌≡◌, ◌<◌, ◌≤◌, ℕ, ◌+◌, Bool, true, false, ◌&&◌, ◌==◌, nat_lt, List, [], ◌∷◌, length, take, codes, Option, None, Some, option_map, Result, Ok, Err, IfOk, if◌then◌else◌}
 use Rattle.std.specs.List.{starts_with}
 use Rattle.law_http.specs.declared.cutting.TheConstants.{MAX_HEAD}
 use Rattle.law_http.specs.declared.refusal.MessageRefusal.{MessageRefusal}
@@ -26,3 +26,9 @@ or_refusal None false = Err HeadTooLong
 -- how long the head is: it ends within so many bytes, and these are all the bytes of the stream
 abbrev pub head_length : List ℕ → Result ℕ MessageRefusal
 head_length bytes = or_refusal (head_end (take MAX_HEAD bytes)) (nat_lt (length bytes) MAX_HEAD)
+
+-- this is how long the head is, which ends within the bytes
+pub record IsHeadOf (bytes : List ℕ) (head : Result ℕ MessageRefusal) : Type 0 where
+  pub value : head ≡ head_length bytes
+  pub within : IfOk head (λ n. (0 < n) × (n ≤ length bytes))
+  pub limit : IfOk head (λ n. n ≤ MAX_HEAD)

@@ -5,7 +5,7 @@ ghost use Rattle.law_http.specs.Hearing as spec;
 ghost use Rattle.law_http.specs.Streams.{HasHearCause, KeepsBytes, KeepsStream};
 
 use crate::buffer::Buffer;
-use crate::cutting::{MAX_HEAD, head_length};
+use crate::cutting::MAX_HEAD;
 use crate::framing::MAX_BODY;
 use crate::head::{Framing, read_head};
 use crate::reading::{await_bytes, await_head};
@@ -85,11 +85,11 @@ fn hear<L: Link>(alloc: Global, link: &mut L, bytes: &mut Buffer) -> Result<Hear
     ensures write_faults { L.write_faults link.new ≡ L.write_faults link.old }
     ensures origin { L.origin link.new ≡ L.origin link.old }
 {
-    await_head(link, bytes)?;
+    let head = await_head(link, bytes)?;
     if bytes.len() == 0 {
         return Ok(Heard::End);
     }
-    match head_length(bytes.as_slice()) {
+    match head {
         Ok(head) => hear_body(alloc, link, bytes, head),
         Err(refusal) => Ok(Heard::Refused(refusal)),
     }

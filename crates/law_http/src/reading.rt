@@ -4,12 +4,12 @@ ghost use Rattle.std.specs.Prelude.{◌≡◌, ◌≤◌, ◌<◌, ◌+◌, max,
 ghost use Rattle.std.specs.Io.KnownBytes.{IsAtEnd};
 ghost use Rattle.std.specs.Vec.{vec_len};
 ghost use Rattle.desk_base.specs.Streams.{LowersRoom};
-ghost use Rattle.law_http.specs.Cutting.{after_empty_lines};
+ghost use Rattle.law_http.specs.Cutting.{IsHeadOf, after_empty_lines};
 ghost use Rattle.law_http.specs.Streams as spec;
 
-use crate::HearFault;
 use crate::buffer::Buffer;
 use crate::cutting::{MAX_HEAD, head_length, skip_empty_lines};
+use crate::{HearFault, MessageRefusal};
 use desk_base::Link;
 
 #[tactic(auto, using(crate::proofs::EmptyLines::after_after, crate::proofs::EmptyLines::after_short))]
@@ -32,11 +32,15 @@ fn read_on<L: Link>(link: &mut L, bytes: &mut Buffer) -> Result<usize, HearFault
     Ok(count)
 }
 
-/// Reads until a head has come, or what can't become one. Empty lines in front are taken away.
+/// Reads until a head has come, or what can't become one, and says how long it is. Empty lines in front are taken away.
 #[tactic(auto, using(crate::proofs::EmptyLines::after_after, crate::proofs::EmptyLines::after_short))]
-pub(crate) fn await_head<L: Link>(link: &mut L, bytes: &mut Buffer) -> Result<(), HearFault>
+pub(crate) fn await_head<L: Link>(
+    link: &mut L,
+    bytes: &mut Buffer,
+) -> Result<Result<usize, MessageRefusal>, HearFault>
     ensures stream { spec.KeepsStream bytes.old (L.left link.old) bytes.new (L.left link.new) }
     ensures ready { OnOk result (spec.IsReady bytes.new (L.left link.new)) }
+    ensures head { IfOk result (λ head. IsHeadOf bytes.new head) }
     ensures taken { length bytes.new + L.room link.new ≤ length bytes.old + L.room link.old }
     ensures held { length bytes.new ≤ max (length bytes.old) MAX_HEAD }
     ensures cause { spec.HasHearCause (L.read_faults link.old) (L.read_faults link.new) result }
@@ -45,13 +49,15 @@ pub(crate) fn await_head<L: Link>(link: &mut L, bytes: &mut Buffer) -> Result<()
     ensures origin { L.origin link.new ≡ L.origin link.old }
 {
     skip_empty_lines(bytes);
-    while bytes.len() < MAX_HEAD && head_length(bytes.as_slice()).is_err() {
+    let mut head = head_length(bytes.as_slice());
+    while bytes.len() < MAX_HEAD && head.is_err() {
         let count = read_on(link, bytes)?;
+        head = head_length(bytes.as_slice());
         if count == 0 {
             break;
         }
     }
-    Ok(())
+    Ok(head)
 }
 
 /// Reads until so many bytes have come, or the stream has ended.

@@ -1,24 +1,24 @@
-use Rattle.std.proofs.Common.{rules, sym, ap, ◌∙◌}
-use Rattle.law_http.specs.Cutting.{head_length}
+use Rattle.std.proofs.Common.{rules, sym, ◌∙◌}
 use Rattle.law_http.proofs.Kept.{keeps_request, request_then}
 use Rattle.law_http.proofs.SaidHeads.{if_ok_on}
-use Rattle.law_http.proofs.Members.{whole_heard, refusal_heard, on_err_on}
+use Rattle.law_http.proofs.Members.{head_found, whole_heard, refusal_heard, on_err_on}
 use Rattle.law_http.proofs.hearing.hear.Goals as goal
 
 pub returns-in-Ok-clause-heard : goal.returns-in-Ok-clause-heard
 returns-in-Ok-clause-heard g c =
-    let found = ap head_length (sym c.as_slice.ensures) ∙ sym c.head_length.ensures.value ∙ c.in-Ok.is in
+    let found = sym c.in_ok-head.ensures.head.value ∙ c.in-Ok.is in
+    let within = (head_found _ _ _ c.in_ok-head.ensures.head c.in-Ok.is).within in
     if_ok_on c.hear_body.result
     (λ h is. whole_heard _ c.await_head.new.bytes c.hear_body.new.bytes (g.L.Link.left c.await_head.new.link) (g.L.Link.left c.hear_body.new.link) c.in-Ok.head h
-    c.in_ok-await_head.ensures.stream c.in_ok-await_head.ensures.ready found c.in-Ok.ensures.within.0 (search rules) is)
+    c.in_ok-head.ensures.stream c.in_ok-head.ensures.ready found within.0 within.1 is)
     c.hear_body.ensures.heard
 
 pub returns-in-Ok-clause-kept : goal.returns-in-Ok-clause-kept
 returns-in-Ok-clause-kept g c =
-    on_err_on c.hear_body.result (λ kept. request_then _ _ _ c.in_ok-await_head.ensures.stream (keeps_request _ _ kept)) c.hear_body.ensures.kept
+    on_err_on c.hear_body.result (λ kept. request_then _ _ _ c.in_ok-head.ensures.stream (keeps_request _ _ kept)) c.hear_body.ensures.kept
 
 pub returns-in-Err-clause-heard : goal.returns-in-Err-clause-heard
 returns-in-Err-clause-heard g c =
-    let found = ap head_length (sym c.as_slice.ensures) ∙ sym c.head_length.ensures.value ∙ c.in-Err.is in
+    let found = sym c.in_ok-head.ensures.head.value ∙ c.in-Err.is in
     refusal_heard _ c.await_head.new.bytes (g.L.Link.left c.await_head.new.link) c.in-Err.refusal
-    c.in_ok-await_head.ensures.stream c.in_ok-await_head.ensures.ready found (search rules)
+    c.in_ok-head.ensures.stream c.in_ok-head.ensures.ready found (search rules)
