@@ -62,9 +62,10 @@ fn route_at(path: &str) -> Option<Route>
 fn has_method(method: &str, allow: Allow) -> bool
     ensures { result ≡ spec.has_method method.now allow }
 {
-    match allow {
-        Allow::Get => method == "GET",
-        Allow::Post => method == "POST",
+    match (allow, method.as_bytes()) {
+        (Allow::Get, [b'G', b'E', b'T']) => true,
+        (Allow::Post, [b'P', b'O', b'S', b'T']) => true,
+        _ => false,
     }
 }
 
