@@ -10,6 +10,7 @@ ghost use Rattle.law_register.specs.Law.Spelling.{is_well_spelled};
 ghost use Rattle.law_http.specs.declared.asking.AskFail.TheVariants as fails;
 
 use crate::drafts::{PreviewAsked, drafter_in, preview_in};
+use crate::route::{judged, route_at, split_target, with_method};
 use crate::{Bytes, Query, Request, RequestRefusal, Route};
 use akn_json::{Asked, FormFault, FormRule, ReadFail, read_command};
 use desk_base::{Day, Memory, Text, decimal_number};
@@ -189,8 +190,9 @@ impl Request {
         ensures value { spec.Gives result (spec.asking_of self.now) }
         ensures spelled { IfOk result spec.IsSpelled }
     {
-        let route = self.route()?;
-        let query = self.read_query(alloc, route)??;
+        let (path, query) = split_target(self.target.as_str());
+        let route = with_method(self.method.as_str(), route_at(path))?;
+        let query = judged(Query::from_text(alloc, query)?, route)?;
         match route {
             Route::Front => Ok(Asking::Front),
             Route::Text => Ok(Asking::Text(text_in(alloc, &query)?)),

@@ -35,8 +35,8 @@ impl Route {
     }
 }
 
-// The target up to the first `?`, and what stands behind that.
-fn split_target(target: &str) -> (&str, &str)
+/// The target up to the first `?`, and what stands behind that.
+pub(crate) fn split_target(target: &str) -> (&str, &str)
     ensures path { result.0.now ≡ spec.path_of target.now }
     ensures query { result.1.now ≡ spec.query_of target.now }
 {
@@ -46,7 +46,7 @@ fn split_target(target: &str) -> (&str, &str)
     }
 }
 
-fn route_at(path: &str) -> Option<Route>
+pub(crate) fn route_at(path: &str) -> Option<Route>
     ensures { result ≡ spec.route_at path.now }
 {
     match path {
@@ -69,7 +69,7 @@ fn has_method(method: &str, allow: Allow) -> bool
     }
 }
 
-fn with_method(method: &str, route: Option<Route>) -> Result<Route, RequestRefusal>
+pub(crate) fn with_method(method: &str, route: Option<Route>) -> Result<Route, RequestRefusal>
     ensures { result ≡ spec.with_method method.now route }
 {
     match route {
@@ -98,7 +98,7 @@ fn has_keys_of(query: &Query, route: Route) -> bool
     }
 }
 
-fn judged(query: Query, route: Route) -> Result<Query, RequestRefusal>
+pub(crate) fn judged(query: Query, route: Route) -> Result<Query, RequestRefusal>
     ensures { result ≡ spec.judged route query }
 {
     if has_keys_of(&query, route) {
