@@ -106,3 +106,11 @@ twice_apart (v ∷ vs) ws told =
         | inr later ↦ rest.between w later
       ];
     }
+
+-- texts of which none stands twice, and others that are none of them
+pub once_together : (vs ws : List (List ℕ)) → one_twice vs ≡ false → one_twice ws ≡ false → ((w : List ℕ) → is_among w vs ≡ true → is_among w ws ≡ false) → one_twice (vs ++ ws) ≡ false
+once_together [] ws first second apart = second
+once_together (v ∷ vs) ws first second apart =
+    neither (is_among v (vs ++ ws)) _
+    (list_any-append (bytes_eq v) vs ws ∙ neither (is_among v vs) _ (none_left _ _ first) (apart v (or_left _ _ (equal_text v v refl))))
+    (once_together vs ws (none_right (is_among v vs) _ first) second (λ w found. apart w (or_right (bytes_eq w v) _ found)))

@@ -19,18 +19,10 @@ use Rattle.act_tree.specs.Faults.{owns, all_owns, eids, all_eids}
 use Rattle.act_tree.specs.Numbered.{is_numbered, are_numbered}
 use Rattle.act_tree.specs.Provisions.{Own, Provision}
 use Rattle.act_tree.specs.Wids.{is_among, one_twice}
-use Rattle.act_tree.proofs.Frames.{or_left, or_right, none_left, none_right, neither, Apart, twice_apart}
+use Rattle.act_tree.proofs.Frames.{or_left, or_right, none_left, none_right, neither, once_together, Apart, twice_apart}
 use Rattle.act_tree.proofs.Nums.{both}
 use Rattle.act_tree.proofs.Texts.{same_text, equal_text}
 use Rattle.act_tree.proofs.Ways.{spelled, spelled_with, below_is, text_behind}
-
--- texts of which none stands twice, and others that are none of them
-pub once_together : (vs ws : List (List ℕ)) → one_twice vs ≡ false → one_twice ws ≡ false → ((w : List ℕ) → is_among w vs ≡ true → is_among w ws ≡ false) → one_twice (vs ++ ws) ≡ false
-once_together [] ws first second apart = second
-once_together (v ∷ vs) ws first second apart =
-    neither (is_among v (vs ++ ws)) _
-    (list_any-append (bytes_eq v) vs ws ∙ neither (is_among v vs) _ (none_left _ _ first) (apart v (or_left _ _ (equal_text v v refl))))
-    (once_together vs ws (none_right (is_among v vs) _ first) second (λ w found. apart w (or_right (bytes_eq w v) _ found)))
 
 -- a text is among others in front or behind
 among_front : (w : List ℕ) (vs ws : List (List ℕ)) → is_among w vs ≡ true → is_among w (vs ++ ws) ≡ true

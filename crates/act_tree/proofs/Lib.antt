@@ -54,7 +54,8 @@ pub mod HowDeep
 pub mod LevelsBegun
 pub mod LevelsFound
 pub mod LevelsNoted
-pub mod Copying
 pub mod NotAsMany
 pub mod KeptNumbers
 pub mod LevelsLeft
+pub mod WidsDiffer
+pub mod CopiedTrees

@@ -1,5 +1,5 @@
 -- A node of an arena is parted.
-use Rattle.std.proofs.Common.{◌≡◌, ◌∙◌, sym, ap, subst, ℕ, ◌+◌, ◌<◌, ◌≤◌, ◌==◌, ◌^◌, true, false, cond, ◌||◌, List, [], ◌∷◌, ◌++◌, map, drop, Some, None, Result, Ok, Err, OnOk, OnErr, inl, inr, arith}
+use Rattle.std.proofs.Common.{◌≡◌, ◌∙◌, sym, ap, subst, ℕ, ◌+◌, ◌<◌, ◌≤◌, ◌==◌, ◌^◌, true, false, cond, ◌||◌, List, [], ◌∷◌, ◌++◌, drop, length, Option, Some, None, Result, Ok, Err, OnOk, OnErr, inl, inr, arith}
 use Rattle.std.specs.List.{list_any}
 use Rattle.std.specs.Str.{bytes_eq}
 use Rattle.std.proofs.lemmas.Bool.{cases_Bool}
@@ -17,10 +17,9 @@ use Rattle.act_tree.specs.Provisions.{Own, Provision}
 use Rattle.act_tree.specs.Wids.{all_wids, is_among}
 use Rattle.act_tree.specs.Arena.{Laid, provision_in, above_in, below_in, branches_below, branch_from, climbs, IsWhole}
 use Rattle.act_tree.specs.Parted.{CanPart, IsParted}
-use Rattle.act_tree.specs.Slots.{at, number, size, laid_of, provision_of}
+use Rattle.act_tree.specs.Slots.{at, number, size, laid, laid_of, provision_of}
 use Rattle.act_tree.proofs.BroughtWids.{none_throughout, brought_apart}
 use Rattle.act_tree.proofs.Building.{Holds}
-use Rattle.act_tree.proofs.Copying.{same_at, same_size, copy_whole}
 use Rattle.act_tree.proofs.Frames.{or_left}
 use Rattle.act_tree.proofs.LaidDown.{laid_past, laid_within}
 use Rattle.act_tree.proofs.ListedNumbers.{drop_listed, some_listed}
@@ -90,10 +89,11 @@ parted_arena old new i place head s whole climbed other fresh above below num nu
 pub unchanged : (old new : Arena) → IsWhole (at old) (number old) (size old) → new.slots.items ≡ old.slots.items → ((w : List ℕ) → number new w ≡ number old w)
     → Holds new (branches_below (size old) (at old) (below_in (at old 0)))
 unchanged old new whole slots numbers =
-    let same : map laid_of new.slots.items ≡ map laid_of old.slots.items = ap (map laid_of) slots in
+    let P : (List ℕ → Option ℕ) → Type 0 = λ f. IsWhole (at new) f (size new) in
+    let Q : List Slot → Type 0 = λ ss. IsWhole (laid ss) (number old) (length ss) in
     record {
-      whole = copy_whole new old same numbers whole;
-      reads = ap (λ n. branches_below n (at new) (below_in (at new 0))) (same_size new old same) ∙ ap (λ g. branches_below (size old) g (below_in (g 0))) (same_at new old same);
+      whole = subst P (λ i w. sym (numbers w) i) (subst Q (sym slots) whole);
+      reads = ap (λ ss. branches_below (length ss) (laid ss) (below_in (laid ss 0))) slots;
     }
 
 -- in the one case and in the other

@@ -27,7 +27,8 @@ nodes_from t ids i d within =
     ap (λ js. branches_of (map (branch_at t) js)) (drop_more ids i d within)
     ∙ ap (λ b. more_branches b (branches_of (map (branch_at t) (drop (i + 1) ids)))) (branch_is t (get_or ids i d))
 
-one_low : (t : Tree) (ids : List ℕ) (i d : ℕ) → i < length ids → height (branch_at t (get_or ids i d)) ≤ heights (branches_of (map (branch_at t) ids))
+-- none of some nodes is higher than they are together
+pub one_low : (t : Tree) (ids : List ℕ) (i d : ℕ) → i < length ids → height (branch_at t (get_or ids i d)) ≤ heights (branches_of (map (branch_at t) ids))
 one_low t [] i d within = absurd (omega arith)
 one_low t (j ∷ ids) zero d within = omega arith
 one_low t (j ∷ ids) (suc i) d within = omega (arith, one_low t ids i d (omega arith))

@@ -64,42 +64,12 @@ fn leave_out(numbers: &mut Vec<NodeId>, id: NodeId)
     numbers.retain(|number| *number != id);
 }
 
-/// The same index.
-pub fn copy_numbers(
-    numbers: &IndexMap<Vec<u8>, NodeId>,
-) -> Result<IndexMap<Vec<u8>, NodeId>, Memory>
-    ensures { IfOk result (λ copy. (w : List ℕ)
-        → get_by (λ k. bytes_eq w k.items) copy ≡ get_by (λ k. bytes_eq w k.items) numbers.now) }
-{
-    Ok(numbers.clone()?)
-}
-
-impl Slot {
-    ghost use Rattle.act_tree.specs.Slots.{laid_of};
-
-    /// The same provision, at the same place.
-    pub fn copy(&self, alloc: Global) -> Result<Slot, Memory>
-        ensures { IfOk result (λ s. laid_of s ≡ laid_of self.now) }
-    {
-        Ok(Slot {
-            wid: self.wid.copy()?,
-            element: self.element,
-            num: self.num.copy(),
-            heading: self.heading.copy()?,
-            content: self.content.copy()?,
-            refs: self.refs.copy(alloc)?,
-            above: self.above,
-            below: self.below.as_slice().to_vec(alloc)?,
-        })
-    }
-}
-
 impl Arena {
-    ghost use Rattle.std.specs.Prelude.{ℕ, ◌==◌, not, false, filter, map};
+    ghost use Rattle.std.specs.Prelude.{ℕ, ◌==◌, not, false, filter};
     ghost use Rattle.std.specs.List.{All, list_any};
     ghost use Rattle.act_tree.specs.Arena.{climbs, climbs_past, above_in, below_in};
     ghost use Rattle.act_tree.specs.TakenOff.{with_above, with_below, IsTakenOff, IsEmptied};
-    ghost use Rattle.act_tree.specs.Slots.{at, number, size, laid_of, LeadsTo};
+    ghost use Rattle.act_tree.specs.Slots.{at, number, size, LeadsTo};
 
     /// No provisions. It takes no memory.
     pub fn new(alloc: Global) -> Arena
@@ -136,21 +106,6 @@ impl Arena {
             → self.new.slots.items ≡ slice_set self.old.slots.items id (record s { below = below }) }
     {
         self.slots[id.place()].below = below;
-    }
-
-    /// The same arena, with the same numbers.
-    pub fn copy(&self, alloc: Global) -> Result<Arena, Memory>
-        ensures laid { IfOk result (λ a. map laid_of a.slots.items ≡ map laid_of self.now.slots.items) }
-        ensures numbers { IfOk result (λ a. (w : List ℕ) → number a w ≡ number self.now w) }
-    {
-        let mut slots = Vec::with_capacity(alloc, self.slots.len())?;
-        for slot in &self.slots {
-            slots.push(slot.copy(alloc)?)?;
-        }
-        Ok(Arena {
-            slots,
-            numbers: copy_numbers(&self.numbers)?,
-        })
     }
 
     /// Whether the way up from a number ends at the root.

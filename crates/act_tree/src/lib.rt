@@ -4,6 +4,7 @@
 mod arena;
 mod build_fault;
 mod cause;
+mod copying;
 mod depths;
 mod eid;
 mod eids;

@@ -7,6 +7,7 @@ ghost use Rattle.act_tree.specs.EidsOfWids.{level_of_own};
 ghost use Rattle.act_tree.specs.Slots.{at, number, provision_of, size};
 
 use crate::arena::{Arena, Slot};
+use crate::copying::lay_again;
 use crate::depths::count_up;
 use crate::eids::eid_of_number;
 use crate::grafting::{bringer, place_in};
@@ -140,16 +141,18 @@ impl Tree {
         })
     }
 
-    /// The same tree: each node keeps its id.
+    /// The same tree. Only the text that stands is laid down again, from the root down, and what its provisions say is
+    /// shared. A node has another id there: it is found by its wId.
     pub fn copy(&self, alloc: Global) -> Result<Tree, Memory>
-        ensures tree { IfOk result (λ t. tree_view t ≡ tree_view self.now) }
-        ensures nodes { IfOk result (λ t. (k : ℕ) → has_node t k ≡ has_node self.now k) }
-        ensures says { IfOk result (λ t. (k : ℕ) → provision_at t k ≡ provision_at self.now k) }
+        ensures { IfOk result (λ t. tree_view t ≡ tree_view self.now) }
     {
+        let mut arena = Arena::new(alloc);
+        let root = self.root();
+        let _root = lay_again(alloc, &mut arena, self, root, root)?;
         Ok(Tree {
             numbering: self.numbering,
             changes: self.changes,
-            arena: self.arena.copy(alloc)?,
+            arena,
         })
     }
 

@@ -29,7 +29,7 @@ use Rattle.textual_mods.proofs.NumsTaken.{kept_hit, hit_both, few_before}
 use Rattle.textual_mods.proofs.OnePlace.{first_found, found_past, first_of, beneath_it, behind_it}
 use Rattle.textual_mods.proofs.PlacedLevels.{In, in_any, any_in, all_in, in_front, in_back, names, names_are, same_placed, hit, hits, some_hit, one_hit, two_hits, at_root, at_node}
 use Rattle.textual_mods.proofs.Substituted.{kids_are}
-use Rattle.textual_mods.proofs.WidsDiffer.{wids_differ, root_apart}
+use Rattle.act_tree.proofs.WidsDiffer.{wids_differ, root_apart}
 
 module _ (n : Numbering) where
   -- what is placed at what is found is placed in the text

@@ -21,7 +21,7 @@ use Rattle.textual_mods.specs.Substitutions.{text_left}
 use Rattle.textual_mods.proofs.InsertedTrees.{counts_owns}
 use Rattle.textual_mods.proofs.OnePlace.{all_among}
 use Rattle.textual_mods.proofs.Removals.{counts_less}
-use Rattle.textual_mods.proofs.WidsDiffer.{wids_differ}
+use Rattle.act_tree.proofs.WidsDiffer.{wids_differ}
 
 mutual
   wids_of : (b : Branch Provision) → length (wids b) ≡ count b

@@ -40,7 +40,7 @@ use Rattle.textual_mods.proofs.JoinLimits.{times, times-append, few_once, once_f
 use Rattle.textual_mods.proofs.Limits.{is_placed, is_short, fault_by, faultless}
 use Rattle.textual_mods.proofs.OnePlace.{held_found}
 use Rattle.textual_mods.proofs.Starting.{owns_again}
-use Rattle.textual_mods.proofs.WidsDiffer.{wids_differ}
+use Rattle.act_tree.proofs.WidsDiffer.{wids_differ}
 
 pub heights_owns : (bs : Branches Provision) → heights (all_owns bs) ≡ heights bs
 heights_owns no_branches = refl

@@ -16,7 +16,7 @@ use Rattle.act_tree.proofs.Walking.{branch_is}
 use Rattle.textual_mods.specs.Edits.{unless_for, within_limits}
 use Rattle.textual_mods.proofs.JoinLimits.{fault_of_join}
 use Rattle.textual_mods.proofs.Limits.{faultless, fault_by}
-use Rattle.textual_mods.proofs.WidsDiffer.{wids_differ}
+use Rattle.act_tree.proofs.WidsDiffer.{wids_differ}
 
 module _ (t : Tree) (id next : ℕ) (content : List ℕ) (fits : first_cause (tree_view t) ≡ None) (node : has_node t id ≡ true) (other : id ≡ 0 → ⊥)
     (follows : next_of (provision_at t id).wid (tree_view t).body ≡ Some (branch (provision_at t next) (below_at t next))) where

@@ -34,7 +34,6 @@ pub mod Starting
 pub mod Sublists
 pub mod Swapping
 pub mod TreesAfter
-pub mod WidsDiffer
 pub mod WidsLeft
 pub mod Equality
 pub mod BodyReplaced

@@ -27,7 +27,7 @@ use Rattle.textual_mods.specs.Edits.{unless_for, within_limits}
 use Rattle.textual_mods.specs.NumChanges.{Placed, placed_in, level_with, collide, is_renumbered, num_taken, renumbering_fault}
 use Rattle.textual_mods.proofs.Limits.{IsPlaced, is_placed, is_short, fault_by, faultless}
 use Rattle.textual_mods.proofs.PlacedLevels.{In, in_any, any_in, names, names_are, hit, hits, two_hits, TwoHit, two_found, few_told, differ_told}
-use Rattle.textual_mods.proofs.WidsDiffer.{wids_differ, root_apart}
+use Rattle.act_tree.proofs.WidsDiffer.{wids_differ, root_apart}
 
 -- a wId that no pair names keeps its num
 pub kept_num : (pairs : List (List ℕ × List ℕ)) (wid num : List ℕ) → is_among wid (map (λ pair. pair.0) pairs) ≡ false → num_given pairs wid num ≡ num

@@ -33,7 +33,7 @@ use Rattle.textual_mods.proofs.JoinLimits.{times, few_once, once_few, or_none}
 use Rattle.textual_mods.proofs.Limits.{IsPlaced, is_placed, is_short, fault_by, faultless}
 use Rattle.textual_mods.proofs.OnePlace.{held_found}
 use Rattle.textual_mods.proofs.PartedLimits.{alone, split, added, begun_split, heights_split, counts_split, writes_long, short_split, long_split, alike_split}
-use Rattle.textual_mods.proofs.WidsDiffer.{wids_differ}
+use Rattle.act_tree.proofs.WidsDiffer.{wids_differ}
 
 -- texts that stand as often
 same_twice : (xs ys : List (List ℕ)) → ((x : List ℕ) → times x xs ≡ times x ys) → one_twice xs ≡ one_twice ys

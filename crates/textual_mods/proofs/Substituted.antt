@@ -34,7 +34,7 @@ use Rattle.textual_mods.proofs.Limits.{faultless}
 use Rattle.textual_mods.proofs.OnePlace.{held_found}
 use Rattle.textual_mods.proofs.PutInstead.{ChildAt, differ_without, at_children, IsPutInstead, put_instead}
 use Rattle.textual_mods.proofs.Removals.{fits_without}
-use Rattle.textual_mods.proofs.WidsDiffer.{wids_differ}
+use Rattle.act_tree.proofs.WidsDiffer.{wids_differ}
 
 -- what is left of a tree that keeps the limits keeps them
 pub clean_left : (t : Tree) (gone : Option ℕ) → first_cause (tree_view t) ≡ None → first_fault (tree_view t).numbering (all_owns (text_left t gone)) ≡ None

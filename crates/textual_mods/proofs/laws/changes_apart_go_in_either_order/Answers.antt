@@ -1,6 +1,6 @@
 use Rattle.act_tree.specs.Seen.{tree_view}
 use Rattle.textual_mods.proofs.EitherOrder.{changes_apart}
-use Rattle.textual_mods.proofs.WidsDiffer.{wids_differ}
+use Rattle.act_tree.proofs.WidsDiffer.{wids_differ}
 use Rattle.textual_mods.proofs.laws.changes_apart_go_in_either_order.Goals as goal
 
 pub returns : goal.returns

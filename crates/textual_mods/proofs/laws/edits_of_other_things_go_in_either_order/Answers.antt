@@ -1,6 +1,6 @@
 use Rattle.act_tree.specs.Seen.{tree_view}
 use Rattle.textual_mods.proofs.TreesAfter.{InEitherOrder, in_either_order}
-use Rattle.textual_mods.proofs.WidsDiffer.{wids_differ}
+use Rattle.act_tree.proofs.WidsDiffer.{wids_differ}
 use Rattle.textual_mods.proofs.laws.edits_of_other_things_go_in_either_order.Goals as goal
 
 pub returns-clause-made : goal.returns-clause-made

@@ -1,6 +1,6 @@
 use Rattle.act_tree.specs.Seen.{tree_view}
 use Rattle.textual_mods.proofs.TreesAfter.{split_taken_back}
-use Rattle.textual_mods.proofs.WidsDiffer.{wids_differ}
+use Rattle.act_tree.proofs.WidsDiffer.{wids_differ}
 use Rattle.textual_mods.proofs.laws.join_undoes_split.Goals as goal
 
 pub returns-clause-undone : goal.returns-clause-undone

@@ -1,6 +1,6 @@
 use Rattle.act_tree.specs.Seen.{tree_view}
 use Rattle.textual_mods.proofs.TreesAfter.{nums_taken_back}
-use Rattle.textual_mods.proofs.WidsDiffer.{wids_differ}
+use Rattle.act_tree.proofs.WidsDiffer.{wids_differ}
 use Rattle.textual_mods.proofs.laws.nums_before_undo_nums.Goals as goal
 
 pub returns-clause-undone : goal.returns-clause-undone

@@ -1,6 +1,6 @@
 use Rattle.act_tree.specs.Seen.{tree_view}
 use Rattle.textual_mods.proofs.TreesAfter.{left_in_tree}
-use Rattle.textual_mods.proofs.WidsDiffer.{wids_differ}
+use Rattle.act_tree.proofs.WidsDiffer.{wids_differ}
 use Rattle.textual_mods.proofs.laws.what_stays_keeps_its_wid.Goals as goal
 
 pub returns : goal.returns

@@ -1,4 +1,4 @@
-use Rattle.textual_mods.proofs.WidsDiffer.{wids_differ}
+use Rattle.act_tree.proofs.WidsDiffer.{wids_differ}
 use Rattle.textual_mods.proofs.laws.wids_are_distinct.Goals as goal
 
 pub returns : goal.returns

@@ -1,33 +1,24 @@
 -- No two provisions of a tree have one wId: the index leads from a wId to one number, and the way up from a number is one.
-use Rattle.std.proofs.Common.{◌≡◌, ◌∙◌, sym, ap, refl, ℕ, zero, suc, ◌+◌, ◌-◌, ◌<◌, ◌≤◌, ◌==◌, true, false, ◌&&◌, List, [], ◌∷◌, ◌++◌, Option, Some, ◌⊎◌, inl, inr, arith}
+use Rattle.std.proofs.Common.{◌≡◌, ◌∙◌, sym, ap, refl, ℕ, zero, suc, ◌+◌, ◌-◌, ◌<◌, ◌≤◌, ◌==◌, true, false, ◌&&◌, List, [], ◌∷◌, Option, Some, ◌⊎◌, inl, inr, arith}
 use Rattle.std.specs.List.{list_any}
 use Rattle.std.specs.Str.{bytes_eq}
 use Rattle.std.proofs.lemmas.Bool.{cases_Bool, cases_order, or_cases, and_parts, eq-eqb, eqb-true}
 use Rattle.std.proofs.Math.Nat.{zero-add, suc-add}
-use Rattle.std.proofs.lemmas.List.Folds.{list_any-append}
-use Rattle.act_tree.specs.Arena.{Laid, provision_in, above_in, below_in, branches_below, hangs_on, climbs, number_twice, Stands, StandAll, IsWhole}
+use Rattle.act_tree.specs.Arena.{Laid, provision_in, above_in, below_in, branches_below, branch_from, hangs_on, climbs, number_twice, Stands, StandAll, IsWhole}
 use Rattle.act_tree.specs.Branches.{Branch, Branches, branch, no_branches, more_branches}
 use Rattle.act_tree.specs.Changes.{holds, any_holds, root_wid}
 use Rattle.act_tree.specs.Provisions.{Provision}
 use Rattle.act_tree.specs.Seen.{tree_view}
 use Rattle.act_tree.specs.Slots.{at, number, size}
-use Rattle.act_tree.specs.Wids.{all_wids, is_among, one_twice}
+use Rattle.act_tree.specs.Wids.{wids, all_wids, is_among, one_twice}
 use Rattle.act_tree.specs.declared.tree.Tree.{Tree}
 use Rattle.act_tree.proofs.Climbing.{has_number}
-use Rattle.act_tree.proofs.Frames.{or_left, or_right, none_left, none_right, neither}
+use Rattle.act_tree.proofs.Frames.{or_left, or_right, none_left, none_right, neither, once_together}
+use Rattle.act_tree.proofs.PutIn.{wids_held, all_wids_held}
 use Rattle.act_tree.proofs.SiblingNodes.{IsChild, listed_child}
 use Rattle.act_tree.proofs.Standing.{stands_below}
-use Rattle.act_tree.proofs.Texts.{same_text, equal_text}
+use Rattle.act_tree.proofs.Texts.{same_text}
 use Rattle.act_tree.proofs.TreeNodes.{root_climbs}
-use Rattle.textual_mods.proofs.OnePlace.{held_among, all_among}
-
--- texts of which none stands twice, and others that are none of them
-once_together : (vs ws : List (List ℕ)) → one_twice vs ≡ false → one_twice ws ≡ false → ((w : List ℕ) → is_among w vs ≡ true → is_among w ws ≡ false) → one_twice (vs ++ ws) ≡ false
-once_together [] ws first second apart = second
-once_together (v ∷ vs) ws first second apart =
-    neither (is_among v (vs ++ ws)) _
-    (list_any-append (bytes_eq v) vs ws ∙ neither (is_among v vs) _ (none_left _ _ first) (apart v (or_left _ _ (equal_text v v refl))))
-    (once_together vs ws (none_right (is_among v vs) _ first) second (λ w found. apart w (or_right (bytes_eq w v) _ found)))
 
 module _ (at : ℕ → Option Laid) (number : List ℕ → Option ℕ) (size : ℕ) (whole : IsWhole at number size) where
   -- the number so many steps up from another
@@ -134,7 +125,7 @@ module _ (at : ℕ → Option Laid) (number : List ℕ → Option ℕ) (size : �
   not_beneath_itself p below u k climbed s =
       elim (cases_Bool (is_among p.wid (all_wids below))) [
         | inl found ↦
-            let among : ComesAmong k k (below_in (at k)) = comes_among below k k p.wid (below_in (at k)) s.1.1 (all_among p.wid below ∙ found) s.1.0 in
+            let among : ComesAmong k k (below_in (at k)) = comes_among below k k p.wid (below_in (at k)) s.1.1 (sym (all_wids_held p.wid below) ∙ found) s.1.0 in
             let child : IsChild at number size whole k among.to = listed_child at number size whole k among.to climbed among.listed in
             absurd (no_round k among.to among.steps among.way among.above climbed child.other)
         | inr none ↦ none
@@ -151,30 +142,39 @@ module _ (at : ℕ → Option Laid) (number : List ℕ → Option ℕ) (size : �
       (neither (is_among p.wid (all_wids below)) _ (not_beneath_itself p below u k child.climbed s.0)
       (differ below k (below_in (at k)) child.climbed s.0.1.1 (whole.once k) (λ j found. found)))
       (differ bs u ids climbed s.1 (none_right (list_any (λ j. j == k) ids) _ once) (λ j found. listed j (or_right (k == j) _ found)))
-      (λ w found. apart w child (held_among w (branch p below) ∙ found) (cases_Bool (is_among w (all_wids bs))))
+      (λ w found. apart w child (sym (wids_held w (branch p below)) ∙ found) (cases_Bool (is_among w (all_wids bs))))
     where
       apart : (w : List ℕ) → IsChild at number size whole u k → holds w (branch p below) ≡ true → (is_among w (all_wids bs) ≡ true) ⊎ (is_among w (all_wids bs) ≡ false) → is_among w (all_wids bs) ≡ false
       apart w child held (inr none) = none
       apart w child held (inl found) =
           let leads : (i : ℕ) × (number w ≡ Some i) = has_number at number (branch p below) w u k s.0 held in
           let one : ComesUp leads.0 k = comes_up (branch p below) u k leads.0 w s.0 held leads.1 in
-          let other : ComesAmong leads.0 u ids = comes_among bs u leads.0 w ids s.1 (all_among w bs ∙ found) leads.1 in
+          let other : ComesAmong leads.0 u ids = comes_among bs u leads.0 w ids s.1 (sym (all_wids_held w bs) ∙ found) leads.1 in
           let other_child : IsChild at number size whole u other.to = listed_child at number size whole u other.to climbed (listed other.to (or_right (k == other.to) _ other.listed)) in
           let same : k ≡ other.to = one_sibling u leads.0 k other.to one.steps other.steps climbed one.way other.way child.above other.above child.other other_child.other in
           absurd (let never : true ≡ false = sym other.listed ∙ ap (λ x. list_any (λ j. j == x) ids) (sym same) ∙ none_left (list_any (λ j. j == k) ids) _ once in cc)
+
+  -- no wId stands twice in the text, and none is the root's
+  pub text_differs : one_twice (wids (branch_from size at 0)) ≡ false
+  text_differs =
+      let body : Branches Provision = branches_below size at (below_in (at 0)) in
+      let climbed : climbs size at 0 ≡ true = root_climbs at number size whole in
+      neither _ (one_twice (all_wids body)) (not_beneath_itself (provision_in (at 0)) body 0 0 climbed whole.stands)
+      (differ body 0 (below_in (at 0)) climbed whole.stands.1.1 (whole.once 0) (λ j found. found))
 
 -- no two provisions of a tree have one wId
 pub wids_differ : (t : Tree) → one_twice (all_wids (tree_view t).body) ≡ false
 unfolding tree_view
 wids_differ t =
-    differ (at t.arena) (number t.arena) (size t.arena) t.whole (branches_below (size t.arena) (at t.arena) (below_in (at t.arena 0))) 0 (below_in (at t.arena 0))
-    (root_climbs (at t.arena) (number t.arena) (size t.arena) t.whole) t.whole.stands.1.1 (t.whole.once 0) (λ j found. found)
+    none_right (is_among (provision_in (at t.arena 0)).wid (all_wids (branches_below (size t.arena) (at t.arena) (below_in (at t.arena 0))))) _
+    (text_differs (at t.arena) (number t.arena) (size t.arena) t.whole)
 
 -- no provision of a tree has the wId of the root
 pub root_apart : (t : Tree) → any_holds root_wid (tree_view t).body ≡ false
 unfolding tree_view
 root_apart t =
     let body : Branches Provision = branches_below (size t.arena) (at t.arena) (below_in (at t.arena 0)) in
-    all_among root_wid body
+    sym (all_wids_held root_wid body)
     ∙ ap (λ w. is_among w (all_wids body)) (sym (ap (λ p. p.wid) t.whole.root))
-    ∙ not_beneath_itself (at t.arena) (number t.arena) (size t.arena) t.whole (provision_in (at t.arena 0)) body 0 0 (root_climbs (at t.arena) (number t.arena) (size t.arena) t.whole) t.whole.stands
+    ∙ none_left (is_among (provision_in (at t.arena 0)).wid (all_wids body)) _
+    (text_differs (at t.arena) (number t.arena) (size t.arena) t.whole)
