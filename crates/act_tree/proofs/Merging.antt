@@ -18,7 +18,8 @@ use Rattle.act_tree.proofs.Removing.{whole_from, reads_from, still_listed, own_h
 use Rattle.act_tree.proofs.Changing.{EachStands, Touched, Parts, Redone, Rises, each_under, of_number, of_other, plain_stands, all_plain, says_of, stands_changed, heights-changed}
 use Rattle.act_tree.proofs.TreeNodes.{node_laid}
 use Rattle.act_tree.proofs.NextNodes.{IsProvision, is_provision}
-use Rattle.act_tree.proofs.SiblingNodes.{IsChild, listed_child, next_child, behind_listed, behind_other, not_below_itself, not_below_child}
+use Rattle.act_tree.proofs.SiblingNodes.{IsChild, listed_child, next_child, behind_listed, behind_other}
+use Rattle.act_tree.proofs.WidsDiffer.{not_below_itself, not_below_child}
 use Rattle.act_tree.proofs.TakingAway.{named_there}
 
 -- one list after another

@@ -9,7 +9,8 @@ use Rattle.act_tree.specs.Slots.{at, number, size}
 use Rattle.act_tree.proofs.Texts.{other_text}
 use Rattle.act_tree.proofs.TreeNodes.{node_seated, node_laid, found_held}
 use Rattle.act_tree.proofs.Finding.{leads_to_root}
-use Rattle.act_tree.proofs.SiblingNodes.{IsChild, next_branch, next_child, among_siblings}
+use Rattle.act_tree.proofs.Climbing.{listed_above}
+use Rattle.act_tree.proofs.SiblingNodes.{IsChild, next_branch, next_child}
 use Rattle.act_tree.proofs.TakingAway.{above_climbs, leads_there, named_there}
 use Rattle.std.specs.List.{list_any}
 
@@ -34,7 +35,7 @@ is_provision at number size whole i climbed other =
       leads = leads;
       held = sym (ap (λ t. t || any_holds w (branches_below size at (below_in (at 0)))) apart) ∙ found_held at number size whole w i leads climbed;
       above = up.1;
-      listed = among_siblings at i (at i) up.0 (whole.hung i);
+      listed = listed_above at i (at i) up.0 (whole.hung i);
     }
 
 pub next_sibling : (at : ℕ → Option Laid) (number : List ℕ → Option ℕ) (size : ℕ) → IsWhole at number size → (i : ℕ) → climbs size at i ≡ true → (i ≡ 0 → ⊥)

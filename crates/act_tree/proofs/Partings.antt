@@ -19,7 +19,8 @@ use Rattle.act_tree.proofs.Removing.{whole_from, reads_from, below_kept, name_ke
 use Rattle.act_tree.proofs.Changing.{EachStands, Touched, Parts, Redone, Rises, each_under, of_number, of_other, plain_stands, says_of, stands_changed, heights-changed}
 use Rattle.act_tree.proofs.TreeNodes.{node_laid}
 use Rattle.act_tree.proofs.NextNodes.{IsProvision, is_provision}
-use Rattle.act_tree.proofs.SiblingNodes.{IsChild, listed_child, not_below_itself, not_below_child}
+use Rattle.act_tree.proofs.SiblingNodes.{IsChild, listed_child}
+use Rattle.act_tree.proofs.WidsDiffer.{not_below_itself, not_below_child}
 use Rattle.act_tree.proofs.TakingAway.{named_there}
 use Rattle.act_tree.proofs.Merging.{above_given, below_there, name_with, once_with, hung_with, hung_by}
 

@@ -1,12 +1,12 @@
 -- Siblings: what the text has right behind a provision is the branch of the number right behind its number.
-use Rattle.std.proofs.Common.{◌≡◌, ◌∙◌, sym, ap, refl, subst, ℕ, suc, ◌<◌, ◌≤◌, ◌==◌, Bool, true, false, not, cond, ◌||◌, List, [], ◌∷◌, Option, Some, None, option_map, ◌⊎◌, inl, inr, arith}
+use Rattle.std.proofs.Common.{◌≡◌, ◌∙◌, sym, ap, refl, subst, ℕ, suc, ◌<◌, ◌≤◌, ◌==◌, true, false, not, cond, ◌||◌, List, [], ◌∷◌, Option, Some, None, option_map, ◌⊎◌, inl, inr, arith}
 use Rattle.std.specs.List.{list_any}
 use Rattle.std.specs.Str.{bytes_eq}
 use Rattle.std.proofs.lemmas.Bool.{cases_Bool, cases_eq, eq-eqb, ne_eqb}
 use Rattle.act_tree.specs.Branches.{Branch, Branches, branch, no_branches, more_branches, height, heights}
 use Rattle.act_tree.specs.Provisions.{Provision}
 use Rattle.act_tree.specs.Changes.{holds, any_holds, head_of, next_of, next_inside, or_else}
-use Rattle.act_tree.specs.Arena.{Laid, above_in, below_in, name_in, branches_below, branch_from, hangs_on, climbs, is_hung, number_twice, Stands, StandAll, IsWhole}
+use Rattle.act_tree.specs.Arena.{Laid, above_in, below_in, name_in, branches_below, branch_from, climbs, number_twice, Stands, StandAll, IsWhole}
 use Rattle.act_tree.specs.Siblings.{first_number, number_behind}
 use Rattle.act_tree.proofs.Texts.{equal_text, other_text}
 use Rattle.act_tree.proofs.Frames.{or_left, or_right, none_left, none_right}
@@ -97,15 +97,6 @@ behind_listed i x (k ∷ ks) is =
     first_listed [] none = absurd cc
     first_listed (j ∷ js) first = or_left _ _ (eq-eqb j x cc)
 
--- a number that is neither the root nor taken off is among those below the one above it
-pub among_siblings : (at : ℕ → Option Laid) (i : ℕ) (o : Option Laid) → hangs_on i o ≡ true → is_hung at i o ≡ true → list_any (λ j. j == i) (below_in (at (above_in o))) ≡ true
-among_siblings at i None hangs hung = absurd cc
-among_siblings at i (Some x) hangs hung = not_left (x.above == i) _ hangs hung
-  where
-    not_left : (s t : Bool) → not s ≡ true → (s || t) ≡ true → t ≡ true
-    not_left true t never either = absurd cc
-    not_left false t never either = either
-
 module _ (at : ℕ → Option Laid) (number : List ℕ → Option ℕ) (size : ℕ) (whole : IsWhole at number size) where
   -- what is listed below a node is a node, but not the root
   pub record IsChild (u i : ℕ) : Type 0 where
@@ -142,39 +133,6 @@ module _ (at : ℕ → Option Laid) (number : List ℕ → Option ℕ) (size : �
 
   pub next_child : (i x : ℕ) → climbs size at (above_in (at i)) ≡ true → number_behind i (below_in (at (above_in (at i)))) ≡ Some x → IsChild (above_in (at i)) x
   next_child i x climbed is = listed_child (above_in (at i)) x climbed (behind_listed i x (below_in (at (above_in (at i)))) is)
-
-  -- a branch among those below one, and how high it is
-  pub record IsBelow (u j h : ℕ) : Type 0 where
-    pub it : Branch Provision
-    pub stands : Stands at number u j it
-    pub low : height it < h
-
-  below_it : (b : Branch Provision) (v u j : ℕ) → Stands at number v u b → list_any (λ k. k == j) (below_in (at u)) ≡ true → IsBelow u j (height b)
-  below_it (branch p below) v u j s found =
-      let child : Among at number u j below = among at number below u j (below_in (at u)) s.1.1 found in
-      record { it = child.it; stands = child.stands; low = (let low : height child.it ≤ heights below = child.low in omega arith) }
-
-  -- no node stands right below itself
-  pub not_below_itself : (u : ℕ) → climbs size at u ≡ true → list_any (λ k. k == u) (below_in (at u)) ≡ true → ⊥
-  not_below_itself u climbed found =
-      let seat : Seated at number (branch_from size at 0) u = node_seated at number size whole u climbed in
-      let child : IsBelow u u (height seat.it) = below_it seat.it (above_in (at u)) u u seat.stands found in
-      let one : child.it ≡ seat.it = one_branch at number child.it seat.it u (above_in (at u)) u child.stands seat.stands in
-      let same : height child.it ≡ height seat.it = ap height one in
-      let low : height child.it < height seat.it = child.low in
-      omega arith
-
-  -- nor right below one of those right below it
-  pub not_below_child : (u j : ℕ) → climbs size at u ≡ true → list_any (λ k. k == j) (below_in (at u)) ≡ true → list_any (λ k. k == u) (below_in (at j)) ≡ true → ⊥
-  not_below_child u j climbed found back =
-      let seat : Seated at number (branch_from size at 0) u = node_seated at number size whole u climbed in
-      let child : IsBelow u j (height seat.it) = below_it seat.it (above_in (at u)) u j seat.stands found in
-      let again : IsBelow j u (height child.it) = below_it child.it u j u child.stands back in
-      let one : again.it ≡ seat.it = one_branch at number again.it seat.it j (above_in (at u)) u again.stands seat.stands in
-      let same : height again.it ≡ height seat.it = ap height one in
-      let low : height child.it < height seat.it = child.low in
-      let lower : height again.it < height child.it = again.low in
-      omega arith
 
 -- in a list that names no number twice, the number right behind another is another
 pub behind_other : (i x : ℕ) (ks : List ℕ) → number_twice ks ≡ false → number_behind i ks ≡ Some x → i ≡ x → ⊥

@@ -14,7 +14,7 @@ use Rattle.act_tree.specs.Wids.{wids, all_wids, is_among, one_twice}
 use Rattle.act_tree.specs.declared.tree.Tree.{Tree}
 use Rattle.act_tree.proofs.Climbing.{has_number}
 use Rattle.act_tree.proofs.Frames.{or_left, or_right, none_left, none_right, neither, once_together}
-use Rattle.act_tree.proofs.PutIn.{wids_held, all_wids_held}
+use Rattle.act_tree.proofs.PutIn.{wids_held, all_wids_held, not_beneath}
 use Rattle.act_tree.proofs.SiblingNodes.{IsChild, listed_child}
 use Rattle.act_tree.proofs.Standing.{stands_below}
 use Rattle.act_tree.proofs.Texts.{same_text}
@@ -64,6 +64,19 @@ module _ (at : ℕ → Option Laid) (number : List ℕ → Option ℕ) (size : �
         let split : far.0 ≡ size + (far.0 - size) = (let low : size ≤ far.0 = far.1.0 in omega arith) in
         let root : u ≡ 0 = sym far.1.1 ∙ ap (λ n. up n u) split ∙ up_more size (far.0 - size) u ∙ ap (up (far.0 - size)) (up_climbs size u climbed) ∙ up_root (far.0 - size) in
         other (sym way ∙ ap (up r) root ∙ up_root r)
+
+  -- no node stands right below itself
+  pub not_below_itself : (u : ℕ) → climbs size at u ≡ true → list_any (λ k. k == u) (below_in (at u)) ≡ true → ⊥
+  not_below_itself u climbed found =
+      let child : IsChild at number size whole u u = listed_child at number size whole u u climbed found in
+      no_round u u 0 refl child.above climbed child.other
+
+  -- nor right below one of those right below it
+  pub not_below_child : (u j : ℕ) → climbs size at u ≡ true → list_any (λ k. k == j) (below_in (at u)) ≡ true → list_any (λ k. k == u) (below_in (at j)) ≡ true → ⊥
+  not_below_child u j climbed found back =
+      let child : IsChild at number size whole u j = listed_child at number size whole u j climbed found in
+      let again : IsChild at number size whole j u = listed_child at number size whole j u child.climbed back in
+      no_round u j 1 again.above child.above climbed child.other
 
   -- the number of a wId that stands at or beneath a branch comes up to the number of the branch
   pub record ComesUp (i k : ℕ) : Type 0 where
@@ -121,16 +134,6 @@ module _ (at : ℕ → Option Laid) (number : List ℕ → Option ℕ) (size : �
         ]
       ]
 
-  not_beneath_itself : (p : Provision) (below : Branches Provision) (u k : ℕ) → climbs size at k ≡ true → Stands at number u k (branch p below) → is_among p.wid (all_wids below) ≡ false
-  not_beneath_itself p below u k climbed s =
-      elim (cases_Bool (is_among p.wid (all_wids below))) [
-        | inl found ↦
-            let among : ComesAmong k k (below_in (at k)) = comes_among below k k p.wid (below_in (at k)) s.1.1 (sym (all_wids_held p.wid below) ∙ found) s.1.0 in
-            let child : IsChild at number size whole k among.to = listed_child at number size whole k among.to climbed among.listed in
-            absurd (no_round k among.to among.steps among.way among.above climbed child.other)
-        | inr none ↦ none
-      ]
-
   -- no wId stands twice among those that stand below a node
   differ : (bs : Branches Provision) (u : ℕ) (ids : List ℕ) → climbs size at u ≡ true → StandAll at number u ids bs → number_twice ids ≡ false
       → ((j : ℕ) → list_any (λ x. x == j) ids ≡ true → list_any (λ x. x == j) (below_in (at u)) ≡ true) → one_twice (all_wids bs) ≡ false
@@ -139,7 +142,7 @@ module _ (at : ℕ → Option Laid) (number : List ℕ → Option ℕ) (size : �
   differ (more_branches (branch p below) bs) u (k ∷ ids) climbed s once listed =
       let child : IsChild at number size whole u k = listed_child at number size whole u k climbed (listed k (or_left _ _ (eq-eqb k k refl))) in
       once_together (p.wid ∷ all_wids below) (all_wids bs)
-      (neither (is_among p.wid (all_wids below)) _ (not_beneath_itself p below u k child.climbed s.0)
+      (neither (is_among p.wid (all_wids below)) _ (all_wids_held p.wid below ∙ not_beneath at number p below u k s.0)
       (differ below k (below_in (at k)) child.climbed s.0.1.1 (whole.once k) (λ j found. found)))
       (differ bs u ids climbed s.1 (none_right (list_any (λ j. j == k) ids) _ once) (λ j found. listed j (or_right (k == j) _ found)))
       (λ w found. apart w child (sym (wids_held w (branch p below)) ∙ found) (cases_Bool (is_among w (all_wids bs))))
@@ -157,10 +160,10 @@ module _ (at : ℕ → Option Laid) (number : List ℕ → Option ℕ) (size : �
   -- no wId stands twice in the text, and none is the root's
   pub text_differs : one_twice (wids (branch_from size at 0)) ≡ false
   text_differs =
+      let p : Provision = provision_in (at 0) in
       let body : Branches Provision = branches_below size at (below_in (at 0)) in
-      let climbed : climbs size at 0 ≡ true = root_climbs at number size whole in
-      neither _ (one_twice (all_wids body)) (not_beneath_itself (provision_in (at 0)) body 0 0 climbed whole.stands)
-      (differ body 0 (below_in (at 0)) climbed whole.stands.1.1 (whole.once 0) (λ j found. found))
+      neither _ (one_twice (all_wids body)) (all_wids_held p.wid body ∙ not_beneath at number p body 0 0 whole.stands)
+      (differ body 0 (below_in (at 0)) (root_climbs at number size whole) whole.stands.1.1 (whole.once 0) (λ j found. found))
 
 -- no two provisions of a tree have one wId
 pub wids_differ : (t : Tree) → one_twice (all_wids (tree_view t).body) ≡ false

@@ -1,4 +1,4 @@
-use Rattle.std.proofs.Common.{rules, ◌≡◌, ◌∙◌, sym, ap, subst, ℕ, ◌+◌, ◌<◌, map, option_map, List, [], ◌∷◌, ◌++◌, length, take, Some}
+use Rattle.std.proofs.Common.{rules, ◌≡◌, ◌∙◌, sym, subst, ℕ, ◌+◌, ◌<◌, map, option_map, List, [], ◌∷◌, ◌++◌, length, take, Some}
 use Rattle.std.proofs.lemmas.List.{take_all}
 use Rattle.act_tree.specs.Branches.{Branch, Branches, branch, branches_of}
 use Rattle.act_tree.specs.Eids.{enacted, all_enacted}
@@ -6,7 +6,7 @@ use Rattle.act_tree.specs.Planted.{IsLaid, AreLaid}
 use Rattle.act_tree.specs.Provisions.{Provision}
 use Rattle.act_tree.specs.Slots.{provision_of}
 use Rattle.act_tree.specs.Specs.{spec_view}
-use Rattle.act_tree.proofs.EnactedLaws.{branches_of-enacted, more_enacted}
+use Rattle.act_tree.proofs.EnactedLaws.{all_become, more_enacted}
 use Rattle.act_tree.specs.Wids.{all_wids}
 use Rattle.act_tree.proofs.Grown.{on_err, grown_on, grown_added, grown_laid, covers_node, covers_below, stopped_between, stopped_within, node_enacted}
 use Rattle.act_tree.proofs.LaidArenas.{laid_node, laid_more}
@@ -45,11 +45,7 @@ pub lay_all-returns-clause-laid : goal.lay_all-returns-clause-laid
 lay_all-returns-clause-laid t c =
     let above = option_map (λ s. s.now) c.args.wid in
     let P : Branches Provision → Type 0 = λ bs. AreLaid c.args.arena.now c.loop-node.arena c.args.above c.loop-node.ids.items bs in
-    subst P
-    (ap (λ ns. branches_of (map (enacted c.args.numbering above) (map spec_view ns))) (take_all _ _ (search rules) ∙ c.deref-node-items.ensures.value)
-    ∙ branches_of-enacted c.args.numbering above _
-    ∙ ap (λ bs. all_enacted c.args.numbering above (branches_of bs)) c.nodes.view_is)
-    c.loop-node.invariant
+    subst P (all_become c.args.numbering above _ _ _ (take_all _ _ (search rules) ∙ c.deref-node-items.ensures.value) c.nodes.view_is) c.loop-node.invariant
 
 pub lay-returns-in_err-below-clause-kept : goal.lay-returns-in_err-below-clause-kept
 lay-returns-in_err-below-clause-kept t c =
@@ -63,30 +59,21 @@ lay-returns-in_err-below-clause-kept t c =
 pub lay_all-returns-in_err-slot-clause-kept : goal.lay_all-returns-in_err-slot-clause-kept
 lay_all-returns-in_err-slot-clause-kept t c =
     let above = option_map (λ s. s.now) c.args.wid in
-    let are : branches_of (map (enacted c.args.numbering above) (map spec_view c.deref-node-items.result.now)) ≡ all_enacted c.args.numbering above (branches_of c.args.nodes.now) =
-    ap (λ ns. branches_of (map (enacted c.args.numbering above) (map spec_view ns))) c.deref-node-items.ensures.value
-    ∙ branches_of-enacted c.args.numbering above _
-    ∙ ap (λ bs. all_enacted c.args.numbering above (branches_of bs)) c.nodes.view_is in
+    let are = all_become c.args.numbering above _ _ _ c.deref-node-items.ensures.value c.nodes.view_is in
     on_err c.from_residual-in_err-slot.result _
     (stopped_between (enacted c.args.numbering above) c.deref-node-items.result.now c.loop-node.node-index c.args.arena.now c.loop-node.arena c.args.above c.loop-node.ids.items _ are c.loop-node.invariant)
 
 pub lay_all-returns-in_err-name-clause-kept : goal.lay_all-returns-in_err-name-clause-kept
 lay_all-returns-in_err-name-clause-kept t c =
     let above = option_map (λ s. s.now) c.args.wid in
-    let are : branches_of (map (enacted c.args.numbering above) (map spec_view c.deref-node-items.result.now)) ≡ all_enacted c.args.numbering above (branches_of c.args.nodes.now) =
-    ap (λ ns. branches_of (map (enacted c.args.numbering above) (map spec_view ns))) c.deref-node-items.ensures.value
-    ∙ branches_of-enacted c.args.numbering above _
-    ∙ ap (λ bs. all_enacted c.args.numbering above (branches_of bs)) c.nodes.view_is in
+    let are = all_become c.args.numbering above _ _ _ c.deref-node-items.ensures.value c.nodes.view_is in
     on_err c.from_residual-in_err-name.result _
     (stopped_between (enacted c.args.numbering above) c.deref-node-items.result.now c.loop-node.node-index c.args.arena.now c.loop-node.arena c.args.above c.loop-node.ids.items _ are c.loop-node.invariant)
 
 pub lay_all-returns-in_err-id-clause-kept : goal.lay_all-returns-in_err-id-clause-kept
 lay_all-returns-in_err-id-clause-kept t c =
     let above = option_map (λ s. s.now) c.args.wid in
-    let are : branches_of (map (enacted c.args.numbering above) (map spec_view c.deref-node-items.result.now)) ≡ all_enacted c.args.numbering above (branches_of c.args.nodes.now) =
-    ap (λ ns. branches_of (map (enacted c.args.numbering above) (map spec_view ns))) c.deref-node-items.ensures.value
-    ∙ branches_of-enacted c.args.numbering above _
-    ∙ ap (λ bs. all_enacted c.args.numbering above (branches_of bs)) c.nodes.view_is in
+    let are = all_become c.args.numbering above _ _ _ c.deref-node-items.ensures.value c.nodes.view_is in
     let node = c.node-item.result in
     let slot = c.in_ok-slot.slot in
     let b : Branch Provision = branch (provision_of slot) (all_enacted c.args.numbering (Some c.as_str.result.now) (branches_of node.children)) in
@@ -100,10 +87,7 @@ lay_all-returns-in_err-id-clause-kept t c =
 pub lay_all-returns-in_err-push-clause-kept : goal.lay_all-returns-in_err-push-clause-kept
 lay_all-returns-in_err-push-clause-kept t c =
     let above = option_map (λ s. s.now) c.args.wid in
-    let are : branches_of (map (enacted c.args.numbering above) (map spec_view c.deref-node-items.result.now)) ≡ all_enacted c.args.numbering above (branches_of c.args.nodes.now) =
-    ap (λ ns. branches_of (map (enacted c.args.numbering above) (map spec_view ns))) c.deref-node-items.ensures.value
-    ∙ branches_of-enacted c.args.numbering above _
-    ∙ ap (λ bs. all_enacted c.args.numbering above (branches_of bs)) c.nodes.view_is in
+    let are = all_become c.args.numbering above _ _ _ c.deref-node-items.ensures.value c.nodes.view_is in
     let node = c.node-item.result in
     let slot = c.in_ok-slot.slot in
     let b : Branch Provision = branch (provision_of slot) (all_enacted c.args.numbering (Some c.as_str.result.now) (branches_of node.children)) in
