@@ -29,6 +29,23 @@ fn order_rule(law: Option<u32>, verdict: &Verdict) -> Option<u8>
     }
 }
 
+// Gives an entry the text in which the last one has its drafter's name, where it is the same: most of what is opened
+// would else be a text for each entry.
+fn share_name(register: &Register, entry: &mut Entry)
+    ensures { entry.new ≡ entry.old }
+{
+    let count = register.len();
+    if count == 0 {
+        return;
+    }
+    let last = &register.entry(count - 1).drafter;
+    if *last == entry.drafter {
+        if let Ok(name) = last.copy() {
+            entry.drafter = name;
+        }
+    }
+}
+
 // Appends an entry of which this is said, where it is accepted with its law number.
 #[tactic(auto, unfolding(crate::specs::Opening::with_entry))]
 fn add_judged(register: &mut Register, entry: Entry, verdict: &Verdict) -> Result<(), OpenFault>
@@ -41,6 +58,8 @@ fn add_judged(register: &mut Register, entry: Entry, verdict: &Verdict) -> Resul
 {
     match order_rule(entry.law, verdict) {
         None => {
+            let mut entry = entry;
+            share_name(register, &mut entry);
             register.push(entry);
             Ok(())
         }
