@@ -16,6 +16,7 @@ pub mod Reserving
 pub mod Once
 pub mod Past
 pub mod Chains
+pub mod Changing
 pub mod Owned
 pub mod Listed
 pub mod Gathering

@@ -1,9 +1,9 @@
 //! Indexes: what of the entries is looked up in place of walking them. A mark names an entry by its index.
 
 ghost use Rattle.std.specs.Prelude.{◌≡◌, ◌==◌, ◌&&◌, ◌+◌, ◌-◌, ◌<◌, ◌≤◌, ℕ, List, [], ◌∷◌, ◌++◌, length, slice_get, take, drop, Option, Some, None, option_map, is_some, if◌then◌else◌};
-ghost use Rattle.std.proofs.Common.{rules};
+ghost use Rattle.std.proofs.Common.{ap, rules};
 ghost use Rattle.std.specs.Cmp.Rules.{comparing, hashing};
-ghost use Rattle.std.specs.Cmp.Lexicographic.{pointwise};
+ghost use Rattle.std.specs.Cmp.Lexicographic.{bytes_decides, nat_list_eq_equiv, pointwise};
 ghost use Rattle.std.specs.Hash as fed;
 ghost use Rattle.std.specs.Str.{bytes_eq};
 ghost use Rattle.indexmap.specs.IndexMap.{get_by, index_map_len, spare};
@@ -13,7 +13,7 @@ use crate::{Drafter, Reply, Standing};
 use arrayvec::ArrayVec;
 use desk_base::{Id, Memory};
 use frbr_names::WorkName;
-use indexmap::IndexMap;
+use indexmap::{Equivalent, IndexMap};
 use std::alloc::Global;
 use std::hash::{Hash, Hasher};
 use std::marker::Model;
@@ -22,7 +22,7 @@ use std::marker::Model;
 pub type DrafterKey = ArrayVec<u8, 32>;
 
 /// The bytes of a work's IRI, as a key that takes no memory. No IRI of a work is longer. They are hashed in one call, and not byte by
-/// byte.
+/// byte; a work's name is looked up without a key made of it.
 #[derive(Debug, Drop)]
 pub struct WorkKey {
     bytes: ArrayVec<u8, 162>,
@@ -59,6 +59,18 @@ impl Hash for WorkKey {
     fn hash<H: Hasher>(&self, state: &mut H) {
         state.write(self.bytes.as_slice());
         state.write_u8(0xff);
+    }
+}
+
+impl Equivalent<WorkKey> for &WorkName {
+    ghost equivalent = { λ work key. bytes_eq work.now key.items };
+
+    ghost respects_hash = { λ work key h. ap fed.str ((bytes_decides work.now key.items).0 h) };
+
+    ghost respects_eq = { λ work k l. nat_list_eq_equiv.congr work.now k.items l.items };
+
+    fn equivalent(&self, key: &WorkKey) -> bool {
+        self.as_str().as_bytes() == key.bytes.as_slice()
     }
 }
 
@@ -275,7 +287,7 @@ impl Indexes {
     pub fn work(&self, work: &WorkName) -> Option<WorkMark>
         ensures { result ≡ work_mark self.now work.now }
     {
-        self.works.get(&work_key(work)).copied()
+        self.works.get(work).copied()
     }
 
     /// The mark of an id.

@@ -207,7 +207,7 @@ impl Register {
     {
         let Id { law, item } = id;
         let item = u32::from(item);
-        self.work_of(id)
+        self.standing(id)
             .is_none()
             .then_some(Rule::UnknownModification { law, item })
     }
@@ -252,17 +252,14 @@ impl Register {
         None
     }
 
-    fn unknown_for(&self, id: Id, body: &Modification) -> Option<Rule>
-        ensures { result ≡ verdicts.unknown_for (laws self.now.entries) (facts_of id (laws self.now.entries)) body.now }
-    {
-        self.unknown_destination(self.work_of(id)?, body)
-    }
-
     fn unknown_correction(&self, id: Id, body: &Modification) -> Option<Rule>
         ensures { result ≡ option_or (verdicts.unknown_id (laws self.now.entries) id)
             (verdicts.unknown_for (laws self.now.entries) (facts_of id (laws self.now.entries)) body.now) }
     {
-        self.unknown_id(id).or(self.unknown_for(id, body))
+        match self.work_of(id) {
+            Some(work) => self.unknown_destination(work, body),
+            None => self.unknown_id(id),
+        }
     }
 
     fn unknown_draft_item(&self, drafter: &Drafter, item: u32) -> Option<Rule>

@@ -225,28 +225,39 @@ pub fn note_draft(
     }
 }
 
-fn correct(ids: &mut KnownIds, id: Id, at: usize)
-    requires { 0 < spare ids.old }
-    ensures { (i : Id) → id_in ids.new i
-        ≡ (if is_same_id id i then option_map (spec.corrected at) (id_in ids.old i) else id_in ids.old i) }
+fn corrected(mark: IdMark, at: usize) -> IdMark
+    ensures { result ≡ spec.corrected at mark }
 {
-    if let Some(mark) = ids.get(&id).copied() {
-        let corrected = IdMark {
-            entry: at,
-            place: 0,
-            ..mark
-        };
-        put_id(ids, id, corrected);
+    IdMark {
+        entry: at,
+        place: 0,
+        ..mark
     }
 }
 
+fn correct(ids: &mut KnownIds, id: Id, at: usize)
+    ensures { (i : Id) → id_in ids.new i
+        ≡ (if is_same_id id i then option_map (spec.corrected at) (id_in ids.old i) else id_in ids.old i) }
+{
+    match ids.get_mut(&id) {
+        Some(mark) => *mark = corrected(*mark, at),
+        None => {}
+    }
+}
+
+fn with_standing(mark: IdMark, standing: Standing) -> IdMark
+    ensures { result ≡ spec.with_standing standing mark }
+{
+    IdMark { standing, ..mark }
+}
+
 fn set_standing(ids: &mut KnownIds, id: Id, standing: Standing)
-    requires { 0 < spare ids.old }
     ensures { (i : Id) → id_in ids.new i
         ≡ (if is_same_id id i then option_map (spec.with_standing standing) (id_in ids.old i) else id_in ids.old i) }
 {
-    if let Some(mark) = ids.get(&id).copied() {
-        put_id(ids, id, IdMark { standing, ..mark });
+    match ids.get_mut(&id) {
+        Some(mark) => *mark = with_standing(*mark, standing),
+        None => {}
     }
 }
 
@@ -307,20 +318,20 @@ fn enacted_after(
 // Changes the mark of a work where it stands, and gives the one that it was.
 fn change_work(
     works: &mut Works,
-    key: &WorkKey,
+    work: &WorkName,
     number: u32,
     at: usize,
     command: &Command,
     count: u32,
 ) -> Option<WorkMark>
-    requires { ids_in (work_in works.old key.now.items) + count < 2 ^ 32 }
-    ensures had { result ≡ work_in works.old key.now.items }
+    requires { ids_in (work_in works.old work.now) + count < 2 ^ 32 }
+    ensures had { result ≡ work_in works.old work.now }
     ensures marks { IfSome result (λ had. (w : List ℕ) → work_in works.new w
-        ≡ (if bytes_eq key.now.items w then Some (spec.work_after number at command.now count (Some had))
+        ≡ (if bytes_eq work.now w then Some (spec.work_after number at command.now count (Some had))
         else work_in works.old w)) }
     ensures same { IfNone result (works.new ≡ works.old) }
 {
-    match works.get_mut(key) {
+    match works.get_mut(work) {
         Some(mark) => {
             let had = *mark;
             *mark = work_after(Some(had), number, at, command, count);
@@ -347,11 +358,11 @@ pub fn note_work(
         else work_in works.old w) }
     ensures before { result ≡ spec.last_in (work_in works.old work.now) }
 {
-    let key = work_key(work);
-    match change_work(works, &key, number, at, command, count) {
+    match change_work(works, work, number, at, command, count) {
         Some(had) => had.last,
         None => {
-            put_work(works, key, work_after(None, number, at, command, count));
+            let mark = work_after(None, number, at, command, count);
+            put_work(works, work_key(work), mark);
             0
         }
     }
@@ -505,7 +516,7 @@ fn note_concerned(
 pub fn last_on(works: &Works, work: &WorkName) -> u32
     ensures { result ≡ spec.last_in (work_in works.now work.now) }
 {
-    works.get(&work_key(work)).map_or(0, |mark| mark.last)
+    works.get(work).map_or(0, |mark| mark.last)
 }
 
 fn note_step(steps: &mut Vec<StepMark>, command: &Command, step: StepMark)

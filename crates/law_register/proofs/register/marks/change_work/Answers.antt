@@ -9,7 +9,7 @@ pub returns-in-Some-clause-marks : goal.returns-in-Some-clause-marks
 returns-in-Some-clause-marks c = λ w.
     let bytes : ArrayVec ℕ 162 (Unit {0}) → List ℕ = λ k. k.items in
     let es = c.args.works.now.entries in
-    let key = c.args.key.now in
+    let key : ArrayVec ℕ 162 (Unit {0}) = record { items = c.args.work.now } in
     let mark = c.work_after.result in
     text_put bytes (c.get_mut.follows.lender mark).entries es key mark w
     ((c.get_mut.follows.holds mark).0 ∙ set_is_put (λ x y. bytes_eq (bytes x) (bytes y)) key mark es (sym (ap is_some c.in-Some.ensures.value)))
