@@ -85,8 +85,9 @@ fn told_of_record<D: Disk>(
     if !journal.ready() {
         return said(alloc, "not ready");
     }
-    match journal.read_record(alloc, place) {
-        Ok(Some((payload, next))) => {
+    let mut payload = Vec::new(alloc);
+    match journal.read_record(place, &mut payload) {
+        Ok(Some(next)) => {
             let word = format!(in alloc; "payload {next}")?;
             digits(alloc, word.as_str(), payload.as_slice())
         }

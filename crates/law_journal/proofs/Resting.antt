@@ -1,6 +1,5 @@
 -- A file at rest, said by equations, and by its records.
-use Rattle.std.proofs.Common.{◌≡◌, ◌≢◌, inl, inr, ℕ, zero, suc, ◌+◌, ◌<◌, ◌≤◌, ◌^◌, Bool, true, false, ◌==◌, nat_le, get_or, if◌then◌else◌, List, [], ◌∷◌, ◌++◌, length, take, drop, Option, Some, None, Result, Ok, Err, Vec, refl, sym, ◌∙◌, ap, subst, arith, append_assoc, length-append, take-append-drop}
-use Rattle.std.specs.declared.alloc.Global.{Global}
+use Rattle.std.proofs.Common.{◌≡◌, ◌≢◌, inl, inr, ℕ, zero, suc, ◌+◌, ◌<◌, ◌≤◌, ◌^◌, Bool, true, false, ◌==◌, nat_le, get_or, if◌then◌else◌, List, [], ◌∷◌, ◌++◌, length, take, drop, Option, Some, None, Result, Ok, Err, refl, sym, ◌∙◌, ap, subst, arith, append_assoc, length-append, take-append-drop}
 use Rattle.std.proofs.lemmas.List.{drop_more, drop_all}
 use Rattle.std.proofs.Math.Seq.{get_or-append_seam}
 use Rattle.std.proofs.lemmas.Bool.Decides.{nat_tests}
@@ -50,7 +49,7 @@ has_list o gate bound r =
     }
 
 -- what is read at a gate is what the list has there
-read_there : (payloads : List (List ℕ)) (n place : ℕ) (step : Step) → NthStep payloads 8 n place step → (result : Result (Option (Vec ℕ Global × ℕ)) LoadFault) → GivesEntry place step result → GivesNth payloads n result
+read_there : (payloads : List (List ℕ)) (n place : ℕ) (step : Step) → NthStep payloads 8 n place step → (result : Result (Option (List ℕ × ℕ)) LoadFault) → GivesEntry place step result → GivesNth payloads n result
 read_there payloads n place step (inl end) (Ok None) read = end.0
 read_there payloads n place step (inl end) (Ok (Some entry)) read = absurd (cc (end.1, read.0.1))
 read_there payloads n place step (inl end) (Err Failed) read = tt
@@ -58,14 +57,14 @@ read_there payloads n place step (inl end) (Err (Damaged at byte)) read = absurd
 read_there payloads n place step (inl end) (Err Memory) read = tt
 read_there payloads n place step (inr (payload, rest, is, nth, next)) (Ok None) read = absurd (cc (is, read))
 read_there payloads n place step (inr (payload, rest, is, nth, next)) (Ok (Some entry)) read =
-    let both : holds payload rest ≡ holds entry.0.items read.0.0 = sym is ∙ read.0.1 in
-    let same : payload ≡ entry.0.items = cc both in
+    let both : holds payload rest ≡ holds entry.0 read.0.0 = sym is ∙ read.0.1 in
+    let same : payload ≡ entry.0 = cc both in
     (nth ∙ ap Some same, ap (λ p. gate_number 8 payloads p) (read.1 ∙ ap (λ (l : List ℕ). place + 5 + length l) (sym same)) ∙ next)
 read_there payloads n place step (inr (payload, rest, is, nth, next)) (Err Failed) read = tt
 read_there payloads n place step (inr (payload, rest, is, nth, next)) (Err (Damaged at byte)) read = absurd (cc (is, read))
 read_there payloads n place step (inr (payload, rest, is, nth, next)) (Err Memory) read = tt
 
-pub given : (o : Outlook) (gate : ℕ) → Rests o gate → (place : ℕ) (result : Result (Option (Vec ℕ Global × ℕ)) LoadFault) → GivesEntry place (step_at place (drop place o.seen)) result → GivesListed o.seen place result
+pub given : (o : Outlook) (gate : ℕ) → Rests o gate → (place : ℕ) (result : Result (Option (List ℕ × ℕ)) LoadFault) → GivesEntry place (step_at place (drop place o.seen)) result → GivesListed o.seen place result
 given o gate r place result read = λ payloads n is at.
     let j = r.journal in
     let both : Ok payloads ≡ Ok j.payloads = sym is ∙ shut_list o.seen gate r.shut [] j r.is_shut in

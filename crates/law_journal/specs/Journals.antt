@@ -1,6 +1,5 @@
 -- The state of a journal, and what its calls promise.
-use Rattle.std.specs.Prelude.{ℕ, suc, ◌≡◌, ◌≢◌, ◌⊎◌, ◌+◌, ◌^◌, ◌<◌, ◌≤◌, Bool, true, false, not, ◌&&◌, ◌==◌, is_none, get_or, List, [], ◌∷◌, ◌++◌, length, take, drop, All, slice_get, Option, Some, None, Result, Ok, Err, IsTrue, Vec}
-use Rattle.std.specs.declared.alloc.Global.{Global}
+use Rattle.std.specs.Prelude.{ℕ, suc, ◌≡◌, ◌≢◌, ◌⊎◌, ◌+◌, ◌^◌, ◌<◌, ◌≤◌, Bool, true, false, not, ◌&&◌, ◌==◌, is_none, get_or, List, [], ◌∷◌, ◌++◌, length, take, drop, All, slice_get, Option, Some, None, Result, Ok, Err, IsTrue}
 use Rattle.desk_base.specs.Streams.{Rose}
 use Rattle.law_journal.specs.Disks.{Outlook, Only, LeavesOnly}
 use Rattle.law_journal.specs.Grammar.{Step, ends, holds, breaks, Listing, magic, is_size, records_size, gate_number, gate_in, step_at, step_list, list_from, with_first, with_last, magic_fault, list_of, frame_of, payload_of}
@@ -111,33 +110,39 @@ IsSameList old file = list_of file ≡ list_of old
 abbrev pub is_started : List ℕ → Bool
 is_started bytes = (length bytes == 9) && (is_none (magic_fault 0 magic bytes) && not (get_or bytes 8 0 == 1))
 
+-- what a reading tells that puts a payload into a buffer: the bytes that the buffer has then, and the place of the next gate
+abbrev pub read_into : List ℕ → Result (Option ℕ) LoadFault → Result (Option (List ℕ × ℕ)) LoadFault
+read_into buffer (Ok None) = Ok None
+read_into buffer (Ok (Some next)) = Ok (Some (buffer, next))
+read_into buffer (Err fault) = Err fault
+
 -- what is read at a gate is what stands there
-abbrev pub GivesEntry : ℕ → Step → Result (Option (Vec ℕ Global × ℕ)) LoadFault → Type 0
+abbrev pub GivesEntry : ℕ → Step → Result (Option (List ℕ × ℕ)) LoadFault → Type 0
 GivesEntry place step (Ok None) = step ≡ ends
-GivesEntry place step (Ok (Some entry)) = ((rest : List ℕ) × (step ≡ holds entry.0.items rest))
-    × (entry.1 ≡ place + 5 + length entry.0.items)
+GivesEntry place step (Ok (Some entry)) = ((rest : List ℕ) × (step ≡ holds entry.0 rest))
+    × (entry.1 ≡ place + 5 + length entry.0)
 GivesEntry place step (Err Failed) = Unit {0}
 GivesEntry place step (Err (Damaged at byte)) = step ≡ breaks (record { place = at; byte = byte })
 GivesEntry place step (Err Memory) = Unit {0}
 
 -- what is read at the gate behind so many payloads: the next payload and the gate behind it, or the end of the list
-abbrev pub GivesNth : List (List ℕ) → ℕ → Result (Option (Vec ℕ Global × ℕ)) LoadFault → Type 0
+abbrev pub GivesNth : List (List ℕ) → ℕ → Result (Option (List ℕ × ℕ)) LoadFault → Type 0
 GivesNth payloads n (Ok None) = n ≡ length payloads
-GivesNth payloads n (Ok (Some entry)) = (slice_get payloads n ≡ Some entry.0.items)
+GivesNth payloads n (Ok (Some entry)) = (slice_get payloads n ≡ Some entry.0)
     × (gate_number 8 payloads entry.1 ≡ Some (n + 1))
 GivesNth payloads n (Err Failed) = Unit {0}
 GivesNth payloads n (Err (Damaged place byte)) = ⊥
 GivesNth payloads n (Err Memory) = Unit {0}
 
 -- what is read at a gate of a file's list
-abbrev pub GivesListed : List ℕ → ℕ → Result (Option (Vec ℕ Global × ℕ)) LoadFault → Type 0
+abbrev pub GivesListed : List ℕ → ℕ → Result (Option (List ℕ × ℕ)) LoadFault → Type 0
 GivesListed file place result = (payloads : List (List ℕ)) (n : ℕ) → list_of file ≡ Ok payloads
     → gate_number 8 payloads place ≡ Some n → GivesNth payloads n result
 
 -- the next gate is behind the one at which a payload is read
-abbrev pub IsLater : ℕ → Option (Vec ℕ Global × ℕ) → Type 0
+abbrev pub IsLater : ℕ → Option ℕ → Type 0
 IsLater place None = Unit {0}
-IsLater place (Some entry) = place < entry.1
+IsLater place (Some next) = place < next
 
 -- a refusal that is no damage
 abbrev pub IsNoDamage : LoadFault → Type 0
@@ -163,11 +168,11 @@ TellsDamage o fault = o.tells → Tells (list_of o.seen) fault
 abbrev pub FindsAt : Outlook → ℕ → Found → Type 0
 FindsAt o place found = o.tells → found ≡ found_of (step_at place (drop place o.seen))
 
-abbrev pub ReadsEntry : Outlook → ℕ → Result (Option (Vec ℕ Global × ℕ)) LoadFault → Type 0
+abbrev pub ReadsEntry : Outlook → ℕ → Result (Option (List ℕ × ℕ)) LoadFault → Type 0
 ReadsEntry o place result = o.tells → GivesEntry place (step_at place (drop place o.seen)) result
 
-abbrev pub ReadsBytes : Outlook → ℕ → ℕ → Vec ℕ Global → Type 0
-ReadsBytes o place size payload = o.tells → payload.items ≡ take size (drop place o.seen)
+abbrev pub ReadsBytes : Outlook → ℕ → ℕ → List ℕ → Type 0
+ReadsBytes o place size payload = o.tells → payload ≡ take size (drop place o.seen)
 
 -- the list stays, has one payload more, or either; its gates stay
 abbrev pub ListStays : Outlook → Outlook → Type 0

@@ -1,6 +1,5 @@
 -- What a journal does, said of the keeper over it.
-use Rattle.std.proofs.Common.{◌≡◌, ◌↔◌, inl, inr, ⊎_elim, ℕ, ◌+◌, ◌-◌, ◌^◌, ◌<◌, min, Bool, true, false, is_ok, List, Option, Some, None, Result, Ok, Err, IsOk, IfOk, Vec, refl, sym, ◌∙◌, ap, subst, arith}
-use Rattle.std.specs.declared.alloc.Global.{Global}
+use Rattle.std.proofs.Common.{◌≡◌, ◌↔◌, inl, inr, ⊎_elim, ℕ, ◌+◌, ◌-◌, ◌^◌, ◌<◌, min, Bool, true, false, is_ok, List, Option, Some, None, Result, Ok, Err, IsOk, IfOk, refl, sym, ◌∙◌, ap, subst, arith}
 use Rattle.desk_base.specs.declared.load_fault.LoadFault.{LoadFault}
 use Rattle.desk_base.specs.declared.load_fault.LoadFault.TheVariants.{Failed, Damaged, Memory}
 use Rattle.law_journal.specs.Disks.{Outlook, Idles}
@@ -48,17 +47,17 @@ old_or_same o n run =
 
 -- what is read at a place is loaded at the cursor of that place
 module _ (o n : Outlook) (idle : Idles o n) (gate : ℕ) (lists : o.tells → HasList o gate) (cursor place : ℕ) (at_place : place ≡ min (cursor + 8) (2 ^ 64 - 1)) where
-  abbrev Read : Result (Option (Vec ℕ Global × ℕ)) LoadFault → Type 0
+  abbrev Read : Result (Option (List ℕ × ℕ)) LoadFault → Type 0
   Read result = o.tells → GivesListed o.seen place result
 
-  nth : (result : Result (Option (Vec ℕ Global × ℕ)) LoadFault) → Read result → o.tells → (payloads : List (List ℕ)) (k : ℕ) → list_of o.seen ≡ Ok payloads → gate_in (list_of o.seen) (cursor + 8) ≡ Some k → GivesNth payloads k result
+  nth : (result : Result (Option (List ℕ × ℕ)) LoadFault) → Read result → o.tells → (payloads : List (List ℕ)) (k : ℕ) → list_of o.seen ≡ Ok payloads → gate_in (list_of o.seen) (cursor + 8) ≡ Some k → GivesNth payloads k result
   nth result read t payloads k is at =
       let there : gate_number 8 payloads (cursor + 8) ≡ Some k = ap (λ (l : Listing). gate_in l (cursor + 8)) (sym is) ∙ at in
       let low = gate_bound o gate (lists t) payloads (cursor + 8) k is there in
       let exact : place ≡ cursor + 8 = omega (arith, at_place, low) in
       read t payloads k is (ap (λ p. gate_number 8 payloads p) exact ∙ there)
 
-  pub some_given : (payload : Vec ℕ Global) (next : ℕ) → place < next → Read (Ok (Some (payload, next))) → Gives (holding_of o) cursor (holding_of n) (Ok (Some (payload, next - 8)))
+  pub some_given : (payload : List ℕ) (next : ℕ) → place < next → Read (Ok (Some (payload, next))) → Gives (holding_of o) cursor (holding_of n) (Ok (Some (payload, next - 8)))
   some_given payload next later read = λ t payloads k is at.
       let found = nth (Ok (Some (payload, next))) read t payloads k is at in
       let back : next - 8 + 8 ≡ next = omega (arith, at_place, later) in

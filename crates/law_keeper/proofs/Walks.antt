@@ -33,14 +33,14 @@ further payloads taken payload front is =
     ∙ ap (λ (rest : List (List ℕ)). taken ++ rest) (sym (drop_get payloads (length taken) payload is))
     ∙ front
 
-pub one_more : (old now next : Holding) (cursor : ℕ) (taken : List (List ℕ)) (entry : Vec ℕ Global × ℕ) → HasWalked old now cursor taken → IsSettled now → Keeps now next
-    → Gives now cursor next (Ok (Some entry)) → (now.tells_crash → LeavesOnly now.may_leave now next) → HasWalked old next entry.1 (taken ++ entry.0.items ∷ [])
+pub one_more : (old now next : Holding) (cursor : ℕ) (taken : List (List ℕ)) (entry : List ℕ × ℕ) → HasWalked old now cursor taken → IsSettled now → Keeps now next
+    → Gives now cursor next (Ok (Some entry)) → (now.tells_crash → LeavesOnly now.may_leave now next) → HasWalked old next entry.1 (taken ++ entry.0 ∷ [])
 one_more old now next cursor taken entry walked settled keeps given crash = record {
   keeps = keeps_both old now next walked.keeps keeps;
-  at = λ told. (found told).1 ∙ ap Some (omega (arith, length-append taken (entry.0.items ∷ [])));
+  at = λ told. (found told).1 ∙ ap Some (omega (arith, length-append taken (entry.0 ∷ [])));
   front = λ told.
       let F = λ (more : List (List ℕ)) (listing : Listing). IfOk listing (λ payloads. more ++ drop (length more) payloads ≡ payloads) in
-      subst (F (taken ++ entry.0.items ∷ [])) (sym (old_is told)) (further (list told).0 taken entry.0.items (subst (F taken) (old_is told) (walked.front told)) (found told).0);
+      subst (F (taken ++ entry.0 ∷ [])) (sym (old_is told)) (further (list told).0 taken entry.0 (subst (F taken) (old_is told) (walked.front told)) (found told).0);
   crash = λ told. let far = walked.crash told in idles_on old.may_leave old now next far (crash far.tells);
 }
   where
@@ -50,7 +50,7 @@ one_more old now next cursor taken entry walked settled keeps given crash = reco
     old_is : (told : old.tells) → old.list ≡ Ok (list told).0
     old_is told = sym (walked.keeps.list told) ∙ (list told).1
 
-    found : (told : old.tells) → (slice_get (list told).0 (length taken) ≡ Some entry.0.items) × (next.place_of entry.1 ≡ Some (length taken + 1))
+    found : (told : old.tells) → (slice_get (list told).0 (length taken) ≡ Some entry.0) × (next.place_of entry.1 ≡ Some (length taken + 1))
     found told = given (walked.keeps.tells.0 told) (list told).0 (length taken) (list told).1 (walked.at told)
 
 -- payloads with one more behind

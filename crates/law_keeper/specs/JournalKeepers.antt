@@ -1,6 +1,5 @@
 -- Keepers over a journal.
-use Rattle.std.specs.Prelude.{ℕ, ◌≡◌, ◌+◌, Bool, true, false, List, Option, Result, Ok, Err, Vec, refl}
-use Rattle.std.specs.declared.alloc.Global.{Global}
+use Rattle.std.specs.Prelude.{ℕ, ◌≡◌, ◌+◌, Bool, true, false, List, Option, Result, Ok, Err, refl}
 use Rattle.desk_base.specs.Streams.{Rose}
 use Rattle.desk_base.specs.declared.load_fault.LoadFault.{LoadFault}
 use Rattle.desk_base.specs.declared.load_fault.LoadFault.TheVariants.{Failed, Damaged, Memory}
@@ -37,7 +36,7 @@ holding_is o is = record {
 }
 
 -- what is loaded, what an append makes of the list, and what a crash leaves of one, by the disk before and after
-abbrev pub Loads : Outlook → ℕ → Outlook → Result (Option (Vec ℕ Global × ℕ)) LoadFault → Type 0
+abbrev pub Loads : Outlook → ℕ → Outlook → Result (Option (List ℕ × ℕ)) LoadFault → Type 0
 Loads old cursor new result = Gives (holding_of old) cursor (holding_of new) result
 
 abbrev pub Adds : List ℕ → Outlook → Outlook → Result ℕ KeepFault → Type 0

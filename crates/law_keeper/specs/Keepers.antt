@@ -84,16 +84,16 @@ pub record Appends (payload : List ℕ) (old new : Holding) (result : Result ℕ
   pub end : old.tells → IfOk result (λ end. new.place_of end ≡ size_of new.list)
 
 -- what is loaded at place n of a list: the payload there and a cursor of the next place, or the end of the list
-abbrev pub GivesAt : List (List ℕ) → ℕ → (ℕ → Option ℕ) → Result (Option (Vec ℕ Global × ℕ)) LoadFault → Type 0
+abbrev pub GivesAt : List (List ℕ) → ℕ → (ℕ → Option ℕ) → Result (Option (List ℕ × ℕ)) LoadFault → Type 0
 GivesAt payloads n place_of (Ok None) = n ≡ length payloads
-GivesAt payloads n place_of (Ok (Some entry)) = (slice_get payloads n ≡ Some entry.0.items)
+GivesAt payloads n place_of (Ok (Some entry)) = (slice_get payloads n ≡ Some entry.0)
     × (place_of entry.1 ≡ Some (n + 1))
 GivesAt payloads n place_of (Err fault.Failed) = Unit {0}
 GivesAt payloads n place_of (Err (fault.Damaged place byte)) = ⊥
 GivesAt payloads n place_of (Err fault.Memory) = Unit {0}
 
 -- what is loaded at a cursor that the keeper gave
-abbrev pub Gives : Holding → ℕ → Holding → Result (Option (Vec ℕ Global × ℕ)) LoadFault → Type 0
+abbrev pub Gives : Holding → ℕ → Holding → Result (Option (List ℕ × ℕ)) LoadFault → Type 0
 Gives old cursor new result = old.tells → (payloads : List (List ℕ)) (n : ℕ) → old.list ≡ Ok payloads
     → old.place_of cursor ≡ Some n → GivesAt payloads n new.place_of result
 
@@ -112,9 +112,9 @@ IsFound old end payload new found = old.tells → (payloads : List (List ℕ)) �
     → IsWithOrWithout (Ok payloads) payload old.list → IsFoundIn payloads payload new found
 
 -- the next cursor is greater than the one at which a payload is loaded
-abbrev pub MovesOn : ℕ → Option (Vec ℕ Global × ℕ) → Type 0
+abbrev pub MovesOn : ℕ → Option ℕ → Type 0
 MovesOn cursor None = Unit {0}
-MovesOn cursor (Some entry) = cursor < entry.1
+MovesOn cursor (Some next) = cursor < next
 
 -- what a keeper whose list has been opened once, or never, is after a payload was loaded or not
 abbrev pub after_load : {T : Type 0} → Result T LoadFault → Readiness

@@ -5,7 +5,7 @@ ghost use Rattle.std.specs.Prelude.{◌≡◌, true, false, Err, IsOk, IsTrue, I
 ghost use Rattle.desk_base.specs.Streams.{HasCause};
 ghost use Rattle.law_journal.specs.Disks.{Idles};
 ghost use Rattle.law_journal.specs.Grammar.{is_size, list_of};
-ghost use Rattle.law_journal.specs.Journals.{HasLoadCause, IsListed, stays_ready};
+ghost use Rattle.law_journal.specs.Journals.{HasLoadCause, IsListed, read_into, stays_ready};
 ghost use Rattle.law_keeper.specs.declared.keep_fault.KeepFault.TheVariants as fault;
 ghost use Rattle.law_keeper.specs.JournalKeepers as over;
 ghost use Rattle.law_keeper.specs.Keepers as spec;
@@ -27,22 +27,23 @@ pub struct JournalKeeper<D: Disk> {
     ghost undamaged: { opened ≡ true → (D.outlook journal.disk).tells → IsOk (list_of (D.outlook journal.disk).seen) },
 }
 
-// What is loaded at a cursor: the payload behind the gate there, and the cursor of the next gate.
+// Puts the payload behind the gate at a cursor into a buffer, and gives the cursor of the next gate.
 fn load_at<D: Disk>(
-    alloc: Global,
     journal: &mut Journal<D>,
     cursor: u64,
-) -> Result<Option<(Vec<u8>, u64)>, LoadFault>
+    into: &mut Vec<u8>,
+) -> Result<Option<u64>, LoadFault>
     requires { journal.old.ready ≡ true }
-    ensures given { over.Loads (D.outlook journal.old.disk) cursor (D.outlook journal.new.disk) result }
+    ensures given { over.Loads (D.outlook journal.old.disk) cursor (D.outlook journal.new.disk)
+        (read_into into.new.items result) }
     ensures later { IfOk result (spec.MovesOn cursor) }
     ensures ready { journal.new.ready ≡ stays_ready result }
     ensures listed { IsTrue journal.new.ready → IsListed (D.outlook journal.new.disk) journal.new.gate }
     ensures idle { Idles (D.outlook journal.old.disk) (D.outlook journal.new.disk) }
     ensures cause { HasLoadCause (D.faults journal.old.disk) (D.faults journal.new.disk) result }
 {
-    match journal.read_record(alloc, cursor.saturating_add(FIRST))? {
-        Some((payload, next)) => Ok(Some((payload, next - FIRST))),
+    match journal.read_record(cursor.saturating_add(FIRST), into)? {
+        Some(next) => Ok(Some(next - FIRST)),
         None => Ok(None),
     }
 }
@@ -109,8 +110,8 @@ impl<D: Disk> Keeper for JournalKeeper<D> {
 
     ghost faults = { λ keeper. D.faults keeper.journal.disk + keeper.damages };
 
-    fn load(&mut self, alloc: Global, cursor: u64) -> Result<Option<(Vec<u8>, u64)>, LoadFault> {
-        let loaded = load_at(alloc, &mut self.journal, cursor);
+    fn load(&mut self, cursor: u64, into: &mut Vec<u8>) -> Result<Option<u64>, LoadFault> {
+        let loaded = load_at(&mut self.journal, cursor, into);
         count_damage(&loaded, self.opened, &mut self.damages);
         loaded
     }

@@ -3,6 +3,7 @@
 
 ghost use Rattle.std.specs.Prelude.{◌≡◌, ℕ, length, Err, IfOk, IsTrue};
 ghost use Rattle.law_journal.specs.Grammar.{is_size};
+ghost use Rattle.law_journal.specs.Journals.{read_into};
 ghost use Rattle.law_keeper.specs.declared.keep_fault.KeepFault.TheVariants as fault;
 ghost use Rattle.law_keeper.specs.declared.readiness.Readiness.{Readiness};
 ghost use Rattle.law_keeper.specs.declared.readiness.Readiness.TheVariants.{Ready};
@@ -24,11 +25,12 @@ pub trait Keeper {
     /// How many calls have failed so far, later damage counted too. The count stands still at its last value.
     ghost faults: { Self → ℕ };
 
-    /// The payload at a cursor, and the next cursor; None at the end of the list. Cursor 0 is the first. After a
-    /// failure or damage the keeper has to be opened again.
-    fn load(&mut self, alloc: Global, cursor: u64) -> Result<Option<(Vec<u8>, u64)>, LoadFault>
+    /// Puts the payload at a cursor into a buffer, in the place of what the buffer had, and gives the next cursor; None
+    /// at the end of the list. Cursor 0 is the first. After a failure or damage the keeper has to be opened again.
+    fn load(&mut self, cursor: u64, into: &mut Vec<u8>) -> Result<Option<u64>, LoadFault>
         requires { readiness self.old ≡ Ready }
-        ensures given { spec.Gives (holding self.old) cursor (holding self.new) result }
+        ensures given { spec.Gives (holding self.old) cursor (holding self.new)
+            (read_into into.new.items result) }
         ensures later { IfOk result (spec.MovesOn cursor) }
         ensures same { spec.Keeps (holding self.old) (holding self.new) }
         ensures crash { spec.LeavesNoMore (holding self.old) (holding self.new) }

@@ -5,6 +5,7 @@ ghost use Rattle.desk_base.specs.Streams.{HasCause};
 ghost use Rattle.desk_base.specs.MemoryStreams.{next_fails, after_call};
 ghost use Rattle.desk_base.specs.declared.load_fault.LoadFault.TheVariants as load_fault;
 ghost use Rattle.law_journal.specs.Grammar.{is_size};
+ghost use Rattle.law_journal.specs.Journals.{read_into};
 ghost use Rattle.law_keeper.specs.declared.keep_fault.KeepFault.TheVariants as keep_fault;
 ghost use Rattle.law_keeper.specs.declared.readiness.Readiness.TheVariants.{Ready};
 ghost use Rattle.law_keeper.specs.Keepers as spec;
@@ -86,9 +87,10 @@ impl Keeper for MapKeeper {
     ghost faults = { λ keeper. keeper.faults };
 
     /// Fails exactly where the number of the call is listed.
-    fn load(&mut self, alloc: Global, cursor: u64) -> Result<Option<(Vec<u8>, u64)>, LoadFault>
+    fn load(&mut self, cursor: u64, into: &mut Vec<u8>) -> Result<Option<u64>, LoadFault>
         requires { self.old.readiness ≡ Ready }
-        ensures given { spec.Gives (holding_of self.old.payloads) cursor (holding_of self.new.payloads) result }
+        ensures given { spec.Gives (holding_of self.old.payloads) cursor (holding_of self.new.payloads)
+            (read_into into.new.items result) }
         ensures later { IfOk result (spec.MovesOn cursor) }
         ensures payloads { self.new.payloads ≡ self.old.payloads }
         ensures ready { self.new.readiness ≡ spec.after_load result }
@@ -99,7 +101,11 @@ impl Keeper for MapKeeper {
     {
         count_call(&mut self.plan, &mut self.readiness, &mut self.faults)?;
         match self.payloads.get(cursor as usize) {
-            Some(payload) => Ok(Some((payload.clone()?, cursor + 1))),
+            Some(payload) => {
+                into.clear();
+                into.extend_from_slice(payload.as_slice())?;
+                Ok(Some(cursor + 1))
+            }
             None => Ok(None),
         }
     }

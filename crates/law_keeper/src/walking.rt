@@ -22,9 +22,11 @@ pub fn payloads<K: Keeper>(alloc: Global, keeper: &mut K) -> Result<Vec<Vec<u8>>
     ensures cause { spec.HasReadCause Ready (K.faults keeper.old) (K.faults keeper.new) result }
 {
     let mut all = Vec::new(alloc);
+    let mut payload = Vec::new(alloc);
     let mut cursor = 0;
-    'walk: while let Some((payload, next)) = keeper.load(alloc, cursor)? {
-        all.push(payload)?;
+    'walk: while let Some(next) = keeper.load(cursor, &mut payload)? {
+        let kept = Vec::from_slice(alloc, payload.as_slice())?;
+        all.push(kept)?;
         cursor = next;
     }
     Ok(all)
@@ -48,7 +50,8 @@ pub fn settle<K: Keeper>(
     ensures cause { spec.HasReadCause Ready (K.faults keeper.old) (K.faults keeper.new) result }
 {
     keeper.reopen(alloc)?;
-    let Some((found, next)) = keeper.load(alloc, end)? else {
+    let mut found = Vec::new(alloc);
+    let Some(next) = keeper.load(end, &mut found)? else {
         return Ok(None);
     };
     if found.as_slice() == payload {

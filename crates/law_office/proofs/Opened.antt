@@ -1,8 +1,7 @@
 -- How far an opening has come.
-use Rattle.std.proofs.Common.{◌≡◌, ◌⊎◌, inl, ◌∙◌, sym, ap, subst, refl, ℕ, zero, suc, ◌+◌, List, [], ◌∷◌, ◌++◌, length, map, drop, Option, Some, None, Result, Ok, Err, IfOk, OnOk, Vec, arith}
+use Rattle.std.proofs.Common.{◌≡◌, ◌⊎◌, inl, ◌∙◌, sym, ap, subst, refl, ℕ, zero, suc, ◌+◌, List, [], ◌∷◌, ◌++◌, length, map, drop, Option, Some, None, Result, Ok, Err, IfOk, OnOk, arith}
 use Rattle.std.proofs.lemmas.List.{append-nil, length-append, length-map}
 use Rattle.std.specs.Prelude.{slice_get}
-use Rattle.std.specs.declared.alloc.Global.{Global}
 use Rattle.law_journal.specs.Grammar.{Listing}
 use Rattle.law_keeper.specs.Keepers.{Holding, IsHolding, IsOldOrSame, IsSettled, Keeps, LeavesNoMore, LeavesOldOrSame, LeavesOnly, Gives}
 use Rattle.law_keeper.proofs.Moments.{idles_on, keeps_both, rests, weaker}
@@ -105,18 +104,18 @@ module _ (old now next : Holding) (cursor : ℕ) (entries : List Entry) (opening
       subst (λ (listing : Listing). IfOk listing (λ payloads. opened_behind entries (drop (length (spellings entries)) payloads) ≡ opened payloads)) is (opening.same told)
 
   -- what is opened in all, by what the next payload makes of it
-  on_payload : (told : old.tells) (entry : Vec ℕ Global × ℕ) → Gives now cursor next (Ok (Some entry)) → (payloads : List (List ℕ)) → old.list ≡ Ok payloads
-      → goes_on (with_payload entries entry.0.items) (λ more. opened_behind more (drop (suc (length (spellings entries))) payloads)) ≡ opened payloads
+  on_payload : (told : old.tells) (entry : List ℕ × ℕ) → Gives now cursor next (Ok (Some entry)) → (payloads : List (List ℕ)) → old.list ≡ Ok payloads
+      → goes_on (with_payload entries entry.0) (λ more. opened_behind more (drop (suc (length (spellings entries))) payloads)) ≡ opened payloads
   on_payload told entry given payloads is =
       let found = given (opening.walked.keeps.tells.0 told) payloads (length (spellings entries)) (now_list told payloads is) (opening.walked.at told) in
-      ap (opened_behind entries) (sym (drop_get payloads (length (spellings entries)) entry.0.items found.0)) ∙ same_of told payloads is
+      ap (opened_behind entries) (sym (drop_get payloads (length (spellings entries)) entry.0 found.0)) ∙ same_of told payloads is
 
   -- the next payload spells an entry that is accepted
-  pub opens_more : (entry : Vec ℕ Global × ℕ) (more : List Entry) → IsSettled now → Keeps now next → Gives now cursor next (Ok (Some entry))
-      → (now.tells_crash → LeavesOnly now.may_leave now next) → with_payload entries entry.0.items ≡ Ok more
-      → spellings more ≡ spellings entries ++ entry.0.items ∷ [] → HasOpened old next entry.1 more
+  pub opens_more : (entry : List ℕ × ℕ) (more : List Entry) → IsSettled now → Keeps now next → Gives now cursor next (Ok (Some entry))
+      → (now.tells_crash → LeavesOnly now.may_leave now next) → with_payload entries entry.0 ≡ Ok more
+      → spellings more ≡ spellings entries ++ entry.0 ∷ [] → HasOpened old next entry.1 more
   opens_more entry more settled keeps given crash is spelled =
-      let size : length (spellings more) ≡ suc (length (spellings entries)) = omega (arith, ap length spelled, length-append (spellings entries) (entry.0.items ∷ [])) in
+      let size : length (spellings more) ≡ suc (length (spellings entries)) = omega (arith, ap length spelled, length-append (spellings entries) (entry.0 ∷ [])) in
       record {
         walked = subst (λ (taken : List (List ℕ)). HasWalked old next entry.1 taken) (sym spelled)
             (one_more old now next cursor (spellings entries) entry opening.walked settled keeps given crash);
@@ -130,7 +129,7 @@ module _ (old now next : Holding) (cursor : ℕ) (entries : List Entry) (opening
       }
 
   -- the next payload shows damage
-  pub opens_damaged : (entry : Vec ℕ Global × ℕ) (broken : Damage) → IsSettled now → Gives now cursor next (Ok (Some entry)) → with_payload entries entry.0.items ≡ Err broken
+  pub opens_damaged : (entry : List ℕ × ℕ) (broken : Damage) → IsSettled now → Gives now cursor next (Ok (Some entry)) → with_payload entries entry.0 ≡ Err broken
       → old.tells → opened_of old.list ≡ Err broken
   opens_damaged entry broken settled given is told =
       let list = told_list told settled in
@@ -175,7 +174,7 @@ module _ (old now next : Holding) (cursor : ℕ) (entries : List Entry) (opening
       absurd (given (opening.walked.keeps.tells.0 told) list.0 (length (spellings entries)) (now_list told list.0 list.1) (opening.walked.at told))
 
   -- the next payload is refused
-  pub opens_fault : (entry : Vec ℕ Global × ℕ) (fault : OpenFault) → IsSettled now → Gives now cursor next (Ok (Some entry)) → Refuses fault (with_payload entries entry.0.items)
+  pub opens_fault : (entry : List ℕ × ℕ) (fault : OpenFault) → IsSettled now → Gives now cursor next (Ok (Some entry)) → Refuses fault (with_payload entries entry.0)
       → old.tells → Refuses fault (opened_of old.list)
   opens_fault entry fails.Failed settled given refused told = tt
   opens_fault entry fails.Memory settled given refused told = tt

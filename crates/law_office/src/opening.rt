@@ -118,7 +118,8 @@ fn add_payload(alloc: Global, register: &mut Register, payload: &[u8]) -> Result
     }
 }
 
-// Loads one payload after another, and appends the entry that each spells. It gives the cursor of their end.
+// Loads one payload after another into one buffer, and appends the entry that each spells. It gives the cursor of their
+// end.
 fn load_entries<K: Keeper>(
     alloc: Global,
     keeper: &mut K,
@@ -135,8 +136,9 @@ fn load_entries<K: Keeper>(
     ensures crash { LeavesNoMore (K.holding keeper.old) (K.holding keeper.new) }
     ensures cause { HasOpenCause (K.faults keeper.old) (K.faults keeper.new) result }
 {
+    let mut payload = Vec::new(alloc);
     let mut end = 0;
-    'walk: while let Some((payload, next)) = keeper.load(alloc, end)? {
+    'walk: while let Some(next) = keeper.load(end, &mut payload)? {
         add_payload(alloc, register, payload.as_slice())?;
         end = next;
     }
