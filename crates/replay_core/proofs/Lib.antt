@@ -1,4 +1,5 @@
 mod Grouping
 mod Turning
 mod ShowingLaws
-mod HeldFlags
+mod NodesFound
+mod EidsOnce

@@ -1,9 +1,11 @@
 //! Answers: the text of an act on a day, or the first rule that a question breaks.
 
-ghost use Rattle.std.specs.Prelude.{◌≡◌, ◌∷◌, [], true, None, Some, IfOk, map, option_map};
+ghost use Rattle.std.specs.Prelude.{◌≡◌, ◌∷◌, [], true, false, None, Some, IfOk, map};
 ghost use Rattle.std.specs.List.{All};
 ghost use Rattle.act_tree.specs.Branches.{branches_of, listed};
+ghost use Rattle.act_tree.specs.Faults.{eids_of};
 ghost use Rattle.act_tree.specs.Seen.{tree_view, has_node, provision_at, branch_at};
+ghost use Rattle.act_tree.specs.Wids.{one_twice};
 ghost use Rattle.law_register.specs.Answer.Answers as spec;
 ghost use Rattle.law_register.specs.Answer.Answers.{Answers, portion_among};
 ghost use Rattle.law_register.specs.Answer.ShownNodes.{shown_view};
@@ -12,7 +14,7 @@ ghost use Rattle.law_register.specs.Answer.Replay.{replay_on};
 ghost use Rattle.law_register.specs.Answer.Versions.{version_view};
 
 use crate::on_day::OnDay;
-use crate::showing::{find_flag, find_portion, show_all};
+use crate::showing::{flag_of_node, portion_of, show_all};
 use act_tree::{NodeId, Tree};
 use desk_base::{Day, Memory, Text};
 use law_register::{
@@ -45,22 +47,7 @@ fn alone(alloc: Global, node: AnswerNode) -> Result<AnswerNodes, Memory>
     Ok(nodes)
 }
 
-// The provision of an eId in the text, below a root of the flag.
-fn portion_of(
-    alloc: Global,
-    on: &OnDay<'_>,
-    tree: &Tree,
-    flag: bool,
-    eid: &str,
-) -> Result<Option<AnswerNode>, Memory>
-    ensures { IfOk result (λ found. option_map shown_view found
-        ≡ portion_among eid.now
-        (spec.shown_tree on.now.known.now on.now.reading on.now.day flag (tree_view tree.now))) }
-{
-    find_portion(alloc, on, tree, flag, None, eid, top(tree))
-}
-
-// The provision of an eId in the text alone, or the rule that none has it.
+// The provision of an eId in the text alone, below a root of the flag, or the rule that none has it.
 fn part_of(
     alloc: Global,
     on: &OnDay<'_>,
@@ -68,6 +55,8 @@ fn part_of(
     flag: bool,
     eid: &Text,
 ) -> Result<AnswerNodes, AskFault>
+    requires once { one_twice (eids_of (tree_view tree.now)) ≡ false }
+    requires flag { flag ≡ flags.root_flag on.now.known.now on.now.reading on.now.day }
     ensures { Answers result (spec.found_portion eid.now (portion_among eid.now
         (spec.shown_tree on.now.known.now on.now.reading on.now.day flag (tree_view tree.now)))) }
 {
@@ -85,6 +74,8 @@ fn asked_part(
     flag: bool,
     portion: &Option<Text>,
 ) -> Result<AnswerNodes, AskFault>
+    requires once { one_twice (eids_of (tree_view tree.now)) ≡ false }
+    requires flag { flag ≡ flags.root_flag on.now.known.now on.now.reading on.now.day }
     ensures { Answers result (spec.asked_part portion.now
         (spec.shown_tree on.now.known.now on.now.reading on.now.day flag (tree_view tree.now))) }
 {
@@ -101,6 +92,7 @@ fn answer_on_day(
     version: &Version,
     question: &Question,
 ) -> Result<Answer, AskFault>
+    requires once { one_twice (eids_of (tree_view version.now.tree)) ≡ false }
     requires reading { on.now.reading ≡ question.now.reading }
     requires day { on.now.day ≡ spec.asked_day question.now.version on.now.known.now.act }
     ensures { Answers result (spec.answer_of_text on.now.known.now (version_view version.now) question.now) }
@@ -126,6 +118,7 @@ fn answer_from(
     version: &Version,
     question: &Question,
 ) -> Result<Answer, AskFault>
+    requires { one_twice (eids_of (tree_view version.now.tree)) ≡ false }
     ensures { Answers result (spec.answer_of_text known.now (version_view version.now) question.now) }
 {
     let day = question.asked_day(&known.act);
@@ -168,36 +161,6 @@ pub fn answer(
     told
 }
 
-// The flag of a wId, if the text has it.
-fn flag_of_wid(
-    alloc: Global,
-    on: &OnDay<'_>,
-    tree: &Tree,
-    wid: &str,
-) -> Result<Option<bool>, Memory>
-    ensures { IfOk result
-        (λ found. found ≡ flags.flag on.now.known.now on.now.reading on.now.day (tree_view tree.now).body wid.now) }
-{
-    let flag = on.root_flag(alloc)?;
-    if wid == "body" {
-        return Ok(Some(flag));
-    }
-    find_flag(on, tree, flag, wid, top(tree))
-}
-
-// The flag of a node.
-fn flag_of_node(alloc: Global, on: &OnDay<'_>, tree: &Tree, node: NodeId) -> Result<bool, Memory>
-    requires { has_node tree.now node ≡ true }
-    ensures { IfOk result (λ found. flags.flag on.now.known.now on.now.reading on.now.day (tree_view tree.now).body
-        (provision_at tree.now node).wid ≡ Some found) }
-{
-    let wid = tree.provision(node).wid;
-    match flag_of_wid(alloc, on, tree, wid.as_str())? {
-        Some(found) => Ok(found),
-        None => unreachable!(),
-    }
-}
-
 /// Whether a node of a tree bears on a day.
 pub fn flag_at(
     alloc: Global,
@@ -212,5 +175,6 @@ pub fn flag_at(
         (provision_at tree.now node).wid ≡ Some found) }
 {
     let on = OnDay::new(alloc, known, reading, day)?;
-    flag_of_node(alloc, &on, tree, node)
+    let flag = on.root_flag(alloc)?;
+    flag_of_node(&on, tree, flag, node)
 }

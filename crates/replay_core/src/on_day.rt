@@ -40,7 +40,7 @@ fn act_force(alloc: Global, groups: &Groups, known: &Known, day: Day) -> Result<
 }
 
 impl<'a> OnDay<'a> {
-    ghost use Rattle.std.specs.Prelude.{◌≡◌, ℕ, List, IfOk};
+    ghost use Rattle.std.specs.Prelude.{◌≡◌, ℕ, Bool, List, IfOk, unwrap_or};
 
     /// The work of which this is known, on a day and in a reading.
     pub fn new(
@@ -162,17 +162,25 @@ impl<'a> OnDay<'a> {
         self.bears(thing, force)
     }
 
+    /// The flag of a provision of this wId, whatever stands above it. `None`: it has the flag of the one right above it.
+    pub fn own_flag(&self, wid: &Text) -> Result<Option<bool>, Memory>
+        ensures { IfOk result (λ own. (above : Bool)
+            → flags.flag_below self.now.known.now self.now.reading self.now.day above wid.now ≡ unwrap_or own above) }
+    {
+        let thing = Destination::Node(wid.copy()?);
+        if self.is_marked(&thing) {
+            Ok(Some(self.node_bears(&thing, wid.as_str())))
+        } else {
+            Ok(None)
+        }
+    }
+
     /// The flag of a provision of this wId, below one of the flag `above`.
     pub fn flag_below(&self, above: bool, wid: &Text) -> Result<bool, Memory>
         ensures { IfOk result
             (λ flag. flag ≡ flags.flag_below self.now.known.now self.now.reading self.now.day above wid.now) }
     {
-        let thing = Destination::Node(wid.copy()?);
-        if self.is_marked(&thing) {
-            Ok(self.node_bears(&thing, wid.as_str()))
-        } else {
-            Ok(above)
-        }
+        Ok(self.own_flag(wid)?.unwrap_or(above))
     }
 
     /// The flag of the root.

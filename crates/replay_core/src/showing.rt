@@ -1,12 +1,15 @@
 //! Showing: the provisions of a tree become those of an answer, each with its eId and its flag.
 
-ghost use Rattle.std.specs.Prelude.{◌≡◌, true, IfOk, map, option_map};
+ghost use Rattle.std.specs.Prelude.{◌≡◌, true, false, Some, IfOk, map, option_map};
 ghost use Rattle.std.specs.List.{All};
 ghost use Rattle.act_tree.specs.Branches.{branch, branches_of};
 ghost use Rattle.act_tree.specs.Eids as spec;
+ghost use Rattle.act_tree.specs.Faults.{eids_of};
 ghost use Rattle.act_tree.specs.Seen.{tree_view, has_node, provision_at, branch_at};
-ghost use Rattle.law_register.specs.Answer.Answers.{shown_as, all_shown, portion_among};
-ghost use Rattle.law_register.specs.Answer.Flags.{flag_below, flag_among};
+ghost use Rattle.act_tree.specs.Wids.{one_twice};
+ghost use Rattle.law_register.specs.Answer.Answers.{shown_as, all_shown, portion_among, shown_tree};
+ghost use Rattle.law_register.specs.Answer.Flags as flags;
+ghost use Rattle.law_register.specs.Answer.Flags.{flag_below};
 ghost use Rattle.law_register.specs.Answer.ShownNodes.{shown_view};
 
 use crate::on_day::OnDay;
@@ -95,62 +98,49 @@ pub fn show_all(
     Ok(shown)
 }
 
-/// The provision of an eId among these nodes or beneath them, shown with all beneath it. They stand below the one of the eId
-/// `above`, or right below the root where that is `None`, and below the flag. It takes as much stack as the tree is deep.
-pub fn find_portion(
+/// The flag of a node, below a root of the flag: it is that of the nearest marked provision on the way up, and nothing
+/// else is looked at. It takes as much stack as that way is long.
+pub fn flag_of_node(on: &OnDay<'_>, tree: &Tree, flag: bool, node: NodeId) -> Result<bool, Memory>
+    requires node { has_node tree.now node ≡ true }
+    requires flag { flag ≡ flags.root_flag on.now.known.now on.now.reading on.now.day }
+    ensures { IfOk result (λ found. flags.flag on.now.known.now on.now.reading on.now.day (tree_view tree.now).body
+        (provision_at tree.now node).wid ≡ Some found) }
+{
+    if node == tree.root() {
+        return Ok(flag);
+    }
+    let own = on.own_flag(tree.provision(node).wid)?;
+    match own {
+        Some(bears) => Ok(bears),
+        None => {
+            let (parent, _place) = tree.place_of(node);
+            flag_of_node(on, tree, flag, parent)
+        }
+    }
+}
+
+/// The provision of an eId with all beneath it, below a root of the flag, in a tree in which no two have one eId. It is
+/// found as `Tree::find_eid` finds it, and only the way up from it is read for its flag.
+pub fn portion_of(
     alloc: Global,
     on: &OnDay<'_>,
     tree: &Tree,
     flag: bool,
-    above: Option<&str>,
     eid: &str,
-    ids: &[NodeId],
 ) -> Result<Option<AnswerNode>, Memory>
-    requires { All (λ id. has_node tree.now id ≡ true) ids.now }
-    ensures { IfOk result (λ found. option_map shown_view found
-        ≡ portion_among eid.now (all_shown on.now.known.now on.now.reading on.now.day
-        (tree_view tree.now).numbering flag (option_map (λ s. s.now) above.entry)
-        (branches_of (map (branch_at tree.now) ids.now)))) }
+    requires once { one_twice (eids_of (tree_view tree.now)) ≡ false }
+    requires flag { flag ≡ flags.root_flag on.now.known.now on.now.reading on.now.day }
+    ensures { IfOk result (λ found. option_map shown_view found ≡ portion_among eid.now
+        (shown_tree on.now.known.now on.now.reading on.now.day flag (tree_view tree.now))) }
 {
-    for id in ids {
-        let own = eid_of(alloc, tree, above, *id)?;
-        let bears = flag_of(on, tree, flag, *id)?;
-        let children = tree.children(*id);
-        if own.as_str() == eid {
-            let below = show_all(alloc, on, tree, bears, Some(own.as_str()), children)?;
-            return Ok(Some(show(alloc, tree, bears, *id, own, below)?));
-        }
-        let found = find_portion(alloc, on, tree, bears, Some(own.as_str()), eid, children)?;
-        if found.is_some() {
-            return Ok(found);
-        }
-    }
-    Ok(None)
-}
-
-/// The flag of the provision of a wId among these nodes or beneath them, which stand below the flag. It takes as much stack as
-/// the tree is deep.
-pub fn find_flag(
-    on: &OnDay<'_>,
-    tree: &Tree,
-    flag: bool,
-    wid: &str,
-    ids: &[NodeId],
-) -> Result<Option<bool>, Memory>
-    requires { All (λ id. has_node tree.now id ≡ true) ids.now }
-    ensures { IfOk result (λ found. found
-        ≡ flag_among on.now.known.now on.now.reading on.now.day flag wid.now
-        (branches_of (map (branch_at tree.now) ids.now))) }
-{
-    for id in ids {
-        let bears = flag_of(on, tree, flag, *id)?;
-        if tree.provision(*id).wid.as_str() == wid {
-            return Ok(Some(bears));
-        }
-        let found = find_flag(on, tree, bears, wid, tree.children(*id))?;
-        if found.is_some() {
-            return Ok(found);
-        }
-    }
-    Ok(None)
+    let found = tree.find_eid(alloc, eid)?;
+    let Some(id) = found else {
+        return Ok(None);
+    };
+    let bears = flag_of_node(on, tree, flag, id)?;
+    let children = tree.children(id);
+    let below = show_all(alloc, on, tree, bears, Some(eid), children)?;
+    let own = Text::copy_of(alloc, eid)?;
+    let shown = show(alloc, tree, bears, id, own, below)?;
+    Ok(Some(shown))
 }
