@@ -7,6 +7,7 @@ use Rattle.act_tree.specs.Numbered.{are_numbered}
 use Rattle.act_tree.specs.Seen.{tree_view, has_node, provision_at, branch_at}
 use Rattle.act_tree.specs.Slots.{at, number, size}
 use Rattle.act_tree.proofs.Finding.{found_node}
+use Rattle.act_tree.proofs.Sound.{text_numbered}
 use Rattle.act_tree.proofs.StayingNodes.{leads_node}
 
 -- the provision of a node is found by its wId
@@ -18,4 +19,4 @@ found_at t i node other =
 -- the nums of a tree keep the rule of nums
 pub nums_kept : (t : Tree) → are_numbered (tree_view t).body ≡ true
 unfolding tree_view
-nums_kept t = t.whole.numbered
+nums_kept t = text_numbered (at t.arena) (number t.arena) (size t.arena) t.whole

@@ -49,13 +49,13 @@ module _ (at next : ℕ → Option Laid) (number after : List ℕ → Option ℕ
     laid = λ k v found. s.laid k v (or_right (bytes_eq v w) _ found);
   }
 
-  stays_first : (vs ws : List (List ℕ)) → Stays (vs ++ ws) → Stays vs
+  pub stays_first : (vs ws : List (List ℕ)) → Stays (vs ++ ws) → Stays vs
   stays_first vs ws s = record {
     numbers = λ v found. s.numbers v (list_any-append (bytes_eq v) vs ws ∙ or_left _ _ found);
     laid = λ k v found. s.laid k v (list_any-append (bytes_eq v) vs ws ∙ or_left _ _ found);
   }
 
-  stays_second : (vs ws : List (List ℕ)) → Stays (vs ++ ws) → Stays ws
+  pub stays_second : (vs ws : List (List ℕ)) → Stays (vs ++ ws) → Stays ws
   stays_second vs ws s = record {
     numbers = λ v found. s.numbers v (list_any-append (bytes_eq v) vs ws ∙ or_right (is_among v vs) _ found);
     laid = λ k v found. s.laid k v (list_any-append (bytes_eq v) vs ws ∙ or_right (is_among v vs) _ found);

@@ -1,30 +1,33 @@
 -- An arena after branches were put into it, or after that failed.
-use Rattle.std.proofs.Common.{◌≡◌, ◌∙◌, sym, ap, subst, ℕ, ◌+◌, ◌<◌, ◌≤◌, ◌^◌, ◌==◌, true, false, ◌||◌, cond, List, ◌∷◌, Option, Some, None, inl, inr, arith}
+use Rattle.std.proofs.Common.{◌≡◌, ◌∙◌, sym, ap, refl, subst, ℕ, zero, suc, ◌<◌, ◌≤◌, ◌==◌, true, false, not, ◌||◌, ◌&&◌, List, [], ◌∷◌, ◌++◌, take, drop, Option, Some, None, inl, inr, arith}
 use Rattle.std.specs.List.{list_any}
 use Rattle.std.specs.Str.{bytes_eq}
-use Rattle.std.proofs.lemmas.Bool.{cases_lt}
+use Rattle.std.proofs.lemmas.Bool.{cases_Bool, cases_eq, or_cases, and_parts, and_from}
+use Rattle.eid_paths.specs.Nums.{is_num}
 use Rattle.act_tree.specs.declared.arena.Arena.{Arena}
-use Rattle.act_tree.specs.Branches.{Branch, Branches, branch, heights}
-use Rattle.act_tree.specs.Provisions.{Provision}
-use Rattle.act_tree.specs.Changes.{changed, put_in, among_children, grafted, root_wid, holds, any_holds}
-use Rattle.act_tree.specs.Arena.{Laid, provision_in, above_in, below_in, name_in, branches_below, climbs, is_hung, Stands, IsWhole}
-use Rattle.act_tree.specs.Grafted.{IsGrafted, IsStopped}
-use Rattle.act_tree.specs.Numbered.{are_numbered}
-use Rattle.act_tree.proofs.Nums.{changed_kept, among_children_keeps, put_in_kept}
-use Rattle.act_tree.specs.Slots.{at, number, size}
-use Rattle.act_tree.specs.Wids.{wids, all_wids, is_among, one_twice}
-use Rattle.act_tree.proofs.Texts.{equal_text, other_text, text_cases}
-use Rattle.act_tree.proofs.Frames.{or_left, Stays, still_stands}
+use Rattle.act_tree.specs.Branches.{Branch, Branches, branch}
+use Rattle.act_tree.specs.Provisions.{Own, Provision}
+use Rattle.act_tree.specs.Changes.{first, behind, joined, put_in, grafted, is_in, root_wid, holds, any_holds}
+use Rattle.act_tree.specs.Arena.{Laid, provision_in, above_in, below_in, branches_below, branch_from, climbs, hangs_on, Stands, StandAll, IsWhole}
+use Rattle.act_tree.specs.Grafted.{put_numbers, IsGrafted}
+use Rattle.act_tree.specs.Planted.{Each, HasGrown}
+use Rattle.act_tree.specs.Slots.{at, own_at, number, size}
+use Rattle.act_tree.specs.Wids.{all_wids, is_among, one_twice}
+use Rattle.act_tree.proofs.Texts.{equal_text, same_text}
+use Rattle.act_tree.proofs.Frames.{or_left, or_right, still_stands}
+use Rattle.act_tree.proofs.Building.{Holds, held}
+use Rattle.act_tree.proofs.Climbing.{climbs_more}
+use Rattle.act_tree.proofs.Growing.{not_laid}
 use Rattle.act_tree.proofs.LaidDown.{laid_past, laid_within}
+use Rattle.act_tree.proofs.PutIn.{wids_held, all_wids_held, not_beneath}
+use Rattle.act_tree.proofs.Relistings.{Apart, Move, each_joined, each_first, each_behind, each_apart, each_alone, each_own, text_moved}
+use Rattle.act_tree.proofs.Renewals.{renewed_in}
+use Rattle.act_tree.proofs.Sound.{Text, text_of, laid_standing}
 use Rattle.act_tree.proofs.Standing.{Among, among}
-use Rattle.act_tree.proofs.Climbing.{Seated, climbs_more}
-use Rattle.act_tree.proofs.TreeNodes.{node_seated, node_laid}
-use Rattle.act_tree.proofs.Changing.{heights-changed}
-use Rattle.act_tree.proofs.PutIn.{heights-put_in, among_rises, wids_held, same_changed, not_beneath}
-use Rattle.act_tree.proofs.Grafts.{Grafts, put_stands, hung_more, still_hung, still_once, names, still_says, still_climbs}
-use Rattle.act_tree.proofs.Building.{Holds}
-use Rattle.act_tree.proofs.Removing.{whole_from, reads_from}
-use Rattle.act_tree.proofs.TakingAway.{leads_there, named_there}
+use Rattle.act_tree.proofs.Grown.{named_within}
+use Rattle.act_tree.proofs.TakingAway.{grafted_as}
+use Rattle.act_tree.proofs.Times.{times, times-put, none_times, once_few}
+use Rattle.act_tree.proofs.TreeNodes.{node_stands, node_inside, node_laid}
 
 -- the text below the root of an arena
 abbrev pub body_of : Arena → Branches Provision
@@ -34,142 +37,166 @@ body_of a = branches_below (size a) (at a) (below_in (at a 0))
 abbrev pub AreFresh : Arena → List (List ℕ) → Type 0
 AreFresh a ws = (v : List ℕ) → is_among v (root_wid ∷ all_wids (body_of a)) ≡ true → is_among v ws ≡ false
 
+pub fresh_one : (a : Arena) (w : List ℕ) → is_in w (body_of a) ≡ false → AreFresh a (w ∷ [])
+fresh_one a w none v found =
+    elim (cases_Bool (is_among v (w ∷ []))) [
+      | inl same ↦ absurd (
+          let equal : v ≡ w = only_text v w same in
+          let told : is_among w (root_wid ∷ all_wids (body_of a)) ≡ true = ap (λ x. is_among x (root_wid ∷ all_wids (body_of a))) (sym equal) ∙ found in
+          let never : is_among w (root_wid ∷ all_wids (body_of a)) ≡ false = ap (λ t. bytes_eq w root_wid || t) (all_wids_held w (body_of a)) ∙ none in
+          cc)
+      | inr other ↦ other
+    ]
+  where
+    only_text : (u x : List ℕ) → is_among u (x ∷ []) ≡ true → u ≡ x
+    only_text u x among = elim (or_cases (bytes_eq u x) false among) [ inl is ↦ same_text u x is | inr never ↦ absurd cc ]
+
 -- an arena that holds another text, in which all nodes are left
 pub record Regrown (old new : Arena) (body : Branches Provision) : Type 0 where
   pub holds : Holds new body
   pub nodes : (k : ℕ) → climbs (size old) (at old) k ≡ true → climbs (size new) (at new) k ≡ true
   pub says : (k : ℕ) → climbs (size old) (at old) k ≡ true → provision_in (at new k) ≡ provision_in (at old k)
 
-low_there : (a : Arena) (b : Branch Provision) (u k : ℕ) → Stands (at a) (number a) u k b → k < size a
-low_there a (branch p below) u k s = laid_within a.slots.items k (record { provision = p; above = u; below = below_in (at a k) }) s.0
-
 pub held_there : (at : ℕ → Option Laid) (number : List ℕ → Option ℕ) (b : Branch Provision) (u i : ℕ) → Stands at number u i b → holds (provision_in (at i)).wid b ≡ true
 held_there at number (branch p below) u i s = or_left _ _ (equal_text p.wid (provision_in (at i)).wid (sym (ap (λ o. (provision_in o).wid) s.0)))
 
--- the children of a node have slots
-child_low : (a : Arena) (b : Branch Provision) (u i : ℕ) → Stands (at a) (number a) u i b → (k : ℕ) → list_any (λ j. j == k) (below_in (at a i)) ≡ true → k < size a
-child_low a (branch p below) u i s k found =
-    let child : Among (at a) (number a) i k below = among (at a) (number a) below i k (below_in (at a i)) s.1.1 found in
-    low_there a child.it i k child.stands
+-- where all that was there stays, what stood with wIds of the text still stands
+module _ (old new : Arena) (ws : List (List ℕ)) (whole : IsWhole (at old) (number old) (size old)) (fresh : AreFresh old ws) (g : HasGrown old new ws) where
+  is_fresh : (v : List ℕ) → holds v (branch_from (size old) (at old) 0) ≡ true → is_among v ws ≡ false
+  is_fresh v held =
+      fresh v (sym (ap (λ p. bytes_eq v p.wid || is_among v (all_wids (body_of old))) whole.root) ∙ wids_held v (branch_from (size old) (at old) 0) ∙ held)
 
--- the text of the root with branches among the children of a wId is the text that is grafted
-pub graft_text : (at : ℕ → Option Laid) (number : List ℕ → Option ℕ) (r : Provision) (body : Branches Provision) (w : List ℕ) (place : ℕ) (new : Branches Provision) → Stands at number 0 0 (branch r body) → r.wid ≡ root_wid
-    → cond (bytes_eq r.wid w) (put_in place new (changed (among_children place new) w body)) (changed (among_children place new) w body) ≡ grafted w place new body
-graft_text at number r body w place new s root =
-    elim (text_cases w root_wid) [
-      | inl same ↦
-          let none : any_holds w body ≡ false = ap (λ v. any_holds v body) (same ∙ sym root) ∙ not_beneath at number r body 0 0 s in
-          ap (λ t. cond t (put_in place new (changed (among_children place new) w body)) (changed (among_children place new) w body)) (equal_text r.wid w (root ∙ sym same))
-          ∙ ap (put_in place new) (same_changed (among_children place new) w body none)
-          ∙ sym (ap (λ t. cond t (put_in place new body) (changed (among_children place new) w body)) (equal_text w root_wid same))
-      | inr other ↦
-          ap (λ t. cond t (put_in place new (changed (among_children place new) w body)) (changed (among_children place new) w body)) (other_text r.wid w (λ same. other (sym same ∙ root)))
-          ∙ sym (ap (λ t. cond t (put_in place new body) (changed (among_children place new) w body)) (other_text w root_wid other))
+  pub still : (b : Branch Provision) (u k : ℕ) → Stands (at old) (number old) u k b → ((v : List ℕ) → holds v b ≡ true → holds v (branch_from (size old) (at old) 0) ≡ true) → Stands (at new) (number new) u k b
+  still b u k s inside = still_stands (at old) (at new) (number old) (number new) b u k (record {
+    numbers = λ v found. g.numbers v (is_fresh v (inside v (sym (wids_held v b) ∙ found)));
+    laid = λ j v found leads named. g.kept j (named_within old.slots.items j v named);
+  }) s
+
+  pub text_still : Text (at new) (number new) (size new) (branch_from (size old) (at old) 0)
+  text_still = record {
+    sound = g.sound (text_of (at old) (number old) (size old) whole (laid_past old.slots.items)).sound;
+    stands = still (branch_from (size old) (at old) 0) 0 0 whole.stands (λ v among. among);
+  }
+
+-- the way up from a number that had one is the same
+climbs_still : (at next : ℕ → Option Laid) → ((k : ℕ) (x : Laid) → at k ≡ Some x → (hangs_on k (next k) ≡ hangs_on k (at k)) × (above_in (next k) ≡ above_in (at k)))
+    → (f k : ℕ) → climbs f at k ≡ true → climbs f next k ≡ true
+climbs_still at next same zero k climbed = climbed
+climbs_still at next same (suc f) k climbed =
+    elim (or_cases (k == 0) (hangs_on k (at k) && climbs f at (above_in (at k))) climbed) [
+      | inl root ↦ or_left _ _ root
+      | inr further ↦
+          let parts : (hangs_on k (at k) ≡ true) × (climbs f at (above_in (at k)) ≡ true) = and_parts _ _ further in
+          let it : (x : Laid) × (at k ≡ Some x) = hangs_laid (at k) parts.0 in
+          let is : (hangs_on k (next k) ≡ hangs_on k (at k)) × (above_in (next k) ≡ above_in (at k)) = same k it.0 it.1 in
+          or_right (k == 0) _ (and_from _ _ (is.0 ∙ parts.0) (ap (climbs f next) is.1 ∙ climbs_still at next same f (above_in (at k)) parts.1))
     ]
+  where
+    hangs_laid : (o : Option Laid) → hangs_on k o ≡ true → (x : Laid) × (o ≡ Some x)
+    hangs_laid None hangs = absurd cc
+    hangs_laid (Some x) hangs = (x, refl)
 
 -- branches were laid down and put among those below a node
-pub regrown : (old new : Arena) (i place : ℕ) (bs : Branches Provision) → IsWhole (at old) (number old) (size old) → climbs (size old) (at old) i ≡ true → IsGrafted old new i place bs
-    → one_twice (all_wids bs) ≡ false → AreFresh old (all_wids bs) → Regrown old new (grafted (provision_in (at old i)).wid place bs (body_of old))
-regrown old new i place bs whole climbed is differ fresh =
-    let mid : Arena = is.between in
-    let w : List ℕ = (provision_in (at old i)).wid in
-    let r : Provision = provision_in (at old 0) in
-    let body : Branches Provision = body_of old in
-    let root : Branch Provision = branch r body in
-    let root_is : r.wid ≡ root_wid = ap (λ p. p.wid) whole.root in
-    let seat : Seated (at old) (number old) root i = node_seated (at old) (number old) (size old) whole i climbed in
-    let here : (x : Laid) × (at old i ≡ Some x) = node_laid (at old) (number old) (size old) whole i climbed in
-    let named : name_in (at old i) ≡ Some w = named_there (at old i) here.0 here.1 in
-    let leads : number old w ≡ Some i = leads_there (at old) (number old) seat.it (above_in (at old i)) i seat.stands in
-    let rises : size old ≤ size mid = is.laid.rises in
-    let g : Grafts (at old) (at mid) (at new) (number old) (number mid) (number new) (size old) (size mid) i place w is.ids bs root = record {
-      laid = is.laid;
-      here = is.here;
-      others = is.others;
-      numbers = is.numbers;
-      empty = λ k high. laid_past old.slots.items k high;
-      past = λ k high. laid_past mid.slots.items k high;
-      leads = leads;
-      there = here;
-      named = named;
-      apart = λ v found. fresh v (sym (ap (λ u. bytes_eq v u || is_among v (all_wids body)) root_is) ∙ found);
-      w_there = wids_held w root ∙ seat.inside w (held_there (at old) (number old) seat.it (above_in (at old i)) i seat.stands);
-      differ = differ;
-    } in
-    let after : Branches Provision = cond (bytes_eq r.wid w) (put_in place bs (changed (among_children place bs) w body)) (changed (among_children place bs) w body) in
-    let stands : Stands (at new) (number new) 0 0 (branch r after) =
-    put_stands (at old) (at mid) (at new) (number old) (number mid) (number new) (size old) (size mid) i place w is.ids bs root g root 0 0 (λ v found. found) whole.stands in
-    let low : heights after < size new =
-    (let was : heights body < size old = whole.low in
-    let tall : heights bs + size old ≤ size mid = is.laid.tall in
-    let same : size new ≡ size mid = is.sizes in
-    let more : heights (changed (among_children place bs) w body) ≤ heights body + heights bs = heights-changed (among_children place bs) w (heights bs) (among_rises place bs) body in
-    let most : heights after ≤ heights body + heights bs =
-    elim (bytes_eq r.wid w) as (λ t. heights (cond t (put_in place bs (changed (among_children place bs) w body)) (changed (among_children place bs) w body)) ≤ heights body + heights bs) [
-      | true ↦ omega (arith, heights-put_in place bs (changed (among_children place bs) w body))
-      | false ↦ more
-    ] in
-    omega arith) in
-    let kept : are_numbered after ≡ true =
-    (let inside : are_numbered (changed (among_children place bs) w body) ≡ true = changed_kept (among_children place bs) w (among_children_keeps place bs is.laid.numbered) body whole.numbered in
-    elim (bytes_eq r.wid w) as (λ t. are_numbered (cond t (put_in place bs (changed (among_children place bs) w body)) (changed (among_children place bs) w body)) ≡ true) [
-      | true ↦ put_in_kept place bs (changed (among_children place bs) w body) is.laid.numbered inside
-      | false ↦ inside
-    ]) in
-    let text : after ≡ grafted w place bs body = graft_text (at old) (number old) r body w place bs whole.stands root_is in
-    let P : Branches Provision → Type 0 = λ bs. Holds new bs in
-    record {
-      holds = subst P text (record {
-        whole = whole_from (at new) (number new) (size new) r after whole.root stands low
-            (still_hung (at old) (at mid) (at new) (number old) (number mid) (number new) (size old) (size mid) i place w is.ids bs root g whole.hung)
-            (still_once (at old) (at mid) (at new) (number old) (number mid) (number new) (size old) (size mid) i place w is.ids bs root g whole.once
-            (child_low old seat.it (above_in (at old i)) i seat.stands))
-            (λ v k to. names (at old) (at mid) (at new) (number old) (number mid) (number new) (size old) (size mid) i place w is.ids bs root g k ∙ is.laid.grown.named whole.named v k (sym (is.numbers v) ∙ to))
-            kept
-            (let fits : size mid ≤ 2 ^ 32 = is.laid.fits whole.fits in let same : size new ≡ size mid = is.sizes in omega arith);
-        reads = reads_from (at new) (number new) (size new) r after stands low;
-      });
-      nodes = λ k up. climbs_more (size old) (size new) (at new) k (let same : size new ≡ size mid = is.sizes in omega arith)
-          (still_climbs (at old) (at mid) (at new) (number old) (number mid) (number new) (size old) (size mid) i place w is.ids bs root g (size old) k up);
-      says = λ k up.
-          let some : (x : Laid) × (at old k ≡ Some x) = node_laid (at old) (number old) (size old) whole k up in
-          still_says (at old) (at mid) (at new) (number old) (number mid) (number new) (size old) (size mid) i place w is.ids bs root g k some.0 some.1;
-    }
+module _ (old new : Arena) (i place : ℕ) (bs : Branches Provision) (whole : IsWhole (at old) (number old) (size old)) (climbed : climbs (size old) (at old) i ≡ true) (g : IsGrafted old new i place bs)
+    (unlike : one_twice (all_wids bs) ≡ false) (fresh : AreFresh old (all_wids bs)) where
+  abbrev mid : Arena
+  mid = g.between
 
-name_low : (a : Arena) (k : ℕ) (w : List ℕ) → name_in (at a k) ≡ Some w → k < size a
-name_low a k w named =
-    elim (cases_lt k (size a)) [
-      | inl low ↦ low
-      | inr past ↦ absurd (let none : name_in (at a k) ≡ None = ap name_in (laid_past a.slots.items k past) in cc)
-    ]
+  abbrev w : List ℕ
+  w = (provision_in (at old i)).wid
 
-list_low : (a : Arena) (j k : ℕ) → list_any (λ l. l == k) (below_in (at a j)) ≡ true → j < size a
-list_low a j k found =
-    elim (cases_lt j (size a)) [
-      | inl low ↦ low
-      | inr past ↦ absurd (let none : list_any (λ l. l == k) (below_in (at a j)) ≡ false = ap (λ o. list_any (λ l. l == k) (below_in o)) (laid_past a.slots.items j past) in cc)
-    ]
+  abbrev under : Branches Provision
+  under = branches_below (size old) (at old) (below_in (at old i))
+
+  abbrev list : List ℕ
+  list = put_numbers place g.ids (below_in (at old i))
+
+  i_low : i < size old
+  i_low = let here : (x : Laid) × (at old i ≡ Some x) = node_laid (at old) (number old) (size old) whole i climbed in laid_within old.slots.items i here.0 here.1
+
+  kept_i : at mid i ≡ at old i
+  kept_i = g.laid.grown.kept i i_low
+
+  -- the node still stands where they were laid down
+  stands_i : Stands (at mid) (number mid) (above_in (at mid i)) i (branch (provision_in (at old i)) under)
+  stands_i =
+      let P : ℕ → Type 0 = λ u. Stands (at mid) (number mid) u i (branch_from (size old) (at old) i) in
+      subst P (sym (ap above_in kept_i))
+      (still old mid (all_wids bs) whole fresh g.laid.grown (branch_from (size old) (at old) i) (above_in (at old i)) i (node_stands (at old) (number old) (size old) whole i climbed) (node_inside (at old) (number old) (size old) whole i climbed))
+
+  new_stand : Each (λ k b. Stands (at mid) (number mid) k k b) g.ids bs
+  new_stand = g.laid.stands unlike
+
+  not_id : (k : ℕ) → k < size old → list_any (λ j. j == k) g.ids ≡ false
+  not_id = not_laid old mid g.ids bs g.laid
+
+  old_low : (k : ℕ) → list_any (λ j. j == k) (below_in (at old i)) ≡ true → k < size old
+  old_low k found =
+      let stands : Stands (at old) (number old) (above_in (at old i)) i (branch (provision_in (at old i)) under) = node_stands (at old) (number old) (size old) whole i climbed in
+      let child : Among (at old) (number old) i k under = among (at old) (number old) under i k (below_in (at old i)) stands.1.1 found in
+      let here : (x : Laid) × (at old k ≡ Some x) = laid_standing (at old) (number old) child.it i k child.stands in
+      laid_within old.slots.items k here.0 here.1
+
+  move : Move (at mid) (at new) (number mid) i (own_at mid i) [] g.ids list (provision_in (at old i)) under (put_in place bs under)
+  move =
+      let ks : List ℕ = below_in (at old i) in
+      let P : List ℕ → Type 0 = λ js. StandAll (at mid) (number mid) i js under in
+      let old_each : Each (Apart (at mid) (number mid) w) ks under =
+      each_apart (at mid) (number mid) w i ks under (subst P (ap below_in kept_i) stands_i.1.1) (not_beneath (at mid) (number mid) (provision_in (at old i)) under (above_in (at mid i)) i stands_i) in
+      let free : any_holds w bs ≡ false =
+      sym (all_wids_held w bs) ∙ is_fresh old mid (all_wids bs) whole fresh g.laid.grown w (node_inside (at old) (number old) (size old) whole i climbed w (or_left _ _ (equal_text w w refl))) in
+      record {
+        relisted = g.relisted;
+        swaps = record {
+          there = (_, stands_i.0);
+          balance = λ k. omega (arith, times-put k place g.ids ks, ap (times k) (ap below_in kept_i));
+          fewer = λ k. omega arith;
+          fresh = λ k.
+              let same : times k (below_in (at mid i)) ≡ times k ks = ap (times k) (ap below_in kept_i) in
+              let few : times k ks ≤ 1 = once_few ks k (whole.once i) in
+              let once : times k g.ids ≤ 1 = once_few g.ids k g.laid.differ in
+              elim (cases_Bool (list_any (λ j. j == k) ks)) [
+                | inl found ↦ (let none : times k g.ids ≡ 0 = none_times k g.ids (not_id k (old_low k found)) in omega arith)
+                | inr none ↦ (let zero_times : times k ks ≡ 0 = none_times k ks none in omega arith)
+              ];
+          not_gone = refl;
+          not_come = not_id i i_low;
+        };
+        stands = stands_i;
+        off = λ k found. inl (each_own (at mid) (number mid) g.ids bs new_stand k found);
+        each = each_joined (Apart (at mid) (number mid) w) (take place ks) (g.ids ++ drop place ks) (first place under) (joined bs (behind place under)) (each_first (Apart (at mid) (number mid) w) place ks under old_each)
+            (each_joined (Apart (at mid) (number mid) w) g.ids (drop place ks) bs (behind place under) (each_alone (at mid) (number mid) w g.ids bs new_stand free)
+            (each_behind (Apart (at mid) (number mid) w) place ks under old_each));
+      }
+
+  text_new : Text (at new) (number mid) (size mid) (branch (provision_in (at old 0)) (grafted w place bs (body_of old)))
+  text_new =
+      let P : Own → Type 0 = λ o. Text (at new) (number mid) (size mid) (renewed_in o (put_in place bs under) w (branch_from (size old) (at old) 0)) in
+      let Q : Branch Provision → Type 0 = λ b. Text (at new) (number mid) (size mid) b in
+      subst Q (grafted_as (at old) (number old) (size old) whole i climbed place bs) (subst P (ap (λ o. (provision_in o).own) kept_i)
+      (text_moved move (ap (λ o. is_num (provision_in o).own.num) kept_i ∙ whole.nums i) (not_id 0 (laid_within old.slots.items 0 _ whole.stands.0)) (text_still old mid (all_wids bs) whole fresh g.laid.grown)))
+
+  pub regrown : Regrown old new (grafted (provision_in (at old i)).wid place bs (body_of old))
+  regrown =
+      let same : (k : ℕ) → (k ≡ i → ⊥) → k < size old → at new k ≡ at old k = λ k far low. g.relisted.others k far refl (not_id k low) ∙ g.laid.grown.kept k low in
+      let way : (k : ℕ) (x : Laid) → at old k ≡ Some x → (hangs_on k (at new k) ≡ hangs_on k (at old k)) × (above_in (at new k) ≡ above_in (at old k)) = λ k x is. elim (cases_eq k i) [
+        | inl it ↦
+            let now = ap (at new) it ∙ g.relisted.here in
+            let up : above_in (at mid i) ≡ x.above = ap above_in kept_i ∙ sym (ap (λ j. above_in (at old j)) it) ∙ ap above_in is in
+            (ap (hangs_on k) now ∙ ap (λ v. not (v == k)) up ∙ sym (ap (hangs_on k) is), ap above_in now ∙ up ∙ sym (ap above_in is))
+        | inr far ↦ (let now : at new k ≡ at old k = same k far (laid_within old.slots.items k x is) in (ap (hangs_on k) now, ap above_in now))
+      ] in
+      record {
+        holds = held mid new (provision_in (at old 0)) (grafted w place bs (body_of old)) g.numbers g.sizes whole.root text_new;
+        nodes = λ k up. climbs_more (size old) (size new) (at new) k (let rises : size old ≤ size mid = g.laid.grown.rises in let equal : size new ≡ size mid = g.sizes in omega arith) (climbs_still (at old) (at new) way (size old) k up);
+        says = λ k up.
+            let some : (x : Laid) × (at old k ≡ Some x) = node_laid (at old) (number old) (size old) whole k up in
+            elim (cases_eq k i) [
+              | inl it ↦ ap (λ j. provision_in (at new j)) it ∙ ap provision_in g.relisted.here ∙ ap provision_in kept_i ∙ sym (ap (λ j. provision_in (at old j)) it)
+              | inr far ↦ ap provision_in (same k far (laid_within old.slots.items k some.0 some.1))
+            ];
+      }
 
 -- it failed, and the text is as it was
-pub left_whole : (old new : Arena) (ws : List (List ℕ)) → IsWhole (at old) (number old) (size old) → IsStopped old new ws → AreFresh old ws → Holds new (body_of old)
-left_whole old new ws whole is fresh =
-    let r : Provision = provision_in (at old 0) in
-    let body : Branches Provision = body_of old in
-    let root_is : r.wid ≡ root_wid = ap (λ p. p.wid) whole.root in
-    let rises : size old ≤ size new = is.grown.rises in
-    let was : heights body < size old = whole.low in
-    let stays : Stays (at old) (at new) (number old) (number new) (wids (branch r body)) = record {
-      numbers = λ v found. is.grown.grown.numbers v (fresh v (sym (ap (λ u. bytes_eq v u || is_among v (all_wids body)) root_is) ∙ found));
-      laid = λ k v found leads named. is.grown.grown.kept k (name_low old k v named);
-    } in
-    let stands : Stands (at new) (number new) 0 0 (branch r body) = still_stands (at old) (at new) (number old) (number new) (branch r body) 0 0 stays whole.stands in
-    let low : heights body < size new = omega arith in
-    let hung : (k : ℕ) → is_hung (at new) k (at new k) ≡ true = λ k. elim (cases_lt k (size old)) [
-      | inl before ↦ ap (is_hung (at new) k) (is.grown.grown.kept k before)
-          ∙ hung_more (at old) (at new) k (at old k) (λ j found. ap (λ o. list_any (λ l. l == k) (below_in o)) (is.grown.grown.kept j (list_low old j k found)) ∙ found) (whole.hung k)
-      | inr behind ↦ is.hung k behind
-    ] in
-    record {
-      whole = whole_from (at new) (number new) (size new) r body whole.root stands low hung (is.grown.once whole.once) (is.grown.grown.named whole.named) whole.numbered (is.grown.fits whole.fits);
-      reads = reads_from (at new) (number new) (size new) r body stands low;
-    }
+pub left_whole : (old new : Arena) (ws : List (List ℕ)) → IsWhole (at old) (number old) (size old) → HasGrown old new ws → AreFresh old ws → Holds new (body_of old)
+left_whole old new ws whole g fresh = held new new (provision_in (at old 0)) (body_of old) refl refl whole.root (text_still old new ws whole fresh g)

@@ -1,8 +1,9 @@
 -- An arena that has grown keeps what it had.
-use Rattle.std.proofs.Common.{◌≡◌, ◌∙◌, sym, ap, refl, subst, ℕ, ◌+◌, ◌<◌, ◌≤◌, ◌^◌, false, ◌||◌, cond, List, [], ◌∷◌, ◌++◌, length, take, map, zero, suc, get_or, Option, Some, None, inl, inr, arith, length-append}
+use Rattle.std.proofs.Common.{◌≡◌, ◌∙◌, sym, ap, refl, subst, ℕ, ◌==◌, ◌+◌, ◌<◌, ◌≤◌, true, false, ◌||◌, cond, List, [], ◌∷◌, length, take, map, zero, suc, get_or, Option, Some, None, inl, inr, arith}
 use Rattle.std.specs.Prelude.{Result, Ok, Err, OnOk, OnErr}
 use Rattle.std.specs.Str.{bytes_eq}
-use Rattle.std.proofs.lemmas.Bool.{cases_lt}
+use Rattle.std.specs.List.{list_any}
+use Rattle.std.proofs.lemmas.Bool.{cases_eq, cases_lt, eq-eqb}
 use Rattle.std.proofs.lemmas.List.Folds.{list_any-append}
 use Rattle.act_tree.specs.declared.arena.Slot.{Slot}
 use Rattle.act_tree.specs.declared.arena.Arena.{Arena}
@@ -13,12 +14,13 @@ use Rattle.act_tree.specs.declared.node_spec.NodeSpec.{NodeSpec}
 use Rattle.act_tree.specs.Eids.{eid_below, enacted, all_enacted}
 use Rattle.act_tree.specs.Specs.{spec_view, own_of}
 use Rattle.act_tree.specs.Wids.{wids, all_wids, is_among}
-use Rattle.act_tree.specs.Arena.{below_in, name_in, number_twice}
-use Rattle.act_tree.specs.Planted.{HasGrown, IsLaid, AreLaid}
+use Rattle.eid_paths.specs.Nums.{is_num}
+use Rattle.act_tree.specs.Arena.{provision_in, below_in, name_in, is_hung, number_twice}
+use Rattle.act_tree.specs.Planted.{IsAdded, HasGrown, AreLaid}
 use Rattle.act_tree.specs.Slots.{laid, at, number, size}
 use Rattle.act_tree.proofs.Texts.{equal_text, other_text, text_cases, bytes_eq_sym}
-use Rattle.act_tree.proofs.Frames.{none_left, none_right, neither}
-use Rattle.act_tree.proofs.LaidDown.{laid_past, laid_before, laid_last}
+use Rattle.act_tree.proofs.Frames.{or_left, none_left, none_right, neither, still_hung}
+use Rattle.act_tree.proofs.LaidDown.{laid_past}
 
 -- what is so holds of a failure too
 pub on_err : {A E : Type 0} → (r : Result A E) (X : Type 0) → X → OnErr r X
@@ -29,30 +31,9 @@ on_err (Err e) X held = held
 abbrev pub Covers : List (List ℕ) → List (List ℕ) → Type 0
 Covers ws vs = (w : List ℕ) → is_among w ws ≡ false → is_among w vs ≡ false
 
--- nothing was laid down
-pub grown_none : (old new : Arena) (ws : List (List ℕ)) → new.slots.items ≡ old.slots.items → ((w : List ℕ) → number new w ≡ number old w) → HasGrown old new ws
-grown_none old new ws slots numbers =
-    let same : size new ≡ size old = ap length slots in
-    let here : (k : ℕ) → at new k ≡ at old k = λ k. ap (λ ss. laid ss k) slots in
-    record {
-      grown = record {
-        kept = λ k low. here k;
-        numbers = λ w new. numbers w;
-        named = λ named. λ w i leads. ap name_in (here i) ∙ named w i (sym (numbers w) ∙ leads);
-      };
-      once = λ once. λ k. ap (λ o. number_twice (below_in o)) (here k) ∙ once k;
-      rises = omega arith;
-      fits = λ fits. omega arith;
-    }
-
 -- of more wIds less is said
 pub grown_wider : (old new : Arena) (vs ws : List (List ℕ)) → HasGrown old new vs → Covers ws vs → HasGrown old new ws
-grown_wider old new vs ws g covers = record {
-  grown = record { kept = g.grown.kept; numbers = λ w none. g.grown.numbers w (covers w none); named = g.grown.named };
-  once = g.once;
-  rises = g.rises;
-  fits = g.fits;
-}
+grown_wider old new vs ws g covers = record { kept = g.kept; numbers = λ w none. g.numbers w (covers w none); sound = g.sound; rises = g.rises }
 
 -- it has grown, and has grown again
 pub grown_on : (old one new : Arena) (us vs ws : List (List ℕ)) → HasGrown old one us → HasGrown one new vs → Covers ws us → Covers ws vs → HasGrown old new ws
@@ -60,69 +41,61 @@ grown_on old one new us vs ws first second covers_us covers_vs =
     let rises : size old ≤ size one = first.rises in
     let further : size one ≤ size new = second.rises in
     record {
-      grown = record {
-        kept = λ k low. second.grown.kept k (omega arith) ∙ first.grown.kept k low;
-        numbers = λ w none. second.grown.numbers w (covers_vs w none) ∙ first.grown.numbers w (covers_us w none);
-        named = λ named. second.grown.named (first.grown.named named);
-      };
-      once = λ once. second.once (first.once once);
+      kept = λ k low. second.kept k (omega arith) ∙ first.kept k low;
+      numbers = λ w none. second.numbers w (covers_vs w none) ∙ first.numbers w (covers_us w none);
+      sound = λ s. second.sound (first.sound s);
       rises = omega arith;
-      fits = λ fits. second.fits (first.fits fits);
     }
 
-once_beyond : (old new : Arena) → ((k : ℕ) → k < size old → at new k ≡ at old k) → ((k : ℕ) → size old ≤ k → k < size new → number_twice (below_in (at new k)) ≡ false)
-    → ((k : ℕ) → number_twice (below_in (at old k)) ≡ false) → (k : ℕ) → number_twice (below_in (at new k)) ≡ false
-once_beyond old new kept added once k =
-    elim (cases_lt k (size old)) [
-      | inl low ↦ ap (λ o. number_twice (below_in o)) (kept k low) ∙ once k
-      | inr high ↦ elim (cases_lt k (size new)) [
-        | inl within ↦ added k high within
-        | inr past ↦ ap (λ o. number_twice (below_in o)) (laid_past new.slots.items k past)
-      ]
-    ]
-
-pub grown_laid : (old new : Arena) (above id : ℕ) (b : Branch Provision) → IsLaid old new above id b → HasGrown old new (wids b)
-grown_laid old new above id b l = record {
-  grown = l.grown;
-  once = λ once. once_beyond old new l.grown.kept l.once once;
-  rises = (let r : size old < size new = l.rises in omega arith);
-  fits = λ _. l.fits;
-}
-
-pub grown_laid_all : (old new : Arena) (above : ℕ) (ids : List ℕ) (bs : Branches Provision) → AreLaid old new above ids bs → HasGrown old new (all_wids bs)
-grown_laid_all old new above ids bs l = record { grown = l.grown; once = λ once. once_beyond old new l.grown.kept l.once once; rises = l.rises; fits = l.fits }
-
-named_within : (ss : List Slot) (k : ℕ) (w : List ℕ) → name_in (laid ss k) ≡ Some w → k < length ss
+pub named_within : (ss : List Slot) (k : ℕ) (w : List ℕ) → name_in (laid ss k) ≡ Some w → k < length ss
 named_within ss k w named =
     elim (cases_lt k (length ss)) [
       | inl within ↦ within
       | inr past ↦ absurd (let none : name_in (laid ss k) ≡ None = ap name_in (laid_past ss k past) in cc)
     ]
 
--- a slot was added, and noted
-pub grown_added : (old one : Arena) (s : Slot) → one.slots.items ≡ old.slots.items ++ s ∷ [] → ((w : List ℕ) → number one w ≡ cond (bytes_eq s.wid w) (Some (size old)) (number old w)) → s.below.items ≡ [] → size one ≤ 2 ^ 32 → HasGrown old one (s.wid ∷ [])
-grown_added old one s slots noted bare fits =
-    let same : size one ≡ size old + 1 = ap length slots ∙ length-append old.slots.items (s ∷ []) in
+pub list_within : (ss : List Slot) (j k : ℕ) → list_any (λ l. l == k) (below_in (laid ss j)) ≡ true → j < length ss
+list_within ss j k found =
+    elim (cases_lt j (length ss)) [
+      | inl within ↦ within
+      | inr past ↦ absurd (let none : list_any (λ l. l == k) (below_in (laid ss j)) ≡ false = ap (λ o. list_any (λ l. l == k) (below_in o)) (laid_past ss j past) in cc)
+    ]
+
+-- a provision was laid down right above itself, and noted
+pub grown_added : (old one : Arena) (p : Provision) → IsAdded old one p → is_num p.own.num ≡ true → HasGrown old one (p.wid ∷ [])
+grown_added old one p a num =
+    let n : ℕ = size old in
+    let sizes : size one ≡ size old + 1 = a.sizes in
     record {
-      grown = record {
-        kept = λ k low. ap (λ ss. laid ss k) slots ∙ laid_before old.slots.items s k low;
-        numbers = λ w none. noted w ∙ ap (λ t. cond t (Some (size old)) (number old w)) (bytes_eq_sym s.wid w ∙ none_left _ _ none);
-        named = λ named. λ w i leads. elim (text_cases s.wid w) [
-          | inl it ↦
-              let one_number : Some (size old) ≡ Some i = sym (noted w ∙ ap (λ t. cond t (Some (size old)) (number old w)) (equal_text s.wid w it)) ∙ leads in
-              let last : size old ≡ i = cc in
-              ap (λ j. name_in (at one j)) (sym last) ∙ ap (λ ss. name_in (laid ss (size old))) slots ∙ ap name_in (laid_last old.slots.items s) ∙ ap (λ v. Some v) it
-          | inr other ↦
-              let was : name_in (at old i) ≡ Some w = named w i (sym (noted w ∙ ap (λ t. cond t (Some (size old)) (number old w)) (other_text s.wid w other)) ∙ leads) in
-              ap (λ ss. name_in (laid ss i)) slots ∙ ap name_in (laid_before old.slots.items s i (named_within old.slots.items i w was)) ∙ was
+      kept = λ k low. a.others k (λ same. omega arith);
+      numbers = λ w none. a.numbers w ∙ ap (λ t. cond t (Some (size old)) (number old w)) (bytes_eq_sym p.wid w ∙ none_left _ _ none);
+      sound = λ s. record {
+        hung = λ k. elim (cases_eq k n) [
+          | inl same ↦ ap (λ j. is_hung (at one) j (at one j)) same ∙ ap (is_hung (at one) n) a.here ∙ or_left _ _ (eq-eqb n n refl)
+          | inr other ↦ still_hung (at old) (at one) (number old) (number one) k (a.others k other)
+              (λ j found. ap below_in (a.others j (λ same. let low : j < size old = list_within old.slots.items j k found in omega arith))) (s.hung k)
         ];
+        once = λ k. elim (cases_eq k n) [
+          | inl same ↦ ap (λ j. number_twice (below_in (at one j))) same ∙ ap (λ o. number_twice (below_in o)) a.here
+          | inr other ↦ ap (λ o. number_twice (below_in o)) (a.others k other) ∙ s.once k
+        ];
+        nums = λ k. elim (cases_eq k n) [
+          | inl same ↦ ap (λ j. is_num (provision_in (at one j)).own.num) same ∙ ap (λ o. is_num (provision_in o).own.num) a.here ∙ num
+          | inr other ↦ ap (λ o. is_num (provision_in o).own.num) (a.others k other) ∙ s.nums k
+        ];
+        named = λ w k leads. elim (text_cases p.wid w) [
+          | inl same ↦
+              let equal : Some n ≡ Some k = sym (a.numbers w ∙ ap (λ t. cond t (Some (size old)) (number old w)) (equal_text p.wid w same)) ∙ leads in
+              let is : n ≡ k = cc in
+              ap (λ j. name_in (at one j)) (sym is) ∙ ap name_in a.here ∙ ap (λ v. Some v) same
+          | inr other ↦
+              let was : name_in (at old k) ≡ Some w = s.named w k (sym (a.numbers w ∙ ap (λ t. cond t (Some (size old)) (number old w)) (other_text p.wid w other)) ∙ leads) in
+              ap name_in (a.others k (λ same. let low : k < size old = named_within old.slots.items k w was in omega arith)) ∙ was
+        ];
+        empty = λ k past. a.others k (λ same. omega arith) ∙ laid_past old.slots.items k (omega arith);
+        fits = a.fits;
       };
-      once = λ once. once_beyond old one (λ k low. ap (λ ss. laid ss k) slots ∙ laid_before old.slots.items s k low)
-          (λ k high within.
-          let it : size old ≡ k = omega arith in
-          ap (λ j. number_twice (below_in (at one j))) (sym it) ∙ ap (λ ss. number_twice (below_in (laid ss (size old)))) slots ∙ ap (λ o. number_twice (below_in o)) (laid_last old.slots.items s) ∙ ap number_twice bare) once;
       rises = omega arith;
-      fits = λ _. fits;
     }
 
 -- the wIds of a branch and of those below it
@@ -152,20 +125,20 @@ module _ (f : Branch Own → Branch Provision) where
       list_any-append (bytes_eq w) (wids (f (spec_view n))) (all_wids (branches_of (map f (map spec_view (take i ns)))))
       ∙ neither _ _ (none_left _ _ both) (covers_front ns i w (none_right (is_among w (wids (f (spec_view n)))) _ both))
 
-  module _ (ns : List NodeSpec) (i : ℕ) (old one : Arena) (above : ℕ) (ids : List ℕ) (all : Branches Provision) (are : branches_of (map f (map spec_view ns)) ≡ all) where
+  module _ (ns : List NodeSpec) (i : ℕ) (old one : Arena) (ids : List ℕ) (all : Branches Provision) (are : branches_of (map f (map spec_view ns)) ≡ all) where
     -- the first of some branches were laid down
-    pub stopped_between : AreLaid old one above ids (branches_of (map f (map spec_view (take i ns)))) → HasGrown old one (all_wids all)
+    pub stopped_between : AreLaid old one ids (branches_of (map f (map spec_view (take i ns)))) → HasGrown old one (all_wids all)
     stopped_between laid =
         let P : Branches Provision → Type 0 = λ bs. HasGrown old one (all_wids bs) in
-        subst P are (grown_wider old one _ _ (grown_laid_all old one above ids _ laid) (covers_front ns i))
+        subst P are (grown_wider old one _ _ laid.grown (covers_front ns i))
 
     -- and part of the next
-    pub stopped_within : (new : Arena) (d : NodeSpec) (b : Branch Provision) → AreLaid old one above ids (branches_of (map f (map spec_view (take i ns)))) → i < length ns → d ≡ get_or ns i d → b ≡ f (spec_view d)
+    pub stopped_within : (new : Arena) (d : NodeSpec) (b : Branch Provision) → AreLaid old one ids (branches_of (map f (map spec_view (take i ns)))) → i < length ns → d ≡ get_or ns i d → b ≡ f (spec_view d)
         → HasGrown one new (wids b) → HasGrown old new (all_wids all)
     stopped_within new d b laid within it same more =
         let P : Branches Provision → Type 0 = λ bs. HasGrown old new (all_wids bs) in
         let Q : Branch Provision → Type 0 = λ c. HasGrown one new (wids c) in
-        subst P are (grown_on old one new _ _ _ (grown_laid_all old one above ids _ laid) (subst Q (same ∙ ap (λ n. f (spec_view n)) it) more) (covers_front ns i) (covers_item ns i d within))
+        subst P are (grown_on old one new _ _ _ laid.grown (subst Q (same ∙ ap (λ n. f (spec_view n)) it) more) (covers_front ns i) (covers_item ns i d within))
 
 -- a provision that was made of a node, and what is laid down below it, is what the node becomes
 pub node_enacted : (numbering : Numbering) (above : Option (List ℕ)) (node : NodeSpec) (p : Provision) (name : List ℕ)

@@ -1,5 +1,5 @@
 -- What slots lay down after one is added or changed.
-use Rattle.std.proofs.Common.{◌≡◌, ◌∙◌, sym, ap, refl, ℕ, zero, suc, ◌<◌, ◌≤◌, List, [], ◌∷◌, ◌++◌, length, get_or, slice_set, option_map, Some, None, inl, inr, arith}
+use Rattle.std.proofs.Common.{◌≡◌, ◌∙◌, sym, ap, refl, ℕ, zero, suc, ◌<◌, ◌≤◌, List, [], ◌∷◌, ◌++◌, length, get_or, option_map, Some, None, inl, inr, arith}
 use Rattle.std.proofs.lemmas.Option.{slice_get_past, slice_get-get_or}
 use Rattle.std.proofs.lemmas.Bool.{cases_lt}
 use Rattle.act_tree.specs.declared.arena.Slot.{Slot}
@@ -24,18 +24,6 @@ laid_before (x ∷ ss) s (suc k) within = laid_before ss s k (omega arith)
 pub laid_last : (ss : List Slot) (s : Slot) → laid (ss ++ s ∷ []) (length ss) ≡ Some (laid_of s)
 laid_last [] s = refl
 laid_last (x ∷ ss) s = laid_last ss s
-
-pub laid_here : (ss : List Slot) (i : ℕ) (s : Slot) → i < length ss → laid (slice_set ss i s) i ≡ Some (laid_of s)
-laid_here [] i s within = absurd (omega arith)
-laid_here (x ∷ ss) zero s within = refl
-laid_here (x ∷ ss) (suc i) s within = laid_here ss i s (omega arith)
-
-pub laid_other : (ss : List Slot) (i k : ℕ) (s : Slot) → (k ≡ i → ⊥) → laid (slice_set ss i s) k ≡ laid ss k
-laid_other [] i k s other = refl
-laid_other (x ∷ ss) zero zero s other = absurd (other refl)
-laid_other (x ∷ ss) zero (suc k) s other = refl
-laid_other (x ∷ ss) (suc i) zero s other = refl
-laid_other (x ∷ ss) (suc i) (suc k) s other = laid_other ss i k s (λ same. other (ap suc same))
 
 pub laid_slot : (ss : List Slot) (i : ℕ) (s : Slot) → i < length ss → s ≡ get_or ss i s → laid ss i ≡ Some (laid_of s)
 laid_slot ss i s within it = laid_is ss i s within ∙ ap (λ x. Some (laid_of x)) (sym it)

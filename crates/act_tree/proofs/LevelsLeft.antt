@@ -1,10 +1,10 @@
 -- A level begins an eId in the text that is left without a node exactly where one of the numbers is that of a provision that begins one by it, and whose way up does not pass the node.
-use Rattle.std.proofs.Common.{◌≡◌, ◌∙◌, sym, ap, refl, subst, ℕ, zero, suc, ◌<◌, ◌==◌, Bool, true, false, not, cond, ◌||◌, ◌&&◌, List, [], ◌∷◌, filter, Option, Some, None, inl, inr, arith}
+use Rattle.std.proofs.Common.{◌≡◌, ◌∙◌, sym, ap, refl, ℕ, zero, suc, ◌<◌, ◌==◌, Bool, true, false, not, cond, ◌||◌, ◌&&◌, List, filter, Option, Some, None, inl, inr, arith}
 use Rattle.std.specs.Str.{bytes_eq}
-use Rattle.std.proofs.lemmas.Bool.{cases_eq, eqb-true, eq-eqb, ne_eqb}
+use Rattle.std.proofs.lemmas.Bool.{cases_eq, eq-eqb, ne_eqb}
 use Rattle.eid_paths.specs.declared.numbering.Numbering.{Numbering}
 use Rattle.act_tree.specs.declared.arena.Arena.{Arena}
-use Rattle.act_tree.specs.Arena.{Laid, provision_in, above_in, below_in, name_in, branches_below, branch_from, hangs_on, climbs, climbs_past, IsWhole}
+use Rattle.act_tree.specs.Arena.{Laid, provision_in, above_in, below_in, branches_below, hangs_on, climbs, climbs_past, IsWhole}
 use Rattle.act_tree.specs.Changes.{without, root_wid}
 use Rattle.act_tree.specs.EidLevels.{begins, own_level, all_beginning}
 use Rattle.act_tree.specs.Faults.{all_owns}
@@ -13,13 +13,13 @@ use Rattle.act_tree.specs.Slots.{at, number, size}
 use Rattle.act_tree.specs.TakenOff.{with_above, with_below, IsTakenOff}
 use Rattle.act_tree.specs.Wids.{is_among}
 use Rattle.act_tree.proofs.ChangeLaws.{same_without}
-use Rattle.act_tree.proofs.Climbing.{Seated, past_root}
-use Rattle.act_tree.proofs.LaidDown.{laid_within}
+use Rattle.act_tree.proofs.Climbing.{past_root}
+use Rattle.act_tree.proofs.LaidDown.{laid_past, laid_within}
 use Rattle.act_tree.proofs.LevelsBegun.{decided}
-use Rattle.act_tree.proofs.MergedNodes.{no_root_held}
-use Rattle.act_tree.proofs.Removing.{Removes, whole_after, reads_after, still_says}
-use Rattle.act_tree.proofs.TakingAway.{leads_there, named_there, may_be_taken}
-use Rattle.act_tree.proofs.TreeNodes.{node_seated, node_laid}
+use Rattle.act_tree.proofs.TreeNodes.{no_root_held}
+use Rattle.act_tree.proofs.Spots.{Spot}
+use Rattle.act_tree.proofs.Sound.{whole_from, reads_from}
+use Rattle.act_tree.proofs.TakingAway.{Sits, sits, spot_of, text_without, says_without}
 
 module _ (n : Numbering) (at : ℕ → Option Laid) (size : ℕ) (x : List ℕ) where
   pub by_past_root : (i : ℕ) → begins_past n at size 0 x i ≡ begins_by n at size x i
@@ -153,20 +153,13 @@ module _ (n : Numbering) (arena : Arena) (whole : IsWhole (at arena) (number are
   left_of_node gone climbed other =
       let w : List ℕ = (provision_in (at arena gone)).wid in
       let next : ℕ → Option Laid = taken (at arena) gone in
-      let seat : Seated (at arena) (number arena) (branch_from (size arena) (at arena) 0) gone = node_seated (at arena) (number arena) (size arena) whole gone climbed in
-      let here : (y : Laid) × (at arena gone ≡ Some y) = node_laid (at arena) (number arena) (size arena) whole gone climbed in
-      let may : (gone < size arena) × ((above_in (at arena gone) < size arena) × (above_in (at arena gone) ≡ gone → ⊥)) = may_be_taken arena gone whole climbed other in
-      let off : IsTakenOff (at arena) next gone = is_taken (at arena) gone may.1.1 in
-      let r : Removes (at arena) next (number arena) gone w = record {
-        taken = off;
-        leads = leads_there (at arena) (number arena) seat.it (above_in (at arena gone)) gone seat.stands;
-        named = named_there (at arena gone) here.0 here.1;
-        apart = may.1.1;
-      } in
-      sym (before_left (at arena) gone next off n (size arena) x other (still_says (at arena) next (number arena) gone w r) (size arena))
-      ∙ decided n next (number arena) (size arena) (whole_after (at arena) next (number arena) gone w r (size arena) whole other) x
+      let it : Sits (at arena) (number arena) gone = sits (at arena) (number arena) (size arena) whole gone climbed other in
+      let m : Spot (at arena) (number arena) (above_in (at arena gone)) gone (below_in (at arena (above_in (at arena gone)))) it.siblings = spot_of (at arena) (number arena) gone it in
+      let off : IsTakenOff (at arena) next gone = is_taken (at arena) gone it.apart in
+      sym (before_left (at arena) gone next off n (size arena) x other (says_without (at arena) next (number arena) (size arena) whole (laid_past arena.slots.items) gone it m off) (size arena))
+      ∙ decided n next (number arena) (size arena) (whole_from next (number arena) (size arena) _ _ (text_without (at arena) next (number arena) (size arena) whole (laid_past arena.slots.items) gone it m off) whole.root) x
       (λ k y laid. (let was : (z : Laid) × (at arena k ≡ Some z) = taken_laid (at arena) gone k y laid in laid_within arena.slots.items k was.0 was.1))
-      ∙ ap (λ bs. is_among x (all_beginning n true (all_owns bs))) (reads_after (at arena) next (number arena) gone w r (size arena) whole other)
+      ∙ ap (λ bs. is_among x (all_beginning n true (all_owns bs))) (reads_from next (number arena) (size arena) _ _ (text_without (at arena) next (number arena) (size arena) whole (laid_past arena.slots.items) gone it m off))
 
   -- of the text without a node; nothing has the root's wId
   pub left : (gone : ℕ) → climbs (size arena) (at arena) gone ≡ true

@@ -1,8 +1,8 @@
 -- Nums keep their rule through changes of the text.
-use Rattle.std.proofs.Common.{◌≡◌, refl, ℕ, zero, suc, true, false, Bool, ◌&&◌, List, [], ◌∷◌, ◌++◌, cond}
+use Rattle.std.proofs.Common.{◌≡◌, refl, ℕ, zero, suc, true, false, Bool, ◌&&◌, List, cond}
 use Rattle.std.proofs.lemmas.Bool.{and_parts}
 use Rattle.eid_paths.specs.Nums.{is_num}
-use Rattle.act_tree.specs.Branches.{Branch, Branches, branch, no_branches, more_branches, branches_of}
+use Rattle.act_tree.specs.Branches.{Branch, Branches, branch, no_branches, more_branches}
 use Rattle.act_tree.specs.Changes.{Step, has_wid, without, inside_without, changed, inside_changed, joined, first, behind, put_in, among_children, parted, merged, with_content}
 use Rattle.act_tree.specs.Numbered.{is_numbered, are_numbered}
 use Rattle.act_tree.specs.Provisions.{Provision}
@@ -78,8 +78,3 @@ merged_keeps content b no_branches one others = both _ _ one others
 merged_keeps content (branch p below) (more_branches (branch next under) rest) one others =
     let second : is_numbered (branch next under) ≡ true = (and_parts _ _ others).0 in
     both _ _ (both _ _ (and_parts _ _ one).0 (joined_kept below under (and_parts _ _ one).1 (and_parts _ _ second).1)) (and_parts _ _ others).1
-
--- so have branches with one more behind them
-pub pushed_kept : (bs : List (Branch Provision)) (b : Branch Provision) → are_numbered (branches_of bs) ≡ true → is_numbered b ≡ true → are_numbered (branches_of (bs ++ b ∷ [])) ≡ true
-pushed_kept [] b some one = both _ _ one refl
-pushed_kept (c ∷ bs) b some one = both _ _ (and_parts _ _ some).0 (pushed_kept bs b (and_parts _ _ some).1 one)

@@ -1,339 +1,366 @@
--- A number is parted: the text has the two parts one behind the other.
-use Rattle.std.proofs.Common.{◌≡◌, ◌∙◌, sym, ap, refl, subst, ℕ, zero, suc, ◌+◌, ◌<◌, ◌≤◌, ◌==◌, ◌^◌, Bool, true, false, cond, List, [], ◌∷◌, take, drop, Option, Some, None, ◌⊎◌, inl, inr, arith}
+-- A number is parted: a new one is laid down, gets the last of those below the number, and is listed right behind it.
+use Rattle.std.proofs.Common.{◌≡◌, ◌∙◌, sym, ap, refl, subst, ℕ, zero, suc, ◌+◌, ◌<◌, ◌≤◌, ◌==◌, true, false, cond, ◌||◌, List, [], ◌∷◌, ◌++◌, take, drop, Option, Some, inl, inr, arith}
 use Rattle.std.specs.List.{list_any}
 use Rattle.std.specs.Str.{bytes_eq}
-use Rattle.std.proofs.lemmas.Bool.{cases_Bool, cases_eq, or_cases, eq-eqb, eqb-true, eqb-false, ne_eqb}
-use Rattle.act_tree.specs.Branches.{Branch, Branches, branch, no_branches, more_branches, heights}
-use Rattle.act_tree.specs.Provisions.{Provision}
-use Rattle.act_tree.specs.Changes.{changed, parted, first, behind, holds}
-use Rattle.act_tree.specs.Arena.{Laid, provision_in, above_in, below_in, name_in, branches_below, branch_from, climbs, is_hung, number_twice, Stands, StandAll, IsWhole}
-use Rattle.act_tree.specs.Parted.{IsParted}
-use Rattle.act_tree.specs.Siblings.{put_behind}
-use Rattle.act_tree.specs.TakenOff.{with_above, with_below}
-use Rattle.act_tree.proofs.Texts.{equal_text, other_text, text_cases}
-use Rattle.act_tree.proofs.ListedNumbers.{take_listed, drop_listed, take_or_drop, take_not_drop, once_take, once_drop, put_listed, new_listed, once_put}
-use Rattle.act_tree.proofs.Frames.{or_left, or_right, none_right, put_down}
+use Rattle.std.proofs.lemmas.Bool.{cases_Bool, eqb-true}
 use Rattle.eid_paths.specs.Nums.{is_num}
-use Rattle.act_tree.proofs.Nums.{changed_kept, parted_keeps}
-use Rattle.act_tree.proofs.Removing.{whole_from, reads_from, below_kept, name_kept}
-use Rattle.act_tree.proofs.Changing.{EachStands, Touched, Parts, Redone, Rises, each_under, of_number, of_other, plain_stands, says_of, stands_changed, heights-changed}
-use Rattle.act_tree.proofs.TreeNodes.{node_laid}
-use Rattle.act_tree.proofs.NextNodes.{IsProvision, is_provision}
-use Rattle.act_tree.proofs.SiblingNodes.{IsChild, listed_child}
-use Rattle.act_tree.proofs.WidsDiffer.{not_below_itself, not_below_child}
-use Rattle.act_tree.proofs.TakingAway.{named_there}
-use Rattle.act_tree.proofs.Merging.{above_given, below_there, name_with, once_with, hung_with, hung_by}
+use Rattle.act_tree.specs.declared.arena.Arena.{Arena}
+use Rattle.act_tree.specs.Branches.{Branch, Branches, branch, no_branches, more_branches}
+use Rattle.act_tree.specs.Provisions.{Own, Provision}
+use Rattle.act_tree.specs.Changes.{Step, changed, inside_changed, joined, parted, first, behind, holds, any_holds}
+use Rattle.act_tree.specs.Arena.{Laid, provision_in, above_in, below_in, branch_from, number_twice, Stands, StandAll, IsWhole}
+use Rattle.act_tree.specs.Relisted.{IsRelisted}
+use Rattle.act_tree.specs.Siblings.{put_behind}
+use Rattle.act_tree.specs.Planted.{Each, HasGrown}
+use Rattle.act_tree.specs.Parted.{IsParted}
+use Rattle.act_tree.specs.Slots.{at, number, size}
+use Rattle.act_tree.specs.Wids.{all_wids, one_twice}
+use Rattle.act_tree.proofs.Texts.{equal_text, other_text, same_text, bytes_eq_sym}
+use Rattle.act_tree.proofs.Frames.{or_left, or_right, none_left, none_right, neither, put_down}
+use Rattle.act_tree.proofs.GraftedTrees.{AreFresh, body_of, fresh_one, still, text_still}
+use Rattle.act_tree.proofs.Grown.{grown_added}
+use Rattle.act_tree.proofs.LaidDown.{laid_within}
+use Rattle.act_tree.proofs.PutIn.{not_beneath, any_holds-joined}
+use Rattle.act_tree.proofs.Relistings.{Apart, Move, not_itself, each_joined, each_first, each_behind, each_apart, lists_stay, says_stay, above_given, stands_renewed, text_moved, text_apart, apart_still, all_still, it_moved}
+use Rattle.act_tree.proofs.Renewals.{renewed_in, renewed, renewing, renewed_root, none_in, again_in}
+use Rattle.act_tree.proofs.Sound.{Text, laid_standing}
+use Rattle.act_tree.proofs.Spots.{Spot, spot, said, Alone, alone, alone_changed, local_in}
+use Rattle.act_tree.proofs.Standing.{stands_below, Among, among}
+use Rattle.act_tree.proofs.TakingAway.{Sits}
+use Rattle.act_tree.proofs.Times.{one_if, times, times-append, times-parts, named_times, none_times, times_named, times_none, once_few, only_one, not_this, between, put_between}
+use Rattle.act_tree.proofs.TreeNodes.{is_in-holds}
 
-each_first : (at : ℕ → Option Laid) (number : List ℕ → Option ℕ) (place : ℕ) (ks : List ℕ) (bs : Branches Provision) → EachStands at number ks bs → EachStands at number (take place ks) (first place bs)
-each_first at number zero ks bs each = tt
-each_first at number (suc place) [] no_branches each = tt
-each_first at number (suc place) (k ∷ ks) no_branches each = absurd each
-each_first at number (suc place) [] (more_branches b bs) each = absurd each
-each_first at number (suc place) (k ∷ ks) (more_branches b bs) each = (each.0, each_first at number place ks bs each.1)
+first-behind : (n : ℕ) (bs : Branches Provision) → joined (first n bs) (behind n bs) ≡ bs
+first-behind zero bs = refl
+first-behind (suc n) no_branches = refl
+first-behind (suc n) (more_branches b bs) = ap (more_branches b) (first-behind n bs)
 
-each_behind : (at : ℕ → Option Laid) (number : List ℕ → Option ℕ) (place : ℕ) (ks : List ℕ) (bs : Branches Provision) → EachStands at number ks bs → EachStands at number (drop place ks) (behind place bs)
-each_behind at number zero ks bs each = each
-each_behind at number (suc place) [] no_branches each = tt
-each_behind at number (suc place) (k ∷ ks) no_branches each = absurd each
-each_behind at number (suc place) [] (more_branches b bs) each = absurd each
-each_behind at number (suc place) (k ∷ ks) (more_branches b bs) each = each_behind at number place ks bs each.1
+-- a wId that is not in branches is in neither part of them
+none_first : (w : List ℕ) (n : ℕ) (bs : Branches Provision) → any_holds w bs ≡ false → (any_holds w (first n bs) ≡ false) × (any_holds w (behind n bs) ≡ false)
+none_first w n bs none =
+    let parts : (any_holds w (first n bs) || any_holds w (behind n bs)) ≡ false = sym (any_holds-joined w (first n bs) (behind n bs)) ∙ ap (any_holds w) (first-behind n bs) ∙ none in
+    (none_left _ _ parts, none_right (any_holds w (first n bs)) _ parts)
 
-heights-first : (place : ℕ) (bs : Branches Provision) → heights (first place bs) ≤ heights bs
-heights-first zero bs = omega arith
-heights-first (suc place) no_branches = omega arith
-heights-first (suc place) (more_branches b bs) = omega (arith, heights-first place bs)
+-- a number that stands below another one was parted: a new number was laid down; those below the number from a place on left it, and it says something else; then they came below the new one; and that came below the other one
+pub record Setting (old new : Arena) (i place : ℕ) (head : List ℕ) (second : Provision) (moved : List ℕ) : Type 0 where
+  pub parts : IsParted old new i place head second moved
+  pub are : moved ≡ drop place (below_in (at old i))
+  pub whole : IsWhole (at old) (number old) (size old)
+  pub it : Sits (at old) (number old) i
+  pub not_zero : i ≡ 0 → ⊥
+  pub inside : (v : List ℕ) → holds v (branch it.over it.siblings) ≡ true → holds v (branch_from (size old) (at old) 0) ≡ true
+  pub free : holds second.wid (branch_from (size old) (at old) 0) ≡ false
+  pub num : is_num second.own.num ≡ true
 
-heights-behind : (place : ℕ) (bs : Branches Provision) → heights (behind place bs) ≤ heights bs
-heights-behind zero bs = omega arith
-heights-behind (suc place) no_branches = omega arith
-heights-behind (suc place) (more_branches b bs) = omega (arith, heights-behind place bs)
+module _ (old new : Arena) (i place : ℕ) (head : List ℕ) (second : Provision) (moved : List ℕ) (f : Setting old new i place head second moved) where
+  abbrev p : IsParted old new i place head second moved
+  p = f.parts
 
-rises_parted : (place : ℕ) (head : List ℕ) (second : Provision) → Rises (parted place head second) 0
-rises_parted place head second b (branch p below) bs cs one rest = omega (arith, heights-first place below, heights-behind place below)
+  abbrev it : Sits (at old) (number old) i
+  it = f.it
 
--- a number that may be parted
-pub record MayPart (at : ℕ → Option Laid) (number : List ℕ → Option ℕ) (size i : ℕ) : Type 0 where
-  pub it : IsProvision at number size i
-  pub apart : i ≡ above_in (at i) → ⊥
-  pub below : (k : ℕ) → list_any (λ j. j == k) (below_in (at i)) ≡ true → above_in (at k) ≡ i
-  pub nodes : (k : ℕ) → list_any (λ j. j == k) (below_in (at i)) ≡ true → climbs size at k ≡ true
-  pub over_out : list_any (λ j. j == above_in (at i)) (below_in (at i)) ≡ false
+  abbrev one : Arena
+  one = f.parts.added
 
-pub may_part : (at : ℕ → Option Laid) (number : List ℕ → Option ℕ) (size i : ℕ) → IsWhole at number size → climbs size at i ≡ true → (i ≡ 0 → ⊥) → MayPart at number size i
-may_part at number size i whole climbed other =
-    let it : IsProvision at number size i = is_provision at number size whole i climbed other in
-    record {
-      it = it;
-      apart = λ same. not_below_itself at number size whole (above_in (at i)) it.above (sym (ap (λ l. list_any (λ j. j == l) (below_in (at (above_in (at i))))) same) ∙ it.listed);
-      below = λ k is. let child : IsChild at number size whole i k = listed_child at number size whole i k climbed is in child.above;
-      nodes = λ k is. let child : IsChild at number size whole i k = listed_child at number size whole i k climbed is in child.climbed;
-      over_out = elim (cases_Bool (list_any (λ j. j == above_in (at i)) (below_in (at i)))) [
-        | inl is ↦ absurd (not_below_child at number size whole (above_in (at i)) i it.above it.listed is)
-        | inr none ↦ none
-      ];
-    }
+  abbrev two : Arena
+  two = f.parts.given.kept
 
-module _ (at next : ℕ → Option Laid) (number after : List ℕ → Option ℕ) (size i place : ℕ) (head : List ℕ) (second : Provision) (whole : IsWhole at number size) (f : MayPart at number size i)
-    (fresh : holds second.wid (branch_from size at 0) ≡ false) (empty : (k : ℕ) → size ≤ k → at k ≡ None)
-    (num : is_num second.own.num ≡ true)
-    (noted : (v : List ℕ) → after v ≡ cond (bytes_eq second.wid v) (Some size) (number v))
-    (j : IsParted at next i size (record (provision_in (at i)).own { content = head }) (record { provision = second; above = above_in (at i); below = drop place (below_in (at i)) }) place) where
-  -- the number of which the step makes something else
-  abbrev special : ℕ → Bool
-  special k = k == i
+  abbrev three : Arena
+  three = f.parts.given.had
 
-  moved_below : (k : ℕ) → list_any (λ l. l == k) (drop place (below_in (at i))) ≡ true → above_in (at k) ≡ i
-  moved_below k is = f.below k (drop_listed place k (below_in (at i)) is)
+  abbrev after : List ℕ → Option ℕ
+  after = number f.parts.added
 
-  not_new : (k : ℕ) (y : Laid) → at k ≡ Some y → k ≡ size → ⊥
-  not_new k y here it = let none : at k ≡ None = empty k (omega arith) in cc
+  abbrev n : ℕ
+  n = size old
 
-  -- what became of a number that is not special, and not the new one
-  was : (k : ℕ) → (k ≡ i → ⊥) → (k ≡ size → ⊥) → ((list_any (λ l. l == k) (drop place (below_in (at i))) ≡ true) × (next k ≡ with_above size (at k)))
-      ⊎ (((k ≡ above_in (at i)) × (next k ≡ with_below (put_behind i size (below_in (at k))) (at k))) ⊎ ((k ≡ above_in (at i) → ⊥) × (next k ≡ at k)))
-  was k not_i old =
-      elim (cases_Bool (list_any (λ l. l == k) (drop place (below_in (at i))))) [
-        | inl is ↦ inl (is, j.under k is)
-        | inr none ↦ elim (cases_eq k (above_in (at i))) [
-          | inl over ↦ inr (inl (over, (let P : ℕ → Type 0 = λ u. next u ≡ with_below (put_behind i size (below_in (at u))) (at u) in subst P (sym over) j.over)))
-          | inr far ↦ inr (inr (far, j.others k not_i old far none))
-        ]
-      ]
+  abbrev u : ℕ
+  u = above_in (at old i)
 
-  numbers_stay : (v : List ℕ) → holds v (branch_from size at 0) ≡ true → after v ≡ number v
-  numbers_stay v held =
-      noted v ∙ ap (λ t. cond t (Some size) (number v)) (other_text second.wid v (λ same. let never : holds v (branch_from size at 0) ≡ false = ap (λ u. holds u (branch_from size at 0)) (sym same) ∙ fresh in cc))
+  abbrev root : Branch Provision
+  root = branch_from (size old) (at old) 0
 
-  touched : Touched at next number after i (provision_in (at i)).wid special (branch_from size at 0)
-  touched = record {
-    leads = f.it.leads;
-    named = named_there (at i) f.it.here.0 f.it.here.1;
-    it = eq-eqb i i refl;
-    near = λ k is. ap (λ l. above_in (at l)) (eqb-true k i is);
-    apart = λ k is over. f.apart (sym (eqb-true k i is) ∙ over);
-    numbers = numbers_stay;
-    says = λ k y here plain. elim (was k (eqb-false k i plain) (not_new k y here)) [
-      | inl moved ↦ says_of (next k) (record y { above = size }) (moved.1 ∙ ap (with_above size) here)
-      | inr elsewhere ↦ elim elsewhere [
-        | inl over ↦ says_of (next k) (record y { below = put_behind i size (below_in (at k)) }) (over.1 ∙ ap (with_below (put_behind i size (below_in (at k)))) here)
-        | inr same ↦ says_of (next k) y (same.1 ∙ here)
-      ]
-    ];
-    lists = λ k y here plain far. elim (was k (eqb-false k i plain) (not_new k y here)) [
-      | inl moved ↦ ap below_in (moved.1 ∙ ap (with_above size) here)
-      | inr elsewhere ↦ elim elsewhere [ inl over ↦ absurd (far over.0) | inr same ↦ ap below_in (same.1 ∙ here) ]
-    ];
-    up = λ k y here plain under. elim (was k (eqb-false k i plain) (not_new k y here)) [
-      | inl moved ↦ absurd (eqb-false y.above i under (sym (ap above_in here) ∙ moved_below k moved.0))
-      | inr elsewhere ↦ elim elsewhere [
-        | inl over ↦ ap above_in (over.1 ∙ ap (with_below (put_behind i size (below_in (at k)))) here)
-        | inr same ↦ ap above_in (same.1 ∙ here)
-      ]
-    ];
-  }
+  fresh : AreFresh old (second.wid ∷ [])
+  fresh = fresh_one old second.wid (is_in-holds (at old) (number old) n f.whole second.wid ∙ f.free)
 
-  -- the first of those below still have the number above them
-  above_first : (k : ℕ) → list_any (λ l. l == k) (take place (below_in (at i))) ≡ true → above_in (next k) ≡ i
-  above_first k is =
-      let in_list : list_any (λ l. l == k) (below_in (at i)) ≡ true = take_listed place k (below_in (at i)) is in
-      let up : above_in (at k) ≡ i = f.below k in_list in
-      let here : (y : Laid) × (at k ≡ Some y) = node_laid at number size whole k (f.nodes k in_list) in
-      let not_i : k ≡ i → ⊥ = λ it. f.apart (sym up ∙ ap (λ l. above_in (at l)) it) in
-      elim (was k not_i (not_new k here.0 here.1)) [
-        | inl moved ↦ absurd (let never : list_any (λ l. l == k) (drop place (below_in (at i))) ≡ false = take_not_drop place k (below_in (at i)) (whole.once i) is in
-            let told : list_any (λ l. l == k) (drop place (below_in (at i))) ≡ true = moved.0 in cc)
-        | inr elsewhere ↦ elim elsewhere [
-          | inl over ↦ ap above_in (over.1 ∙ ap (with_below (put_behind i size (below_in (at k)))) here.1) ∙ sym (ap above_in here.1) ∙ up
-          | inr same ↦ ap above_in same.1 ∙ up
-        ]
-      ]
+  grown : HasGrown old one (second.wid ∷ [])
+  grown = grown_added old one second p.adds f.num
 
-  -- the others have the new one
-  above_moved : (k : ℕ) → list_any (λ l. l == k) (drop place (below_in (at i))) ≡ true → above_in (next k) ≡ size
-  above_moved k is =
-      let here : (y : Laid) × (at k ≡ Some y) = node_laid at number size whole k (f.nodes k (drop_listed place k (below_in (at i)) is)) in
-      ap above_in (j.under k is) ∙ above_given size (at k) here.0 here.1
+  text1 : Text (at one) after (size one) root
+  text1 = text_still old one (second.wid ∷ []) f.whole fresh grown
 
-  held_own : (b : Branch Provision) (u k : ℕ) → Stands at number u k b → holds (provision_in (at k)).wid b ≡ true
-  held_own (branch p below) u k s = or_left _ _ (equal_text p.wid _ (sym (ap (λ o. (provision_in o).wid) s.0)))
+  u_low : u < n
+  u_low = laid_within old.slots.items u _ it.stands.0
 
-  second_leads : after second.wid ≡ Some size
-  second_leads = noted second.wid ∙ ap (λ t. cond t (Some size) (number second.wid)) (equal_text second.wid second.wid refl)
+  u_one : at one u ≡ at old u
+  u_one = grown.kept u u_low
 
-  own_leads : after (provision_in (at i)).wid ≡ Some i
-  own_leads = numbers_stay (provision_in (at i)).wid (or_right (bytes_eq (provision_in (at 0)).wid (provision_in (at i)).wid) _ f.it.held) ∙ f.it.leads
+  -- the number above stands beside the new one, with all that is below it
+  over_one : Stands (at one) after (above_in (at one u)) u (branch it.over it.siblings)
+  over_one =
+      let P : ℕ → Type 0 = λ v. Stands (at one) after v u (branch it.over it.siblings) in
+      subst P (sym (ap above_in u_one)) (still old one (second.wid ∷ []) f.whole fresh grown (branch it.over it.siblings) (above_in (at old u)) u it.stands f.inside)
 
-  first_stands : (bs : Branches Provision) → EachStands next after (below_in (at i)) bs
-      → Stands next after (above_in (at i)) i (branch (record (provision_in (at i)) { own = record (provision_in (at i)).own { content = head } }) (first place bs))
-  first_stands bs each =
-      put_down next after (above_in (at i)) i (record (provision_in (at i)) { own = record (provision_in (at i)).own { content = head } }) (take place (below_in (at i))) (first place bs) j.here own_leads
-      (each_under next after i (take place (below_in (at i))) (first place bs) (each_first next after place (below_in (at i)) bs each) above_first)
+  second_one : Stands (at one) after n n (branch second no_branches)
+  second_one =
+      put_down (at one) after n n second [] no_branches p.adds.here (p.adds.numbers second.wid ∙ ap (λ t. cond t (Some n) (number old second.wid)) (equal_text second.wid second.wid refl)) tt
 
-  second_stands : (bs : Branches Provision) → EachStands next after (below_in (at i)) bs → Stands next after (above_in (at i)) size (branch second (behind place bs))
-  second_stands bs each =
-      put_down next after (above_in (at i)) size second (drop place (below_in (at i))) (behind place bs) j.second second_leads
-      (each_under next after size (drop place (below_in (at i))) (behind place bs) (each_behind next after place (below_in (at i)) bs each) above_moved)
+  free_siblings : any_holds second.wid it.siblings ≡ false
+  free_siblings = elim (cases_Bool (any_holds second.wid it.siblings)) [
+    | inl held ↦ absurd (let told : holds second.wid root ≡ true = f.inside second.wid (or_right (bytes_eq it.over.wid second.wid) _ held) in cc)
+    | inr none ↦ none
+  ]
 
-  over_plain : special (above_in (at i)) ≡ false
-  over_plain = ne_eqb (above_in (at i)) i (λ same. f.apart (sym same))
+  over_free : bytes_eq second.wid it.over.wid ≡ false
+  over_free = elim (cases_Bool (bytes_eq second.wid it.over.wid)) [
+    | inl same ↦ absurd (let told : holds second.wid root ≡ true = f.inside second.wid (or_left _ _ (equal_text it.over.wid second.wid (sym (same_text second.wid it.over.wid same)))) in cc)
+    | inr none ↦ none
+  ]
 
-  redo : (bs : Branches Provision) (ks : List ℕ) → StandAll at number (above_in (at i)) ks bs → number_twice ks ≡ false
-      → Parts at next after special (parted place head second) (provision_in (at i)).wid ks bs
-      → StandAll next after (above_in (at i)) (put_behind i size ks) (changed (parted place head second) (provision_in (at i)).wid bs)
-  redo no_branches [] s once parts = tt
-  redo no_branches (k ∷ ks) s once parts = absurd s
-  redo (more_branches b bs) [] s once parts = absurd s
-  redo (more_branches (branch p below) bs) (k ∷ ks) s once parts =
-      let w : List ℕ = (provision_in (at i)).wid in
-      let step = parted place head second in
-      let b : Branches Provision = changed step w below in
-      let rest : Branches Provision = changed step w bs in
-      let tail : StandAll next after (above_in (at i)) (put_behind i size ks) rest = redo bs ks s.1 (none_right (list_any (λ l. l == k) ks) _ once) parts.1 in
-      let T : Bool → Bool → Type 0 = λ k_i k_w. StandAll next after (above_in (at i)) (cond k_i (k ∷ size ∷ put_behind i size ks) (k ∷ put_behind i size ks))
-      (cond k_w (step (branch p b) rest) (more_branches (branch p b) rest)) in
-      elim (cases_eq k i) [
-        | inl it ↦
-            let P : ℕ → Type 0 = λ l. EachStands next after (below_in (at l)) b in
-            let Q : ℕ → Provision → Type 0 = λ l v. Stands next after (above_in (at i)) l (branch (record v { own = record v.own { content = head } }) (first place b)) in
-            let each : EachStands next after (below_in (at i)) b = subst P it (parts.0.1 (eq-eqb k i it)) in
-            let says : provision_in (at i) ≡ p = sym (ap (λ l. provision_in (at l)) it) ∙ ap provision_in s.0.0 in
-            let now : Stands next after (above_in (at i)) k (branch (record p { own = record p.own { content = head } }) (first place b)) =
-            subst (λ l. Q l p) (sym it) (subst (λ v. Q i v) says (first_stands b each)) in
-            let done : T true true = (now, (second_stands b each, tail)) in
-            subst (λ t. T t (bytes_eq p.wid w)) (sym (eq-eqb k i it))
-            (subst (λ t. T true t) (sym (of_number at next number after i w special (branch_from size at 0) touched (branch p below) (above_in (at i)) k s.0 it)) done)
-        | inr not_i ↦
-            let plain : special k ≡ false = ne_eqb k i not_i in
-            let done : T false false = (plain_stands at next number after i w special (branch_from size at 0) touched step p below (above_in (at i)) k s.0 plain over_plain parts.0, tail) in
-            subst (λ t. T t (bytes_eq p.wid w)) (sym (ne_eqb k i not_i))
-            (subst (λ t. T false t) (sym (of_other at next number after i w special (branch_from size at 0) touched (branch p below) (above_in (at i)) k s.0 not_i)) done)
-      ]
+  module _ (m : Spot (at one) after u i (below_in (at old u)) it.siblings) where
+    abbrev w : List ℕ
+    w = m.says.wid
 
-  redone : Redone at next number after special (parted place head second) (provision_in (at i)).wid (above_in (at i))
-  redone bs s parts =
-      let found : list_any (λ l. l == i) (below_in (at (above_in (at i)))) ≡ true = f.it.listed in
-      let now : below_in (next (above_in (at i))) ≡ put_behind i size (below_in (at (above_in (at i)))) = ap below_in j.over ∙ below_there _ (at (above_in (at i))) i found in
-      let P : List ℕ → Type 0 = λ ks. StandAll next after (above_in (at i)) ks (changed (parted place head second) (provision_in (at i)).wid bs) in
-      subst P (sym now) (redo bs (below_in (at (above_in (at i)))) s (whole.once (above_in (at i))) parts)
+    abbrev own1 : Own
+    own1 = record (provision_in (at one i)).own { content = head }
 
-  stands_after : Stands next after 0 0 (branch (provision_in (at 0)) (changed (parted place head second) (provision_in (at i)).wid (branches_below size at (below_in (at 0)))))
-  stands_after =
-      stands_changed at next number after i (provision_in (at i)).wid special (branch_from size at 0) touched (parted place head second) redone (provision_in (at 0)) (branches_below size at (below_in (at 0))) refl whole.stands
+    abbrev list_i : List ℕ
+    list_i = below_in (at one i)
 
-  lower : heights (changed (parted place head second) (provision_in (at i)).wid (branches_below size at (below_in (at 0)))) < size + 1
-  lower =
-      let low : heights (branches_below size at (below_in (at 0))) < size = whole.low in
-      let same : heights (changed (parted place head second) (provision_in (at i)).wid (branches_below size at (below_in (at 0)))) ≤ heights (branches_below size at (below_in (at 0))) + 0 =
-      heights-changed (parted place head second) (provision_in (at i)).wid 0 (rises_parted place head second) (branches_below size at (below_in (at 0))) in
-      omega arith
+    mine : Alone m.before m.says m.below m.after
+    mine = alone m.before m.says m.below m.after (sym (ap (λ bs. one_twice (all_wids bs)) m.text) ∙ it.unlike)
 
-  -- who was listed by a number still is, unless it went to the new one
-  lists_still : (u k : ℕ) → list_any (λ l. l == k) (drop place (below_in (at i))) ≡ false → list_any (λ l. l == k) (below_in (at u)) ≡ true → list_any (λ l. l == k) (below_in (next u)) ≡ true
-  lists_still u k out found =
-      elim (cases_eq u i) [
-        | inl it ↦ ap (λ v. list_any (λ l. l == k) (below_in (next v))) it ∙ ap (λ o. list_any (λ l. l == k) (below_in o)) j.here
-            ∙ take_or_drop place k (below_in (at i)) (sym (ap (λ v. list_any (λ l. l == k) (below_in (at v))) it) ∙ found) out
-        | inr not_i ↦ elim (cases_eq u size) [
-          | inl new ↦ absurd (let none : list_any (λ l. l == k) (below_in (at u)) ≡ false = ap (λ o. list_any (λ l. l == k) (below_in o)) (empty u (omega arith)) in cc)
-          | inr old ↦ elim (was u not_i old) [
-            | inl moved ↦ ap (λ o. list_any (λ l. l == k) (below_in o)) moved.1 ∙ ap (list_any (λ l. l == k)) (below_kept size (at u)) ∙ found
-            | inr elsewhere ↦ elim elsewhere [
-              | inl over ↦ ap (λ o. list_any (λ l. l == k) (below_in o)) over.1 ∙ ap (list_any (λ l. l == k)) (below_there _ (at u) k found) ∙ put_listed i size k (below_in (at u)) found
-              | inr same ↦ ap (λ o. list_any (λ l. l == k) (below_in o)) same.1 ∙ found
-            ]
-          ]
-        ]
-      ]
+    -- what is known of a wId that is not among the siblings
+    record Off (v : List ℕ) : Type 0 where
+      pub before : any_holds v m.before ≡ false
+      pub here : holds v (branch m.says m.below) ≡ false
+      pub after : any_holds v m.after ≡ false
 
-  hung_after : (k : ℕ) (o : Option Laid) → list_any (λ l. l == k) (drop place (below_in (at i))) ≡ false → is_hung at k o ≡ true → is_hung next k o ≡ true
-  hung_after k None out hung = refl
-  hung_after k (Some y) out hung =
-      elim (or_cases (y.above == k) (list_any (λ l. l == k) (below_in (at y.above))) hung) [
-        | inl own ↦ or_left _ _ own
-        | inr found ↦ or_right (y.above == k) _ (lists_still y.above k out found)
-      ]
+    off : (v : List ℕ) → any_holds v it.siblings ≡ false → Off v
+    off v none =
+        let parts : (any_holds v m.before || any_holds v (more_branches (branch m.says m.below) m.after)) ≡ false =
+        sym (any_holds-joined v m.before (more_branches (branch m.says m.below) m.after)) ∙ sym (ap (any_holds v) m.text) ∙ none in
+        let rest : (holds v (branch m.says m.below) || any_holds v m.after) ≡ false = none_right (any_holds v m.before) _ parts in
+        record { before = none_left _ _ parts; here = none_left _ _ rest; after = none_right (holds v (branch m.says m.below)) _ rest }
 
-  over_list : below_in (next (above_in (at i))) ≡ put_behind i size (below_in (at (above_in (at i))))
-  over_list = ap below_in j.over ∙ below_there _ (at (above_in (at i))) i f.it.listed
+    off_second : Off second.wid
+    off_second = off second.wid free_siblings
 
-  hung_now : (k : ℕ) → is_hung next k (next k) ≡ true
-  hung_now k =
-      elim (cases_eq k size) [
-        | inl it ↦
-            ap (λ l. is_hung next l (next l)) it
-            ∙ hung_by next size (above_in (at i)) (next size) (ap above_in j.second) (ap (list_any (λ l. l == size)) over_list ∙ new_listed i size (below_in (at (above_in (at i)))) f.it.listed)
-        | inr old ↦ elim (cases_Bool (list_any (λ l. l == k) (drop place (below_in (at i))))) [
-          | inl is ↦ hung_by next k size (next k) (above_moved k is) (ap (λ o. list_any (λ l. l == k) (below_in o)) j.second ∙ is)
-          | inr out ↦ elim (cases_eq k i) [
-            | inl it ↦
-                ap (λ l. is_hung next l (next l)) it
-                ∙ hung_by next i (above_in (at i)) (next i) (ap above_in j.here) (ap (list_any (λ l. l == i)) over_list ∙ put_listed i size i (below_in (at (above_in (at i)))) f.it.listed)
-            | inr not_i ↦ elim (was k not_i old) [
-              | inl moved ↦ absurd (let told : list_any (λ l. l == k) (drop place (below_in (at i))) ≡ true = moved.0 in cc)
-              | inr elsewhere ↦ elim elsewhere [
-                | inl over ↦ ap (is_hung next k) over.1 ∙ hung_with next k _ (at k) (hung_after k (at k) out (whole.hung k))
-                | inr same ↦ ap (is_hung next k) same.1 ∙ hung_after k (at k) out (whole.hung k)
-              ]
-            ]
-          ]
-        ]
-      ]
+    off_over : Off it.over.wid
+    off_over = off it.over.wid (not_beneath (at one) after it.over it.siblings (above_in (at one u)) u over_one)
 
-  -- the new number was in no list
-  new_out : (k : ℕ) → k ≡ above_in (at i) → list_any (λ l. l == size) (below_in (at k)) ≡ false
-  new_out k over =
-      elim (cases_Bool (list_any (λ l. l == size) (below_in (at k)))) [
-        | inl found ↦ absurd (
-            let child : IsChild at number size whole (above_in (at i)) size = listed_child at number size whole (above_in (at i)) size f.it.above (sym (ap (λ v. list_any (λ l. l == size) (below_in (at v))) over) ∙ found) in
-            let here : (y : Laid) × (at size ≡ Some y) = node_laid at number size whole size child.climbed in
-            not_new size here.0 here.1 refl)
-        | inr none ↦ none
-      ]
+    i_one : Stands (at one) after (above_in (at one i)) i (branch m.says m.below)
+    i_one = let P : ℕ → Type 0 = λ v. Stands (at one) after v i (branch m.says m.below) in subst P (sym (stands_below (at one) after (branch m.says m.below) u i m.stands)) m.stands
 
-  once_now : (k : ℕ) → number_twice (below_in (next k)) ≡ false
-  once_now k =
-      elim (cases_eq k i) [
-        | inl it ↦ ap (λ l. number_twice (below_in (next l))) it ∙ ap (λ o. number_twice (below_in o)) j.here ∙ once_take place (below_in (at i)) (whole.once i)
-        | inr not_i ↦ elim (cases_eq k size) [
-          | inl it ↦ ap (λ l. number_twice (below_in (next l))) it ∙ ap (λ o. number_twice (below_in o)) j.second ∙ once_drop place (below_in (at i)) (whole.once i)
-          | inr old ↦ elim (was k not_i old) [
-            | inl moved ↦ ap (λ o. number_twice (below_in o)) moved.1 ∙ ap number_twice (below_kept size (at k)) ∙ whole.once k
-            | inr elsewhere ↦ elim elsewhere [
-              | inl over ↦ ap (λ o. number_twice (below_in o)) over.1 ∙ once_with (put_behind i size (below_in (at k))) (at k) (once_put i size (below_in (at k)) (whole.once k) (new_out k over.0))
-              | inr same ↦ ap (λ o. number_twice (below_in o)) same.1 ∙ whole.once k
-            ]
-          ]
-        ]
-      ]
+    second_apart : holds w (branch second no_branches) ≡ false
+    second_apart = neither (bytes_eq second.wid w) false (other_text second.wid w (λ same. let never : bytes_eq m.says.wid second.wid ≡ false = none_left _ _ off_second.here in let told : bytes_eq m.says.wid second.wid ≡ true = equal_text w second.wid (sym same) in cc)) refl
 
-  name_now : (k : ℕ) → (k ≡ size → ⊥) → name_in (next k) ≡ name_in (at k)
-  name_now k old =
-      elim (cases_eq k i) [
-        | inl it ↦ ap (λ l. name_in (next l)) it ∙ ap name_in j.here ∙ sym (named_there (at i) f.it.here.0 f.it.here.1) ∙ sym (ap (λ l. name_in (at l)) it)
-        | inr not_i ↦ elim (was k not_i old) [
-          | inl moved ↦ ap name_in moved.1 ∙ name_kept size (at k)
-          | inr elsewhere ↦ elim elsewhere [ inl over ↦ ap name_in over.1 ∙ name_with _ (at k) | inr same ↦ ap name_in same.1 ]
-        ]
-      ]
+    -- what is below the number, in its place among them
+    i_child : (k : ℕ) → 1 ≤ times k list_i → (above_in (at one k) ≡ i) × ((x : Laid) × (at one k ≡ Some x))
+    i_child k some =
+        let child : Among (at one) after i k m.below = among (at one) after m.below i k list_i i_one.1.1 (times_named k list_i some) in
+        (stands_below (at one) after child.it i k child.stands, laid_standing (at one) after child.it i k child.stands)
 
-  named_now : (v : List ℕ) (k : ℕ) → after v ≡ Some k → name_in (next k) ≡ Some v
-  named_now v k leads =
-      elim (text_cases second.wid v) [
-        | inl same ↦
-            let one : Some size ≡ Some k = sym (noted v ∙ ap (λ t. cond t (Some size) (number v)) (equal_text second.wid v same)) ∙ leads in
-            let it : size ≡ k = cc in
-            ap (λ l. name_in (next l)) (sym it) ∙ ap name_in j.second ∙ ap (λ u. Some u) same
-        | inr other ↦
-            let was_there : number v ≡ Some k = sym (noted v ∙ ap (λ t. cond t (Some size) (number v)) (other_text second.wid v other)) ∙ leads in
-            let name : name_in (at k) ≡ Some v = whole.named v k was_there in
-            name_now k (λ it. let none : name_in (at k) ≡ None = ap name_in (empty k (omega arith)) in cc) ∙ name
-      ]
+    n_not_i : n ≡ i → ⊥
+    n_not_i same =
+        let says : m.says ≡ second = sym (ap provision_in m.stands.0) ∙ ap (λ k. provision_in (at one k)) (sym same) ∙ ap provision_in p.adds.here in
+        let told : bytes_eq second.wid w ≡ true = equal_text second.wid w (ap (λ (o : Provision). o.wid) (sym says)) in
+        let never : bytes_eq second.wid w ≡ false = none_left _ false second_apart in
+        cc
 
-  -- the arena is whole again
-  pub whole_after : size + 1 ≤ 2 ^ 32 → IsWhole next after (size + 1)
-  whole_after fits = whole_from next after (size + 1) _ _ whole.root stands_after lower hung_now once_now named_now
-      (changed_kept (parted place head second) (provision_in (at i)).wid (parted_keeps place head second num) (branches_below size at (below_in (at 0))) whole.numbered) fits
+    at_i : at one i ≡ at old i
+    at_i = p.adds.others i (λ same. n_not_i (sym same))
 
-  -- and its text has the provision parted
-  pub reads_after : branches_below (size + 1) next (below_in (next 0)) ≡ changed (parted place head second) (provision_in (at i)).wid (branches_below size at (below_in (at 0)))
-  reads_after = reads_from next after (size + 1) _ _ stands_after lower
+    are : moved ≡ drop place list_i
+    are = f.are ∙ sym (ap (λ o. drop place (below_in o)) at_i)
+
+    all_moved : (k : ℕ) → times k (take place list_i) + times k moved ≡ times k list_i
+    all_moved k = omega (arith, times-parts k place list_i, ap (times k) are)
+
+    -- those from a place on leave the number
+    two_move : Move (at one) (at two) after i own1 moved [] (take place list_i) m.says m.below (first place m.below)
+    two_move =
+        let zero_times : times i list_i ≡ 0 = none_times i list_i (not_itself (at one) after m.says m.below (above_in (at one i)) i i_one) in
+        record {
+          relisted = p.given.cut;
+          swaps = record {
+            there = (_, i_one.0);
+            balance = λ k. omega (arith, all_moved k);
+            fewer = λ k. omega (arith, all_moved k);
+            fresh = λ k. omega (arith, once_few list_i k (text1.sound.once i));
+            not_gone = times_none i moved (omega (arith, all_moved i));
+            not_come = refl;
+          };
+          stands = i_one;
+          off = λ k never. absurd cc;
+          each = each_first (Apart (at one) after w) place list_i m.below (each_apart (at one) after w i list_i m.below i_one.1.1 mine.none_below);
+        }
+
+    abbrev text2 : Branch Provision
+    text2 = renewed_in own1 (first place m.below) w root
+
+    text_two : Text (at two) after (size one) text2
+    text_two = text_moved two_move (text1.sound.nums i) refl text1
+
+    abbrev b1 : Branch Provision
+    b1 = branch (record m.says { own = own1 }) (first place m.below)
+
+    second_two : Stands (at two) after (above_in (at two n)) n (branch second no_branches)
+    second_two = apart_still two_move (branch second no_branches) n n second_one second_apart
+
+    moved_child : (k : ℕ) → list_any (λ l. l == k) moved ≡ true → (above_in (at one k) ≡ i) × ((x : Laid) × (at one k ≡ Some x))
+    moved_child k found = i_child k (omega (arith, named_times k moved found, all_moved k))
+
+    moved_own : (k : ℕ) → list_any (λ l. l == k) moved ≡ true → above_in (at two k) ≡ k
+    moved_own k found = let child : (above_in (at one k) ≡ i) × ((x : Laid) × (at one k ≡ Some x)) = moved_child k found in ap above_in (p.given.cut.left k found) ∙ above_given k (at one k) child.1.0 child.1.1
+
+    not_moved : (k : ℕ) → (above_in (at one k) ≡ i → ⊥) → list_any (λ l. l == k) moved ≡ false
+    not_moved k other = elim (cases_Bool (list_any (λ l. l == k) moved)) [ inl found ↦ absurd (other (moved_child k found).0) | inr none ↦ none ]
+
+    n_unmoved : list_any (λ l. l == n) moved ≡ false
+    n_unmoved = not_moved n (λ up. n_not_i (sym (ap above_in p.adds.here) ∙ up))
+
+    n_list : below_in (at two n) ≡ []
+    n_list = lists_stay (at one) (at two) i own1 moved [] (take place list_i) p.given.cut n n_not_i ∙ ap below_in p.adds.here
+
+    -- they come below the new one
+    three_move : Move (at two) (at three) after n (provision_in (at two n)).own [] moved moved second no_branches (behind place m.below)
+    three_move =
+        let Q : List ℕ → Type 0 = λ ks. Each (Apart (at one) after second.wid) ks (behind place m.below) in
+        record {
+          relisted = p.given.given;
+          swaps = record {
+            there = (_, second_two.0);
+            balance = λ k. omega (arith, ap (times k) n_list);
+            fewer = λ k. omega arith;
+            fresh = λ k. omega (arith, ap (times k) n_list, all_moved k, once_few list_i k (text1.sound.once i));
+            not_gone = refl;
+            not_come = n_unmoved;
+          };
+          stands = second_two;
+          off = λ k found. inl (moved_own k found);
+          each = all_still two_move _ moved (behind place m.below)
+              (subst Q (sym are) (each_behind (Apart (at one) after second.wid) place list_i m.below (each_apart (at one) after second.wid i list_i m.below i_one.1.1 (none_right (bytes_eq m.says.wid second.wid) _ off_second.here))))
+              (none_first w place m.below mine.none_below).1;
+        }
+
+    free_first : any_holds second.wid (first place m.below) ≡ false
+    free_first = (none_first second.wid place m.below (none_right (bytes_eq m.says.wid second.wid) _ off_second.here)).0
+
+    free_b1 : holds second.wid b1 ≡ false
+    free_b1 = neither (bytes_eq m.says.wid second.wid) _ (none_left _ _ off_second.here) free_first
+
+    text_three : Text (at three) after (size one) text2
+    text_three =
+        text_apart three_move (text_two.sound.nums n) (not_moved 0 (λ up. f.not_zero (sym up ∙ stands_below (at one) after root 0 0 text1.stands)))
+        (none_in own1 (first place m.below) w second.wid root free_first f.free) text_two
+
+    second_three : Stands (at three) after (above_in (at three n)) n (branch second (behind place m.below))
+    second_three =
+        let P : Own → Type 0 = λ o. Stands (at three) after (above_in (at three n)) n (branch (record second { own = o }) (behind place m.below)) in
+        subst P (ap (λ (o : Provision). o.own) (ap provision_in second_two.0)) (it_moved three_move)
+
+    -- the number above stands still, and those below it stand there
+    over_two : Stands (at three) after (above_in (at three u)) u (renewed_in own1 (first place m.below) w (branch it.over it.siblings))
+    over_two =
+        apart_still three_move (renewed_in own1 (first place m.below) w (branch it.over it.siblings)) (above_in (at two u)) u
+        (stands_renewed (at one) (at two) i own1 moved [] (take place list_i) p.given.cut two_move.swaps after m.says m.below i_one two_move.off (first place m.below) two_move.each (branch it.over it.siblings) (above_in (at one u)) u over_one)
+        (none_in own1 (first place m.below) w second.wid (branch it.over it.siblings) free_first (neither (bytes_eq it.over.wid second.wid) _ (bytes_eq_sym it.over.wid second.wid ∙ over_free) free_siblings))
+
+    u_not_w : bytes_eq it.over.wid w ≡ false
+    u_not_w = other_text it.over.wid w (λ same. (let told : bytes_eq m.says.wid it.over.wid ≡ true = equal_text w it.over.wid (sym same) in let never : bytes_eq m.says.wid it.over.wid ≡ false = none_left _ _ off_over.here in cc))
+
+    list_three : below_in (at three u) ≡ below_in (at old u)
+    list_three = lists_stay (at two) (at three) n (provision_in (at two n)).own [] moved moved p.given.given u (λ same. omega (arith, u_low, same))
+        ∙ lists_stay (at one) (at two) i own1 moved [] (take place list_i) p.given.cut u (λ same. it.apart same) ∙ ap below_in u_one
+
+    n_unlisted : times n (below_in (at old u)) ≡ 0
+    n_unlisted = none_times n (below_in (at old u)) (elim (cases_Bool (list_any (λ l. l == n) (below_in (at old u)))) [
+      | inl found ↦ absurd (
+          let child : Among (at old) (number old) u n it.siblings = among (at old) (number old) it.siblings u n (below_in (at old u)) it.stands.1.1 found in
+          let here : (x : Laid) × (at old n ≡ Some x) = laid_standing (at old) (number old) child.it u n child.stands in
+          let low : n < n = laid_within old.slots.items n here.0 here.1 in
+          omega arith)
+      | inr none ↦ none
+    ])
+
+    -- two siblings that are not the number, nor in it, stand as they stood
+    beside : (ks : List ℕ) (bs : Branches Provision) → StandAll (at one) after u ks bs → any_holds it.over.wid bs ≡ false → any_holds w bs ≡ false → any_holds second.wid bs ≡ false → Each (Apart (at three) after it.over.wid) ks bs
+    beside ks bs s none_over none_w none_second = all_still three_move _ ks bs (all_still two_move _ ks bs (each_apart (at one) after it.over.wid u ks bs s none_over) none_w) none_second
+
+    abbrev list4 : List ℕ
+    list4 = m.front ++ i ∷ n ∷ m.back
+
+    abbrev new4 : Branches Provision
+    new4 = joined m.before (more_branches b1 (more_branches (branch second (behind place m.below)) m.after))
+
+    listed : IsRelisted (at three) (at new) u (provision_in (at three u)).own [] (n ∷ []) list4
+    listed =
+        let P : List ℕ → Type 0 = λ ks. IsRelisted (at three) (at new) u (provision_in (at three u)).own [] (n ∷ []) ks in
+        subst P (ap (put_behind i n) m.list ∙ put_between i n m.front m.back (between i m.front m.back (sym (ap number_twice m.list) ∙ it.once))) p.given.listed
+
+    -- the new one comes right behind the number
+    new_move : Move (at three) (at new) after u (provision_in (at three u)).own [] (n ∷ []) list4 it.over (renewed own1 (first place m.below) w it.siblings) new4
+    new_move =
+        let all : (k : ℕ) → times k (below_in (at old u)) ≡ times k (m.front ++ i ∷ m.back) = λ k. ap (times k) m.list in
+        let P : Branch Provision → Type 0 = λ b. Stands (at three) after (above_in (at three u)) u b in
+        let none_b1 : holds it.over.wid b1 ≡ false = neither (bytes_eq m.says.wid it.over.wid) _ (none_left _ _ off_over.here) (none_first it.over.wid place m.below (none_right (bytes_eq m.says.wid it.over.wid) _ off_over.here)).0 in
+        let none_second : holds it.over.wid (branch second (behind place m.below)) ≡ false = neither (bytes_eq second.wid it.over.wid) _ over_free (none_first it.over.wid place m.below (none_right (bytes_eq m.says.wid it.over.wid) _ off_over.here)).1 in
+        record {
+          relisted = listed;
+          swaps = record {
+            there = (_, over_two_is.0);
+            balance = λ k. omega (arith, ap (times k) list_three, all k, times-append k m.front (i ∷ n ∷ m.back), times-append k m.front (i ∷ m.back));
+            fewer = λ k. omega arith;
+            fresh = λ k. elim (cases_Bool (n == k)) [
+              | inl same ↦ (let is : n ≡ k = eqb-true n k same in let none : times k (below_in (at old u)) ≡ 0 = ap (λ l. times l (below_in (at old u))) (sym is) ∙ n_unlisted in let one_time : one_if (n == k) ≡ 1 = ap one_if same in omega (arith, ap (times k) list_three))
+              | inr other ↦ (let none : one_if (n == k) ≡ 0 = ap one_if other in omega (arith, ap (times k) list_three, once_few (below_in (at old u)) k it.once))
+            ];
+            not_gone = refl;
+            not_come = not_this n u (λ same. omega (arith, u_low, same));
+          };
+          stands = over_two_is;
+          off = λ k found. inl (let same : n ≡ k = only_one n k found in ap (λ j. above_in (at three j)) (sym same) ∙ n_above ∙ same);
+          each = each_joined (Apart (at three) after it.over.wid) m.front (i ∷ n ∷ m.back) m.before _ (beside m.front m.before m.front_stand off_over.before mine.none_before off_second.before)
+              ((apart_still three_move b1 (above_in (at two i)) i (it_moved two_move) free_b1, none_b1), ((second_three, none_second), beside m.back m.after m.back_stand off_over.after mine.none_after off_second.after));
+        }
+      where
+        over_two_is : Stands (at three) after (above_in (at three u)) u (branch it.over (renewed own1 (first place m.below) w it.siblings))
+        over_two_is =
+            let P : Branch Provision → Type 0 = λ b. Stands (at three) after (above_in (at three u)) u b in
+            subst P (ap (λ t. cond t (branch (record it.over { own = own1 }) (first place m.below)) (branch it.over (renewed own1 (first place m.below) w it.siblings))) u_not_w) over_two
+
+        n_above : above_in (at three n) ≡ n
+        n_above = ap above_in p.given.given.here ∙ ap above_in (p.given.cut.others n n_not_i n_unmoved refl) ∙ ap above_in p.adds.here
+
+    -- the text is parted
+    text4 : renewed_in it.over.own new4 it.over.wid text2 ≡ inside_changed (parted place head second) (provision_in (at old i)).wid root
+    text4 =
+        let says : m.says ≡ provision_in (at one i) = said (at one) after u i m.says m.below i m.stands refl in
+        let wid : w ≡ (provision_in (at old i)).wid = ap (λ (o : Provision). o.wid) (says ∙ ap provision_in at_i) in
+        let own_is : own1 ≡ record m.says.own { content = head } = ap {B = Own} (λ (o : Provision). record o.own { content = head }) (sym says) in
+        let up : above_in (at one i) ≡ u = stands_below (at one) after (branch m.says m.below) u i m.stands in
+        let leads : after w ≡ Some i = m.stands.1.0 in
+        let not_root : bytes_eq (provision_in (at old 0)).wid w ≡ false = other_text (provision_in (at old 0)).wid w (λ same. let equal : Some 0 ≡ Some i = sym text1.stands.1.0 ∙ ap after same ∙ leads in let zero_is : 0 ≡ i = cc in f.not_zero (sym zero_is)) in
+        let to_list : (step : Step) → inside_changed step w root ≡ renewed_in it.over.own (joined m.before (step (branch m.says m.below) m.after)) it.over.wid root = λ step.
+        sym (local_in (at one) after u i it.over it.siblings over_one w leads up step root 0 0 text1.stands)
+        ∙ ap (λ bs. renewed_in it.over.own bs it.over.wid root) (ap (changed step w) m.text ∙ alone_changed step m.before m.says m.below m.after mine) in
+        ap (renewed_in it.over.own new4 it.over.wid) (renewed_root own1 (first place m.below) w (provision_in (at old 0)) (body_of old) not_root ∙ to_list (renewing own1 (first place m.below)))
+        ∙ again_in it.over.own it.over.own (joined m.before (more_branches b1 m.after)) new4 it.over.wid root
+        ∙ ap (λ (o : Own). renewed_in it.over.own (joined m.before (more_branches (branch (record m.says { own = o }) (first place m.below)) (more_branches (branch second (behind place m.below)) m.after))) it.over.wid root) own_is
+        ∙ sym (to_list (parted place head second))
+        ∙ ap (λ v. inside_changed (parted place head second) v root) wid
+
+    text_four : Text (at new) after (size one) (branch (provision_in (at old 0)) (changed (parted place head second) (provision_in (at old i)).wid (body_of old)))
+    text_four =
+        let P : Branch Provision → Type 0 = λ b. Text (at new) after (size one) b in
+        let Q : Own → Type 0 = λ o. Text (at new) after (size one) (renewed_in o new4 it.over.wid text2) in
+        let own_u : (provision_in (at three u)).own ≡ it.over.own = ap (λ (o : Provision). o.own) (says_stay (at two) (at three) n (provision_in (at two n)).own [] moved moved p.given.given u (λ same. omega (arith, u_low, same))
+        ∙ says_stay (at one) (at two) i own1 moved [] (take place list_i) p.given.cut u (λ same. it.apart same) ∙ ap provision_in over_one.0) in
+        let first_other : list_any (λ l. l == 0) (n ∷ []) ≡ false = not_this n 0 (λ same. let some : 0 < n = laid_within old.slots.items 0 _ f.whole.stands.0 in omega arith) in
+        subst P text4 (subst Q own_u (text_moved new_move (text_three.sound.nums u) first_other text_three))
+
+  pub text_parted : Text (at new) after (size one) (branch (provision_in (at old 0)) (changed (parted place head second) (provision_in (at old i)).wid (body_of old)))
+  text_parted =
+      let P : List ℕ → Type 0 = λ ks. StandAll (at one) after u ks it.siblings in
+      text_four (spot (at one) after u i (below_in (at old u)) it.siblings (subst P (ap below_in u_one) over_one.1.1) it.listed)

@@ -1,18 +1,16 @@
 -- Branches among others: what stands, how high it is, and where a wId is found.
-use Rattle.std.proofs.Common.{◌≡◌, ◌∙◌, sym, ap, refl, subst, ℕ, zero, suc, ◌+◌, ◌≤◌, max, true, false, ◌||◌, cond, List, [], ◌∷◌, ◌++◌, take, drop, Option, Some, inl, inr, arith}
+use Rattle.std.proofs.Common.{◌≡◌, ◌∙◌, sym, ap, refl, subst, ℕ, ◌+◌, ◌≤◌, Bool, true, false, ◌||◌, cond, List, [], ◌∷◌, ◌++◌, Option, Some, inl, inr, arith}
 use Rattle.std.specs.Str.{bytes_eq}
 use Rattle.std.proofs.lemmas.Bool.{cases_Bool, or_cases}
 use Rattle.std.proofs.lemmas.List.Folds.{list_any-append}
 use Rattle.act_tree.specs.Branches.{Branch, Branches, branch, no_branches, more_branches, height, heights}
 use Rattle.act_tree.specs.Provisions.{Provision}
-use Rattle.act_tree.specs.Changes.{Step, has_wid, holds, any_holds, changed, inside_changed, joined, first, behind, put_in, among_children}
+use Rattle.act_tree.specs.Changes.{Step, has_wid, holds, any_holds, changed, inside_changed, joined}
 use Rattle.act_tree.specs.Arena.{Laid, below_in, Stands, StandAll}
-use Rattle.act_tree.specs.Grafted.{put_numbers}
 use Rattle.act_tree.specs.Wids.{wids, all_wids, is_among}
 use Rattle.act_tree.proofs.Texts.{same_text, bytes_eq_sym}
 use Rattle.act_tree.proofs.Frames.{none_left, none_right}
-use Rattle.act_tree.proofs.Standing.{some_high, one_branch}
-use Rattle.act_tree.proofs.Changing.{Rises}
+use Rattle.act_tree.proofs.Standing.{one_branch}
 
 module _ (at : ℕ → Option Laid) (number : List ℕ → Option ℕ) (u : ℕ) where
   pub stand_join : (cs bs : Branches Provision) (is ks : List ℕ) → StandAll at number u is cs → StandAll at number u ks bs → StandAll at number u (is ++ ks) (joined cs bs)
@@ -21,47 +19,13 @@ module _ (at : ℕ → Option Laid) (number : List ℕ → Option ℕ) (u : ℕ)
   stand_join (more_branches c cs) bs [] ks s t = absurd s
   stand_join (more_branches c cs) bs (i ∷ is) ks s t = (s.0, stand_join cs bs is ks s.1 t)
 
-  stand_first : (n : ℕ) (bs : Branches Provision) (ks : List ℕ) → StandAll at number u ks bs → StandAll at number u (take n ks) (first n bs)
-  stand_first zero bs ks s = tt
-  stand_first (suc n) no_branches [] s = tt
-  stand_first (suc n) no_branches (k ∷ ks) s = absurd s
-  stand_first (suc n) (more_branches b bs) [] s = absurd s
-  stand_first (suc n) (more_branches b bs) (k ∷ ks) s = (s.0, stand_first n bs ks s.1)
-
-  stand_behind : (n : ℕ) (bs : Branches Provision) (ks : List ℕ) → StandAll at number u ks bs → StandAll at number u (drop n ks) (behind n bs)
-  stand_behind zero bs ks s = s
-  stand_behind (suc n) no_branches [] s = tt
-  stand_behind (suc n) no_branches (k ∷ ks) s = absurd s
-  stand_behind (suc n) (more_branches b bs) [] s = absurd s
-  stand_behind (suc n) (more_branches b bs) (k ∷ ks) s = stand_behind n bs ks s.1
-
-  -- others stand among branches, as their numbers do among those of the branches
-  pub stand_put : (place : ℕ) (new bs : Branches Provision) (ids ks : List ℕ) → StandAll at number u ids new → StandAll at number u ks bs → StandAll at number u (put_numbers place ids ks) (put_in place new bs)
-  stand_put place new bs ids ks s t =
-      stand_join (first place bs) (joined new (behind place bs)) (take place ks) (ids ++ drop place ks) (stand_first place bs ks t)
-      (stand_join new (behind place bs) ids (drop place ks) s (stand_behind place bs ks t))
-
-heights-joined : (cs bs : Branches Provision) → heights (joined cs bs) ≡ max (heights cs) (heights bs)
-heights-joined no_branches bs = omega arith
-heights-joined (more_branches c cs) bs = omega (arith, heights-joined cs bs)
-
-heights-first : (n : ℕ) (bs : Branches Provision) → heights (first n bs) ≤ heights bs
-heights-first zero bs = omega arith
-heights-first (suc n) no_branches = omega arith
-heights-first (suc n) (more_branches b bs) = omega (arith, heights-first n bs)
-
-heights-behind : (n : ℕ) (bs : Branches Provision) → heights (behind n bs) ≤ heights bs
-heights-behind zero bs = omega arith
-heights-behind (suc n) no_branches = omega arith
-heights-behind (suc n) (more_branches b bs) = omega (arith, heights-behind n bs)
-
-pub heights-put_in : (place : ℕ) (new bs : Branches Provision) → heights (put_in place new bs) ≤ max (heights bs) (heights new)
-heights-put_in place new bs =
-    omega (arith, heights-joined (first place bs) (joined new (behind place bs)), heights-joined new (behind place bs), heights-first place bs, heights-behind place bs)
-
--- others among the children of a provision rise it by their height at most
-pub among_rises : (place : ℕ) (new : Branches Provision) → Rises (among_children place new) (heights new)
-among_rises place new b (branch p below) bs cs one rest = omega (arith, heights-put_in place new below, some_high b)
+pub any_holds-joined : (w : List ℕ) (bs cs : Branches Provision) → any_holds w (joined bs cs) ≡ (any_holds w bs || any_holds w cs)
+any_holds-joined w no_branches cs = refl
+any_holds-joined w (more_branches b bs) cs = ap (λ t. holds w b || t) (any_holds-joined w bs cs) ∙ sym (together (holds w b) (any_holds w bs) (any_holds w cs))
+  where
+    together : (s t r : Bool) → ((s || t) || r) ≡ (s || (t || r))
+    together true t r = refl
+    together false t r = refl
 
 -- a wId is found in a text exactly if it is among the text's wIds
 mutual
@@ -73,12 +37,12 @@ mutual
   all_wids_held w (more_branches b bs) =
       list_any-append (bytes_eq w) (wids b) (all_wids bs) ∙ ap (λ t. t || is_among w (all_wids bs)) (wids_held w b) ∙ ap (λ t. holds w b || t) (all_wids_held w bs)
 
-of_other_wid : (w : List ℕ) (b : Branch Provision) → holds w b ≡ false → has_wid w b ≡ false
+pub of_other_wid : (w : List ℕ) (b : Branch Provision) → holds w b ≡ false → has_wid w b ≡ false
 of_other_wid w (branch p below) none = none_left _ _ none
 
 -- a step at a wId that is not there changes nothing
 mutual
-  same_inside_changed : (step : Step) (w : List ℕ) (b : Branch Provision) → holds w b ≡ false → inside_changed step w b ≡ b
+  pub same_inside_changed : (step : Step) (w : List ℕ) (b : Branch Provision) → holds w b ≡ false → inside_changed step w b ≡ b
   same_inside_changed step w (branch p below) none = ap (branch p) (same_changed step w below (none_right (bytes_eq p.wid w) _ none))
 
   pub same_changed : (step : Step) (w : List ℕ) (bs : Branches Provision) → any_holds w bs ≡ false → changed step w bs ≡ bs

@@ -1,5 +1,5 @@
 -- Nums that are given one after another, from the last pair to the first, are given all at once.
-use Rattle.std.proofs.Common.{◌≡◌, ◌∙◌, ap, refl, subst, ℕ, true, false, cond, List, [], ◌∷◌, arith}
+use Rattle.std.proofs.Common.{◌≡◌, ◌∙◌, ap, refl, subst, ℕ, true, false, cond, List, [], ◌∷◌}
 use Rattle.std.specs.Str.{bytes_eq}
 use Rattle.act_tree.specs.declared.arena.Arena.{Arena}
 use Rattle.act_tree.specs.Branches.{Branch, Branches, branch, no_branches, more_branches}
@@ -8,10 +8,7 @@ use Rattle.act_tree.specs.Changes.{Step, has_wid, changed, inside_changed, renum
 use Rattle.act_tree.specs.Arena.{provision_in, below_in, branches_below, climbs, IsWhole}
 use Rattle.act_tree.specs.Restated.{IsRestated}
 use Rattle.act_tree.specs.Slots.{at, number, size}
-use Rattle.act_tree.proofs.Changing.{Rises}
-use Rattle.std.proofs.lemmas.Bool.{and_parts}
 use Rattle.eid_paths.specs.Nums.{is_num}
-use Rattle.act_tree.proofs.Nums.{KeepsNums, both}
 use Rattle.act_tree.proofs.RestatedNodes.{Restated, restated}
 
 -- the provision has another num
@@ -55,12 +52,6 @@ mutual
   one_renumbered w num (more_branches b bs) =
       one_inside w num b (changed (with_num num) w bs) ∙ ap (more_branches (inside_renumbered ((w, num) ∷ []) b)) (one_renumbered w num bs)
 
-rises_num : (num : List ℕ) → Rises (with_num num) 0
-rises_num num b (branch p below) bs cs one rest = omega arith
-
-with_num_keeps : (num : List ℕ) → is_num num ≡ true → KeepsNums (with_num num)
-with_num_keeps num good (branch p below) rest one others = both _ _ (both _ _ good (and_parts _ _ one).1) others
-
 -- the node has another num
 pub num_put : (old new : Arena) (i : ℕ) (num : List ℕ) → IsWhole (at old) (number old) (size old) → climbs (size old) (at old) i ≡ true → (i ≡ 0 → ⊥)
     → new.numbers ≡ old.numbers → size new ≡ size old → IsRestated (at old) (at new) i (record (provision_in (at old i)).own { num = num }) → is_num num ≡ true
@@ -68,4 +59,4 @@ pub num_put : (old new : Arena) (i : ℕ) (num : List ℕ) → IsWhole (at old) 
 num_put old new i num whole climbed other numbers sizes r good =
     let P : Branches Provision → Type 0 = λ body. Restated old new body in
     subst P (one_renumbered (provision_in (at old i)).wid num (branches_below (size old) (at old) (below_in (at old 0))))
-    (restated old new i (record (provision_in (at old i)).own { num = num }) (with_num num) whole climbed other numbers sizes r (λ below rest. refl) (rises_num num) (with_num_keeps num good))
+    (restated old new i (record (provision_in (at old i)).own { num = num }) (with_num num) whole climbed other numbers sizes r (λ below rest. refl) good)

@@ -1,103 +1,150 @@
--- Those right below a number get it right above them, one after another.
-use Rattle.std.proofs.Common.{◌≡◌, ◌∙◌, sym, ap, refl, ℕ, ◌+◌, ◌<◌, ◌==◌, true, false, ◌||◌, List, [], ◌∷◌, ◌++◌, take, get_or, length, Option, Some, None, ◌⊎◌, inl, inr}
+-- Numbers of a list get another one right above them, one after another; and what comes of it where a list is set too.
+use Rattle.std.proofs.Common.{◌≡◌, ◌∙◌, sym, ap, refl, subst, ℕ, zero, suc, ◌+◌, ◌<◌, ◌≤◌, ◌==◌, true, false, ◌||◌, List, [], ◌∷◌, ◌++◌, take, drop, get_or, length, length-take, Option, Some, None, inl, inr, arith}
 use Rattle.std.specs.List.{list_any}
 use Rattle.std.proofs.lemmas.Bool.{cases_Bool, cases_eq, or_cases, eq-eqb, ne_eqb}
-use Rattle.std.proofs.lemmas.List.{take_more}
+use Rattle.std.proofs.lemmas.List.{take_more, drop-append-le}
 use Rattle.std.proofs.lemmas.List.Folds.{list_any-append}
+use Rattle.act_tree.specs.declared.arena.Slot.{Slot}
+use Rattle.act_tree.specs.Slots.{laid}
+use Rattle.act_tree.proofs.LaidDown.{laid_slot}
 use Rattle.act_tree.specs.Provisions.{Own}
 use Rattle.act_tree.specs.Arena.{Laid, provision_in, above_in, below_in}
-use Rattle.act_tree.specs.Moved.{IsSettled, IsFilled, IsJoined}
-use Rattle.act_tree.specs.Parted.{IsAddedBehind, IsParted}
+use Rattle.act_tree.specs.Moved.{IsFilled, CanJoin}
+use Rattle.act_tree.specs.Relisted.{IsRaised, IsRelisted}
 use Rattle.act_tree.specs.TakenOff.{with_above, IsTakenOff}
 use Rattle.act_tree.proofs.Frames.{or_left, none_left, none_right, neither}
-use Rattle.act_tree.proofs.Removing.{below_kept}
+use Rattle.act_tree.proofs.Relistings.{own_above, below_kept}
+use Rattle.act_tree.proofs.Times.{only_one, other_one}
 
--- the first of the numbers below one have it right above them
-pub record FirstSettled (at now : ℕ → Option Laid) (i n : ℕ) : Type 0 where
+-- those of a list, from one place up to another, have others right above them; and the list below a number stays
+pub record FirstRaised (at now : ℕ → Option Laid) (i : ℕ) (ks : List ℕ) (start : ℕ) (over : ℕ → ℕ) (n : ℕ) : Type 0 where
   pub list : below_in (now i) ≡ below_in (at i)
-  pub moved : (k : ℕ) → list_any (λ j. j == k) (take n (below_in (at i))) ≡ true → now k ≡ with_above i (at k)
-  pub others : (k : ℕ) → list_any (λ j. j == k) (take n (below_in (at i))) ≡ false → now k ≡ at k
+  pub raised : (k : ℕ) → list_any (λ j. j == k) (drop start (take n ks)) ≡ true → now k ≡ with_above (over k) (at k)
+  pub others : (k : ℕ) → list_any (λ j. j == k) (drop start (take n ks)) ≡ false → now k ≡ at k
+  pub from : start ≤ n
 
-again : (u : ℕ) (o : Option Laid) → with_above u (with_above u o) ≡ with_above u o
-again u None = refl
-again u (Some x) = refl
+none_left_over : (start : ℕ) (ks : List ℕ) → drop start (take start ks) ≡ []
+none_left_over zero ks = refl
+none_left_over (suc start) [] = refl
+none_left_over (suc start) (k ∷ ks) = none_left_over start ks
 
-pub none_settled : (at : ℕ → Option Laid) (i : ℕ) → FirstSettled at at i 0
-none_settled at i = record { list = refl; moved = λ k found. absurd cc; others = λ k none. refl }
+pub none_raised : (at : ℕ → Option Laid) (i : ℕ) (ks : List ℕ) (start : ℕ) (over : ℕ → ℕ) → FirstRaised at at i ks start over start
+none_raised at i ks start over = record {
+  list = refl;
+  raised = λ k found. absurd (let none : list_any (λ j. j == k) (drop start (take start ks)) ≡ false = ap (list_any (λ j. j == k)) (none_left_over start ks) in cc);
+  others = λ k none. refl;
+  from = omega arith;
+}
 
-pub one_settled : (at now next : ℕ → Option Laid) (i n c : ℕ) → FirstSettled at now i n → n < length (below_in (at i)) → c ≡ get_or (below_in (at i)) n c
-    → next c ≡ with_above i (now c) → ((k : ℕ) → (k ≡ c → ⊥) → next k ≡ now k) → FirstSettled at next i (n + 1)
-one_settled at now next i n c first within it here others =
-    let longer : take (n + 1) (below_in (at i)) ≡ take n (below_in (at i)) ++ c ∷ [] = take_more (below_in (at i)) n c within ∙ ap (λ j. take n (below_in (at i)) ++ j ∷ []) (sym it) in
-    let both : (k : ℕ) → list_any (λ j. j == k) (take (n + 1) (below_in (at i))) ≡ (list_any (λ j. j == k) (take n (below_in (at i))) || list_any (λ j. j == k) (c ∷ [])) =
-    λ k. ap (list_any (λ j. j == k)) longer ∙ list_any-append (λ j. j == k) (take n (below_in (at i))) (c ∷ []) in
-    let was : (k : ℕ) → (now k ≡ with_above i (at k)) ⊎ (now k ≡ at k) = λ k. elim (cases_Bool (list_any (λ j. j == k) (take n (below_in (at i))))) [
-      | inl found ↦ inl (first.moved k found)
-      | inr none ↦ inr (first.others k none)
+again : (u v : ℕ) (o : Option Laid) → with_above u (with_above v o) ≡ with_above u o
+again u v None = refl
+again u v (Some x) = refl
+
+pub one_raised : (at now next : ℕ → Option Laid) (i : ℕ) (ks : List ℕ) (start : ℕ) (over : ℕ → ℕ) (n c : ℕ) → FirstRaised at now i ks start over n → n < length ks → c ≡ get_or ks n c
+    → next c ≡ with_above (over c) (now c) → ((k : ℕ) → (k ≡ c → ⊥) → next k ≡ now k) → FirstRaised at next i ks start over (n + 1)
+one_raised at now next i ks start over n c first within it here others =
+    let from : start ≤ n = first.from in
+    let longer : drop start (take (n + 1) ks) ≡ drop start (take n ks) ++ c ∷ [] =
+    ap (drop start) (take_more ks n c within ∙ ap (λ j. take n ks ++ j ∷ []) (sym it)) ∙ drop-append-le start (take n ks) (c ∷ []) (omega (arith, length-take n ks)) in
+    let both : (k : ℕ) → list_any (λ j. j == k) (drop start (take (n + 1) ks)) ≡ (list_any (λ j. j == k) (drop start (take n ks)) || list_any (λ j. j == k) (c ∷ [])) =
+    λ k. ap (list_any (λ j. j == k)) longer ∙ list_any-append (λ j. j == k) (drop start (take n ks)) (c ∷ []) in
+    let now_raised : next c ≡ with_above (over c) (at c) = here ∙ elim (cases_Bool (list_any (λ j. j == c) (drop start (take n ks)))) [
+      | inl found ↦ ap (with_above (over c)) (first.raised c found) ∙ again (over c) (over c) (at c)
+      | inr none ↦ ap (with_above (over c)) (first.others c none)
     ] in
-    let now_moved : next c ≡ with_above i (at c) = here ∙ elim (was c) [ inl off ↦ ap (with_above i) off ∙ again i (at c) | inr same ↦ ap (with_above i) same ] in
     record {
       list = elim (cases_eq i c) [
-        | inl same ↦ ap (λ k. below_in (next k)) same ∙ ap below_in here ∙ below_kept i (now c) ∙ sym (ap (λ k. below_in (now k)) same) ∙ first.list
+        | inl same ↦ ap (λ k. below_in (next k)) same ∙ ap below_in here ∙ below_kept (over c) (now c) ∙ sym (ap (λ k. below_in (now k)) same) ∙ first.list
         | inr other ↦ ap below_in (others i other) ∙ first.list
       ];
-      moved = λ k found. elim (cases_eq k c) [
-        | inl same ↦ ap next same ∙ now_moved ∙ sym (ap (λ j. with_above i (at j)) same)
-        | inr other ↦ elim (or_cases (list_any (λ j. j == k) (take n (below_in (at i)))) (list_any (λ j. j == k) (c ∷ [])) (sym (both k) ∙ found)) [
-          | inl before ↦ others k other ∙ first.moved k before
+      raised = λ k found. elim (cases_eq k c) [
+        | inl same ↦ ap next same ∙ now_raised ∙ sym (ap (λ j. with_above (over j) (at j)) same)
+        | inr other ↦ elim (or_cases (list_any (λ j. j == k) (drop start (take n ks))) (list_any (λ j. j == k) (c ∷ [])) (sym (both k) ∙ found)) [
+          | inl before ↦ others k other ∙ first.raised k before
           | inr last ↦ absurd (let never : list_any (λ j. j == k) (c ∷ []) ≡ false = neither (c == k) false (ne_eqb c k (λ same. other (sym same))) refl in cc)
         ]
       ];
       others = λ k none.
-          let parts : (list_any (λ j. j == k) (take n (below_in (at i))) || list_any (λ j. j == k) (c ∷ [])) ≡ false = sym (both k) ∙ none in
+          let parts : (list_any (λ j. j == k) (drop start (take n ks)) || list_any (λ j. j == k) (c ∷ [])) ≡ false = sym (both k) ∙ none in
           others k (λ same. let told : list_any (λ j. j == k) (c ∷ []) ≡ true = or_left (c == k) false (eq-eqb c k (sym same)) in let never : list_any (λ j. j == k) (c ∷ []) ≡ false = none_right _ _ parts in cc)
           ∙ first.others k (none_left _ _ parts);
+      from = omega arith;
     }
 
-pub all_settled : (at now : ℕ → Option Laid) (i n : ℕ) → FirstSettled at now i n → take n (below_in (at i)) ≡ below_in (at i) → IsSettled at now i
-all_settled at now i n first all = record {
-  below = λ k found. first.moved k (ap (list_any (λ j. j == k)) all ∙ found);
-  others = λ k none. first.others k (ap (list_any (λ j. j == k)) all ∙ none);
+pub all_raised : (at now : ℕ → Option Laid) (i : ℕ) (ks : List ℕ) (start : ℕ) (over : ℕ → ℕ) (n : ℕ) → FirstRaised at now i ks start over n → take n ks ≡ ks → IsRaised at now (drop start ks) over
+all_raised at now i ks start over n first all = record {
+  raised = λ k found. first.raised k (ap (λ js. list_any (λ j. j == k) (drop start js)) all ∙ found);
+  others = λ k none. first.others k (ap (λ js. list_any (λ j. j == k) (drop start js)) all ∙ none);
 }
 
--- a number is taken off, another is filled, and those below that one are settled
-pub joined_of : (at one two next : ℕ → Option Laid) (i x : ℕ) (own : Own) (below : List ℕ) → IsTakenOff at one x → IsFilled one two i own below → IsSettled two next i
-    → (i ≡ x → ⊥) → (i ≡ above_in (at x) → ⊥) → (x ≡ above_in (at x) → ⊥)
-    → list_any (λ j. j == i) below ≡ false → list_any (λ j. j == x) below ≡ false → list_any (λ j. j == above_in (at x)) below ≡ false → IsJoined at next i x own below
-joined_of at one two next i x own below taken filled settled not_x not_over apart i_out x_out over_out =
-    let list : below_in (two i) ≡ below = ap below_in filled.here in
-    let same : (k : ℕ) → list_any (λ j. j == k) below ≡ false → next k ≡ two k = λ k none. settled.others k (ap (list_any (λ j. j == k)) list ∙ none) in
-    let was : one i ≡ at i = taken.others i not_x not_over in
+-- a number gets a list, and those of it that come have it right above them
+pub relisted_in : (at mid next : ℕ → Option Laid) (u : ℕ) (own : Own) (come list : List ℕ) → IsFilled at mid u own list → list_any (λ j. j == u) come ≡ false → IsRaised mid next come (λ k. u) → IsRelisted at next u own [] come list
+relisted_in at mid next u own come list filled out raised = record {
+  here = raised.others u out ∙ filled.here;
+  left = λ k found. absurd cc;
+  came = λ k found. raised.raised k found ∙ ap (with_above u) (filled.others k (λ same. let never : list_any (λ j. j == k) come ≡ false = ap (λ l. list_any (λ j. j == l) come) same ∙ out in cc));
+  others = λ k far _ none. raised.others k none ∙ filled.others k far;
+}
+
+-- one is raised
+pub raised_one : (at next : ℕ → Option Laid) (n u : ℕ) → next n ≡ with_above u (at n) → ((k : ℕ) → (k ≡ n → ⊥) → next k ≡ at k) → IsRaised at next (n ∷ []) (λ k. u)
+raised_one at next n u here others = record {
+  raised = λ k found. (let same : n ≡ k = only_one n k found in ap next (sym same) ∙ here ∙ ap (λ j. with_above u (at j)) same);
+  others = λ k none. others k (other_one n k none);
+}
+
+-- some are let go, and a number keeps the others
+pub relisted_left : (at mid next : ℕ → Option Laid) (u : ℕ) (own : Own) (gone list : List ℕ) → IsRaised at mid gone (λ k. k) → list_any (λ j. j == u) gone ≡ false → IsFilled mid next u own list → IsRelisted at next u own gone [] list
+relisted_left at mid next u own gone list raised out filled = record {
+  here = filled.here ∙ ap (λ o. Some (record { provision = record (provision_in o) { own = own }; above = above_in o; below = list })) (raised.others u out);
+  left = λ k found. filled.others k (λ same. let never : list_any (λ j. j == k) gone ≡ false = ap (λ l. list_any (λ j. j == l) gone) same ∙ out in cc) ∙ raised.raised k found;
+  came = λ k found. absurd cc;
+  others = λ k far none _. filled.others k far ∙ raised.others k none;
+}
+
+-- a number gets a list, and all of it is settled; those that do not come were below the number
+pub relisted_came : (at mid next : ℕ → Option Laid) (u : ℕ) (own : Own) (come list : List ℕ) → IsFilled at mid u own list → list_any (λ j. j == u) list ≡ false → IsRaised mid next list (λ k. u)
+    → ((k : ℕ) → list_any (λ j. j == k) come ≡ true → list_any (λ j. j == k) list ≡ true)
+    → ((k : ℕ) → list_any (λ j. j == k) list ≡ true → list_any (λ j. j == k) come ≡ false → above_in (at k) ≡ u) → IsRelisted at next u own [] come list
+relisted_came at mid next u own come list filled out raised listed below =
+    let far : (k : ℕ) → list_any (λ j. j == k) list ≡ true → k ≡ u → ⊥ = λ k found same. let never : list_any (λ j. j == k) list ≡ false = ap (λ l. list_any (λ j. j == l) list) same ∙ out in cc in
+    let up : (k : ℕ) → list_any (λ j. j == k) list ≡ true → next k ≡ with_above u (at k) = λ k found. raised.raised k found ∙ ap (with_above u) (filled.others k (far k found)) in
     record {
-      here = same i i_out ∙ filled.here ∙ ap (λ o. Some (record { provision = record (provision_in o) { own = own }; above = above_in o; below = below })) was;
-      gone = same x x_out ∙ filled.others x (λ it. not_x (sym it)) ∙ taken.here;
-      over = same (above_in (at x)) over_out ∙ filled.others (above_in (at x)) (λ it. not_over (sym it)) ∙ taken.over;
-      under = λ k found.
-          let in_list : list_any (λ j. j == k) (below_in (two i)) ≡ true = ap (list_any (λ j. j == k)) list ∙ found in
-          settled.below k in_list
-          ∙ ap (with_above i) (filled.others k (λ it. let never : list_any (λ j. j == k) below ≡ false = ap (λ l. list_any (λ j. j == l) below) it ∙ i_out in cc)
-          ∙ taken.others k (λ it. let never : list_any (λ j. j == k) below ≡ false = ap (λ l. list_any (λ j. j == l) below) it ∙ x_out in cc)
-          (λ it. let never : list_any (λ j. j == k) below ≡ false = ap (λ l. list_any (λ j. j == l) below) it ∙ over_out in cc));
-      others = λ k not_i off not_p none. same k none ∙ filled.others k not_i ∙ taken.others k off not_p;
+      here = raised.others u out ∙ filled.here;
+      left = λ k found. absurd cc;
+      came = λ k found. up k (listed k found);
+      others = λ k other _ none. elim (cases_Bool (list_any (λ j. j == k) list)) [
+        | inl found ↦ up k found ∙ ap (λ v. with_above v (at k)) (sym (below k found none)) ∙ own_above (at k)
+        | inr not_listed ↦ raised.others k not_listed ∙ filled.others k other
+      ];
     }
 
--- a number is added right behind another, that one keeps the first of those below it, and those below the new one are settled
-pub parted_of : (at one two next : ℕ → Option Laid) (i n place : ℕ) (own : Own) (new : Laid) → IsAddedBehind at one i n new → IsFilled one two i own (take place (below_in (at i))) → IsSettled two next n
-    → (i ≡ n → ⊥) → (above_in (at i) ≡ n → ⊥) → (i ≡ above_in (at i) → ⊥)
-    → list_any (λ j. j == i) new.below ≡ false → list_any (λ j. j == n) new.below ≡ false → list_any (λ j. j == above_in (at i)) new.below ≡ false → IsParted at next i n own new place
-parted_of at one two next i n place own new added filled settled not_n over_not_n apart i_out n_out over_out =
-    let here_two : two n ≡ Some new = filled.others n (λ it. not_n (sym it)) ∙ added.here in
-    let list : below_in (two n) ≡ new.below = ap below_in here_two in
-    let same : (k : ℕ) → list_any (λ j. j == k) new.below ≡ false → next k ≡ two k = λ k none. settled.others k (ap (list_any (λ j. j == k)) list ∙ none) in
-    let was : one i ≡ at i = added.others i not_n apart in
-    record {
-      here = same i i_out ∙ filled.here ∙ ap (λ o. Some (record { provision = record (provision_in o) { own = own }; above = above_in o; below = take place (below_in (at i)) })) was;
-      second = same n n_out ∙ here_two;
-      over = same (above_in (at i)) over_out ∙ filled.others (above_in (at i)) (λ it. apart (sym it)) ∙ added.over;
-      under = λ k found.
-          settled.below k (ap (list_any (λ j. j == k)) list ∙ found)
-          ∙ ap (with_above n) (filled.others k (λ it. let never : list_any (λ j. j == k) new.below ≡ false = ap (λ l. list_any (λ j. j == l) new.below) it ∙ i_out in cc)
-          ∙ added.others k (λ it. let never : list_any (λ j. j == k) new.below ≡ false = ap (λ l. list_any (λ j. j == l) new.below) it ∙ n_out in cc)
-          (λ it. let never : list_any (λ j. j == k) new.below ≡ false = ap (λ l. list_any (λ j. j == l) new.below) it ∙ over_out in cc));
-      others = λ k not_i not_new not_p none. same k none ∙ filled.others k not_i ∙ added.others k not_new not_p;
-    }
+-- a number is taken off and lets those below it go, another one is filled, and those below that one are settled
+pub joined_of : (at off bare filled next : ℕ → Option Laid) (size i x : ℕ) (own : Own) (below : List ℕ) → CanJoin at size i x below → IsTakenOff at off x → IsRelisted off bare x (provision_in (off x)).own (below_in (off x)) [] []
+    → IsFilled bare filled i own below → IsRaised filled next (below_in (filled i)) (λ k. i) → IsRelisted bare next i own [] (below_in (off x)) below
+joined_of at off bare filled next size i x own below may taken emptied fill raised =
+    let list : below_in (filled i) ≡ below = ap below_in fill.here in
+    let lists : below_in (off x) ≡ below_in (at x) = ap below_in taken.here ∙ below_kept x (at x) in
+    let P : List ℕ → Type 0 = λ ks. IsRaised filled next ks (λ k. i) in
+    relisted_came bare filled next i own (below_in (off x)) below fill may.outside (subst P list raised)
+    (λ k found. may.taken_in k (sym (ap (list_any (λ j. j == k)) lists) ∙ found))
+    (λ k found none.
+    let not_x : k ≡ x → ⊥ = λ same. let never : list_any (λ j. j == k) below ≡ false = ap (λ l. list_any (λ j. j == l) below) same ∙ may.next_outside in cc in
+    let not_over : k ≡ above_in (at x) → ⊥ = λ same. let never : list_any (λ j. j == k) below ≡ false = ap (λ l. list_any (λ j. j == l) below) same ∙ may.above_outside in cc in
+    ap above_in (emptied.others k not_x none refl ∙ taken.others k not_x not_over) ∙ may.own k found (sym (ap (list_any (λ j. j == k)) lists) ∙ none))
+
+-- what is taken off is not right below itself
+pub not_own : (at : ℕ → Option Laid) (size i x : ℕ) (below : List ℕ) → CanJoin at size i x below → list_any (λ j. j == x) (below_in (at x)) ≡ false
+not_own at size i x below may =
+    elim (cases_Bool (list_any (λ j. j == x) (below_in (at x)))) [
+      | inl found ↦ absurd (let named : list_any (λ j. j == x) below ≡ true = may.taken_in x found in let never : list_any (λ j. j == x) below ≡ false = may.next_outside in cc)
+      | inr none ↦ none
+    ]
+
+-- the numbers below one, as its slot has them
+pub listed : (ss : List Slot) (i j : ℕ) (s : Slot) → i < length ss → j ≡ i → s ≡ get_or ss j s → below_in (laid ss i) ≡ s.below.items
+listed ss i j s within place it = ap below_in (laid_slot ss i s within (it ∙ ap (λ k. get_or ss k s) place))
+
+-- and the number above one
+pub slot_above : (ss : List Slot) (i j : ℕ) (s : Slot) → i < length ss → j ≡ i → s ≡ get_or ss j s → s.above ≡ above_in (laid ss i)
+slot_above ss i j s within place it = sym (ap above_in (laid_slot ss i s within (it ∙ ap (λ k. get_or ss k s) place)))

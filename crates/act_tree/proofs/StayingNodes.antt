@@ -8,18 +8,21 @@ use Rattle.act_tree.specs.Arena.{provision_in, above_in, branch_from, climbs, Is
 use Rattle.act_tree.specs.Branches.{Branches}
 use Rattle.act_tree.specs.Provisions.{Provision}
 use Rattle.act_tree.specs.Changes.{root_wid, is_in, any_holds}
-use Rattle.act_tree.specs.Grafted.{IsGrafted, IsStopped}
+use Rattle.act_tree.specs.Grafted.{IsGrafted}
+use Rattle.act_tree.specs.Parted.{IsParted}
+use Rattle.act_tree.specs.Planted.{HasGrown}
 use Rattle.act_tree.specs.NodesStay.{NodesStay}
 use Rattle.act_tree.specs.Seen.{tree_view, has_node, provision_at}
 use Rattle.act_tree.specs.Slots.{at, number, size}
 use Rattle.act_tree.specs.Wids.{all_wids, is_among}
 use Rattle.act_tree.proofs.Climbing.{Seated, found_climbs}
-use Rattle.act_tree.proofs.GraftedTrees.{AreFresh, body_of}
+use Rattle.act_tree.proofs.GraftedTrees.{AreFresh, body_of, fresh_one}
 use Rattle.act_tree.proofs.TakingAway.{leads_there}
 use Rattle.act_tree.proofs.TreeNodes.{node_seated, is_in-holds, found_wid, found_held, root_climbs}
 use Rattle.act_tree.proofs.ReplacedNodes.{AreNew, not_root, not_new}
 use Rattle.act_tree.proofs.PutIn.{all_wids_held}
-use Rattle.act_tree.proofs.Texts.{other_text}
+use Rattle.act_tree.proofs.Frames.{none_left}
+use Rattle.act_tree.proofs.Texts.{bytes_eq_sym}
 
 -- the index leads from the wId of each node that there was to it
 abbrev pub LeadsStill : Arena → Arena → Type 0
@@ -75,19 +78,16 @@ same_stay t = λ k node held. (node, refl)
 
 -- what was laid down has other wIds
 pub stay_grafted : (old new : Arena) (parent place : ℕ) (bs : Branches Provision) → IsWhole (at old) (number old) (size old) → AreFresh old (all_wids bs) → IsGrafted old new parent place bs → LeadsStill old new
-stay_grafted old new parent place bs whole fresh is = index_kept old whole new (λ v found. is.numbers v ∙ is.laid.grown.numbers v (fresh v found))
+stay_grafted old new parent place bs whole fresh is = index_kept old whole new (λ v found. ap (λ ns. number (record old { numbers = ns }) v) is.numbers ∙ is.laid.grown.numbers v (fresh v found))
 
-pub stay_stopped : (old new : Arena) (ws : List (List ℕ)) → IsWhole (at old) (number old) (size old) → AreFresh old ws → IsStopped old new ws → LeadsStill old new
-stay_stopped old new ws whole fresh is = index_kept old whole new (λ v found. is.grown.grown.numbers v (fresh v found))
+pub stay_stopped : (old new : Arena) (ws : List (List ℕ)) → IsWhole (at old) (number old) (size old) → AreFresh old ws → HasGrown old new ws → LeadsStill old new
+stay_stopped old new ws whole fresh is = index_kept old whole new (λ v found. is.numbers v (fresh v found))
 
 -- the second part has a wId that was not there
-pub stay_parted : (old new : Arena) (second : List ℕ) → IsWhole (at old) (number old) (size old) → is_in second (body_of old) ≡ false
-    → ((w : List ℕ) → number new w ≡ cond (bytes_eq second w) (Some (size old)) (number old w)) → LeadsStill old new
-stay_parted old new second whole fresh numbers =
-    index_kept old whole new (λ v found. numbers v ∙ ap (λ t. cond t (Some (size old)) (number old v)) (other_text second v (λ same.
-    let told : is_among second (root_wid ∷ all_wids (body_of old)) ≡ true = ap (λ w. is_among w (root_wid ∷ all_wids (body_of old))) same ∙ found in
-    let never : is_among second (root_wid ∷ all_wids (body_of old)) ≡ false = ap (λ t. bytes_eq second root_wid || t) (all_wids_held second (body_of old)) ∙ fresh in
-    cc)))
+pub stay_parted : (old new : Arena) (i place : ℕ) (head : List ℕ) (second : Provision) (moved : List ℕ) → IsWhole (at old) (number old) (size old) → is_in second.wid (body_of old) ≡ false → IsParted old new i place head second moved → LeadsStill old new
+stay_parted old new i place head second moved whole fresh p =
+    index_kept old whole new (λ v found. ap (λ ns. number (record old { numbers = ns }) v) p.numbers ∙ p.adds.numbers v
+    ∙ ap (λ t. cond t (Some (size old)) (number old v)) (bytes_eq_sym second.wid v ∙ none_left (bytes_eq v second.wid) false (fresh_one old second.wid fresh v found)))
 
 pub stay_same : (old new : Arena) → IsWhole (at old) (number old) (size old) → ((w : List ℕ) → number new w ≡ number old w) → LeadsStill old new
 stay_same old new whole numbers = index_kept old whole new (λ v found. numbers v)

@@ -1,5 +1,5 @@
 -- The nodes of a whole arena: each has a slot, its children are nodes, and a wId leads to the node that has it.
-use Rattle.std.proofs.Common.{◌≡◌, ◌∙◌, sym, ap, refl, ℕ, suc, ◌<◌, ◌≤◌, true, false, ◌||◌, List, [], ◌∷◌, map, Option, Some, None, inl, inr, arith}
+use Rattle.std.proofs.Common.{◌≡◌, ◌∙◌, sym, ap, refl, subst, ℕ, suc, ◌<◌, ◌≤◌, true, false, ◌||◌, List, [], ◌∷◌, map, Option, Some, None, inl, inr, arith}
 use Rattle.std.specs.List.{All}
 use Rattle.std.specs.Str.{bytes_eq}
 use Rattle.std.proofs.lemmas.Bool.{cases_Bool}
@@ -9,9 +9,10 @@ use Rattle.act_tree.specs.Provisions.{Provision}
 use Rattle.act_tree.specs.Changes.{holds, any_holds, is_in, root_wid}
 use Rattle.act_tree.specs.Arena.{Laid, provision_in, above_in, below_in, name_in, branches_below, branch_from, climbs, Stands, StandAll, IsWhole}
 use Rattle.act_tree.proofs.Texts.{bytes_eq_sym, equal_text}
-use Rattle.act_tree.proofs.Standing.{branches_are}
+use Rattle.act_tree.proofs.Standing.{branch_is, branches_are}
 use Rattle.act_tree.proofs.Climbing.{Seated, climber_seated, climbs_more, found_climbs, has_number}
 use Rattle.act_tree.proofs.Frames.{or_left, or_right}
+use Rattle.act_tree.proofs.PutIn.{not_beneath}
 
 module _ (at : ℕ → Option Laid) (number : List ℕ → Option ℕ) (size : ℕ) (whole : IsWhole at number size) where
   pub root_climbs : climbs size at 0 ≡ true
@@ -20,6 +21,22 @@ module _ (at : ℕ → Option Laid) (number : List ℕ → Option ℕ) (size : �
   -- the branch of a node, as it stands in the text
   pub node_seated : (i : ℕ) → climbs size at i ≡ true → Seated at number (branch_from size at 0) i
   node_seated i climbed = climber_seated at number (branch_from size at 0) whole.stands whole.hung size i climbed
+
+  -- a node stands with what is read below it, which is in the text
+  read_is : (i : ℕ) (seat : Seated at number (branch_from size at 0) i) → branch_from size at i ≡ seat.it
+  read_is i seat =
+      let low : heights (branches_below size at (below_in (at 0))) < size = whole.low in
+      let lower : height seat.it ≤ height (branch_from size at 0) = seat.low in
+      branch_is at number seat.it size (above_in (at i)) i seat.stands (omega arith)
+
+  pub node_stands : (i : ℕ) → climbs size at i ≡ true → Stands at number (above_in (at i)) i (branch_from size at i)
+  node_stands i climbed =
+      let seat : Seated at number (branch_from size at 0) i = node_seated i climbed in
+      let P : Branch Provision → Type 0 = λ b. Stands at number (above_in (at i)) i b in
+      subst P (sym (read_is i seat)) seat.stands
+
+  pub node_inside : (i : ℕ) → climbs size at i ≡ true → (w : List ℕ) → holds w (branch_from size at i) ≡ true → holds w (branch_from size at 0) ≡ true
+  node_inside i climbed w held = let seat : Seated at number (branch_from size at 0) i = node_seated i climbed in seat.inside w (sym (ap (holds w) (read_is i seat)) ∙ held)
 
   laid_there : (b : Branch Provision) (u i : ℕ) → Stands at number u i b → (x : Laid) × (at i ≡ Some x)
   laid_there (branch p below) u i s = (record { provision = p; above = u; below = below_in (at i) }, s.0)
@@ -95,3 +112,9 @@ module _ (at : ℕ → Option Laid) (number : List ℕ → Option ℕ) (size : �
   found_held w i leads climbed =
       let seat : Seated at number (branch_from size at 0) i = node_seated i climbed in
       is_in-holds w ∙ seat.inside w (found_in seat.it (above_in (at i)) i w seat.stands (found_wid w i leads))
+
+  -- no provision has the root's wId
+  pub no_root_held : any_holds root_wid (branches_below size at (below_in (at 0))) ≡ false
+  no_root_held =
+      sym (ap (λ p. any_holds p.wid (branches_below size at (below_in (at 0)))) whole.root)
+      ∙ not_beneath at number (provision_in (at 0)) (branches_below size at (below_in (at 0))) 0 0 whole.stands

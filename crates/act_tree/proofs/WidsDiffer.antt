@@ -65,13 +65,7 @@ module _ (at : ℕ → Option Laid) (number : List ℕ → Option ℕ) (size : �
         let root : u ≡ 0 = sym far.1.1 ∙ ap (λ n. up n u) split ∙ up_more size (far.0 - size) u ∙ ap (up (far.0 - size)) (up_climbs size u climbed) ∙ up_root (far.0 - size) in
         other (sym way ∙ ap (up r) root ∙ up_root r)
 
-  -- no node stands right below itself
-  pub not_below_itself : (u : ℕ) → climbs size at u ≡ true → list_any (λ k. k == u) (below_in (at u)) ≡ true → ⊥
-  not_below_itself u climbed found =
-      let child : IsChild at number size whole u u = listed_child at number size whole u u climbed found in
-      no_round u u 0 refl child.above climbed child.other
-
-  -- nor right below one of those right below it
+  -- no node stands right below one of those right below it
   pub not_below_child : (u j : ℕ) → climbs size at u ≡ true → list_any (λ k. k == j) (below_in (at u)) ≡ true → list_any (λ k. k == u) (below_in (at j)) ≡ true → ⊥
   not_below_child u j climbed found back =
       let child : IsChild at number size whole u j = listed_child at number size whole u j climbed found in
@@ -135,7 +129,7 @@ module _ (at : ℕ → Option Laid) (number : List ℕ → Option ℕ) (size : �
       ]
 
   -- no wId stands twice among those that stand below a node
-  differ : (bs : Branches Provision) (u : ℕ) (ids : List ℕ) → climbs size at u ≡ true → StandAll at number u ids bs → number_twice ids ≡ false
+  pub differ : (bs : Branches Provision) (u : ℕ) (ids : List ℕ) → climbs size at u ≡ true → StandAll at number u ids bs → number_twice ids ≡ false
       → ((j : ℕ) → list_any (λ x. x == j) ids ≡ true → list_any (λ x. x == j) (below_in (at u)) ≡ true) → one_twice (all_wids bs) ≡ false
   differ no_branches u ids climbed s once listed = refl
   differ (more_branches b bs) u [] climbed s once listed = absurd s

@@ -3,7 +3,7 @@ use Rattle.std.specs.Prelude.{ℕ, zero, suc, ◌==◌, ◌≡◌, ◌<◌, ◌�
 use Rattle.std.specs.List.{list_any}
 use Rattle.eid_paths.specs.declared.element.Element.TheVariants.{Article}
 use Rattle.act_tree.specs.Branches.{Branch, Branches, branch, no_branches, more_branches, branches_of, heights}
-use Rattle.act_tree.specs.Numbered.{are_numbered}
+use Rattle.eid_paths.specs.Nums.{is_num}
 use Rattle.act_tree.specs.Provisions.{Provision}
 use Rattle.act_tree.specs.Changes.{root_wid}
 
@@ -92,7 +92,7 @@ number_twice [] = false
 number_twice (i ∷ numbers) = list_any (λ j. j == i) numbers || number_twice numbers
 
 -- an arena is whole: the text that is read from it stands there from the root down, each number is hung, no list names
--- a number twice, the text is not as deep as there are numbers, its nums keep the rule of nums, the index leads to
+-- a number twice, the text is not as deep as there are numbers, nums keep the rule of nums, the index leads to
 -- provisions of the wId, and each number fits 32 bits
 pub record IsWhole (at : ℕ → Option Laid) (number : List ℕ → Option ℕ) (size : ℕ) : Type 0 where
   pub stands : Stands at number 0 0 (branch_from size at 0)
@@ -100,6 +100,6 @@ pub record IsWhole (at : ℕ → Option Laid) (number : List ℕ → Option ℕ)
   pub hung : (i : ℕ) → is_hung at i (at i) ≡ true
   pub once : (i : ℕ) → number_twice (below_in (at i)) ≡ false
   pub low : heights (branches_below size at (below_in (at 0))) < size
-  pub numbered : are_numbered (branches_below size at (below_in (at 0))) ≡ true
+  pub nums : (i : ℕ) → is_num (provision_in (at i)).own.num ≡ true
   pub named : (wid : List ℕ) (i : ℕ) → number wid ≡ Some i → name_in (at i) ≡ Some wid
   pub fits : size ≤ 2 ^ 32

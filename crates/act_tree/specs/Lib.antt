@@ -17,6 +17,7 @@ pub mod NodesStay
 pub mod Wids
 pub mod Planted
 pub mod TakenOff
+pub mod Relisted
 pub mod Restated
 pub mod Siblings
 pub mod Grafted

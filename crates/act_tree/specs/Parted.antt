@@ -1,38 +1,52 @@
 -- What it means that a provision was parted: a new one stands right behind it, and has the last of its children.
-use Rattle.std.specs.Prelude.{ℕ, ◌==◌, ◌≡◌, ◌<◌, true, false, List, take, Option, Some}
+use Rattle.std.specs.Prelude.{ℕ, ◌==◌, ◌≡◌, ◌<◌, ◌≤◌, true, false, List, [], ◌∷◌, take, drop, length, Option}
 use Rattle.std.specs.List.{All, list_any}
-use Rattle.act_tree.specs.Provisions.{Own}
-use Rattle.act_tree.specs.Arena.{Laid, provision_in, above_in, below_in}
+use Rattle.act_tree.specs.declared.arena.Arena.{Arena}
+use Rattle.act_tree.specs.Arena.{Laid, above_in, below_in}
+use Rattle.act_tree.specs.Planted.{IsAdded}
+use Rattle.act_tree.specs.Provisions.{Provision}
+use Rattle.act_tree.specs.Relisted.{IsRelisted}
 use Rattle.act_tree.specs.Siblings.{put_behind}
-use Rattle.act_tree.specs.TakenOff.{with_above, with_below}
+use Rattle.act_tree.specs.Slots.{at, own_at, size}
 
--- a number n is added right behind another one i
-pub record IsAddedBehind (at next : ℕ → Option Laid) (i n : ℕ) (new : Laid) : Type 0 where
-  pub here : next n ≡ Some new
-  pub over : next (above_in (at i))
-      ≡ with_below (put_behind i n (below_in (at (above_in (at i))))) (at (above_in (at i)))
-  pub others : (k : ℕ) → (k ≡ n → ⊥) → (k ≡ above_in (at i) → ⊥) → next k ≡ at k
+-- a number i can give the last of those below it to another one n, which comes below u
+pub record CanGive (at : ℕ → Option Laid) (size i first n : ℕ) (moved : List ℕ) (u : ℕ) : Type 0 where
+  pub within : i < size
+  pub new : n < size
+  pub over : u < size
+  pub place : first ≤ length (below_in (at i))
+  pub children : All (λ k. k < size) (below_in (at i))
+  pub movable : All (λ k. k < size) moved
+  pub same : moved ≡ drop first (below_in (at i))
+  pub not_own : list_any (λ j. j == i) moved ≡ false
+  pub not_moved : list_any (λ j. j == n) moved ≡ false
+  pub other : n ≡ u → ⊥
 
--- a number i can be parted, and those of a list can go to the new one
-pub record CanPart (at : ℕ → Option Laid) (size i : ℕ) (moved : List ℕ) : Type 0 where
+-- it has given them: it kept the first of them and got another content, the other one got the last, and came below u,
+-- whose list is another one
+pub record IsGiven (old new : Arena) (i first : ℕ) (head : List ℕ) (n : ℕ) (moved : List ℕ) (u : ℕ) (list : List ℕ)
+    : Type 0 where
+  pub kept : Arena
+  pub had : Arena
+  pub cut : IsRelisted (at old) (at kept) i (record (own_at old i) { content = head }) moved []
+      (take first (below_in (at old i)))
+  pub given : IsRelisted (at kept) (at had) n (own_at kept n) [] moved moved
+  pub listed : IsRelisted (at had) (at new) u (own_at had u) [] (n ∷ []) list
+
+-- a number i can be parted, and give these to a new one
+pub record CanPart (at : ℕ → Option Laid) (size i first : ℕ) (moved : List ℕ) : Type 0 where
   pub within : i < size
   pub above : above_in (at i) < size
-  pub apart : i ≡ above_in (at i) → ⊥
-  pub children : All (λ k. k < size) moved
-  pub outside : list_any (λ j. j == i) moved ≡ false
-  pub above_outside : list_any (λ j. j == above_in (at i)) moved ≡ false
+  pub place : first ≤ length (below_in (at i))
+  pub children : (k : ℕ) → list_any (λ j. j == k) (below_in (at i)) ≡ true → k < size
+  pub same : moved ≡ drop first (below_in (at i))
+  pub not_own : list_any (λ j. j == i) (below_in (at i)) ≡ false
 
--- a number i says something else of itself and keeps so many of those right below it; a new one n stands right behind
--- it, and those of a list have the new one right above them
-pub record IsParted (at next : ℕ → Option Laid) (i n : ℕ) (own : Own) (new : Laid) (place : ℕ) : Type 0 where
-  pub here : next i ≡ Some (record {
-    provision = record (provision_in (at i)) { own = own };
-    above = above_in (at i);
-    below = take place (below_in (at i));
-  })
-  pub second : next n ≡ Some new
-  pub over : next (above_in (at i))
-      ≡ with_below (put_behind i n (below_in (at (above_in (at i))))) (at (above_in (at i)))
-  pub under : (k : ℕ) → list_any (λ j. j == k) new.below ≡ true → next k ≡ with_above n (at k)
-  pub others : (k : ℕ) → (k ≡ i → ⊥) → (k ≡ n → ⊥) → (k ≡ above_in (at i) → ⊥)
-      → list_any (λ j. j == k) new.below ≡ false → next k ≡ at k
+-- a new one was laid down, and then the number gave it the last of those below it
+pub record IsParted (old new : Arena) (i first : ℕ) (head : List ℕ) (second : Provision) (moved : List ℕ) : Type 0 where
+  pub added : Arena
+  pub adds : IsAdded old added second
+  pub given : IsGiven added new i first head (size old) moved (above_in (at old i))
+      (put_behind i (size old) (below_in (at old (above_in (at old i)))))
+  pub numbers : new.numbers ≡ added.numbers
+  pub sizes : size new ≡ size added

@@ -1,7 +1,6 @@
 -- What it means that provisions were taken off an arena: they are the numbers right above themselves, and no list names
 -- them.
-use Rattle.std.specs.Prelude.{ℕ, ◌==◌, ◌≡◌, true, false, not, List, [], filter, Option, Some, None}
-use Rattle.std.specs.List.{list_any}
+use Rattle.std.specs.Prelude.{ℕ, ◌==◌, ◌≡◌, not, List, filter, Option, Some, None}
 use Rattle.act_tree.specs.Arena.{Laid, above_in, below_in}
 
 -- a provision that has another number right above it
@@ -20,9 +19,3 @@ pub record IsTakenOff (at next : ℕ → Option Laid) (i : ℕ) : Type 0 where
   pub over : next (above_in (at i))
       ≡ with_below (filter (λ k. not (k == i)) (below_in (at (above_in (at i))))) (at (above_in (at i)))
   pub others : (k : ℕ) → (k ≡ i → ⊥) → (k ≡ above_in (at i) → ⊥) → next k ≡ at k
-
--- all numbers right below the root are taken off
-pub record IsEmptied (at next : ℕ → Option Laid) : Type 0 where
-  pub root : next 0 ≡ with_below [] (at 0)
-  pub off : (k : ℕ) → (k ≡ 0 → ⊥) → list_any (λ j. j == k) (below_in (at 0)) ≡ true → next k ≡ with_above k (at k)
-  pub others : (k : ℕ) → (k ≡ 0 → ⊥) → list_any (λ j. j == k) (below_in (at 0)) ≡ false → next k ≡ at k

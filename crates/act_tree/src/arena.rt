@@ -1,7 +1,7 @@
 //! Arena: the provisions of a tree in slots, each with the number of the one above it and the numbers of those below
 //! it, and an index that leads from a wId to a number. Slots are added and never taken away.
 
-ghost use Rattle.std.specs.Prelude.{◌≡◌, ◌==◌, not, filter, ℕ, List, [], ◌∷◌, ◌++◌, ◌<◌, ◌≤◌, ◌^◌, IfOk, OnOk, OnErr, Some, None, length, slice_set, slice_index_or, if◌then◌else◌};
+ghost use Rattle.std.specs.Prelude.{◌≡◌, ◌==◌, not, filter, ℕ, List, [], ◌∷◌, ◌++◌, ◌<◌, ◌≤◌, ◌^◌, IfOk, OnOk, OnErr, Some, None, length, if◌then◌else◌};
 ghost use Rattle.std.specs.Str.{bytes_eq};
 ghost use Rattle.indexmap.specs.IndexMap.{get_by};
 
@@ -65,11 +65,11 @@ fn leave_out(numbers: &mut Vec<NodeId>, id: NodeId)
 }
 
 impl Arena {
-    ghost use Rattle.std.specs.Prelude.{ℕ, ◌==◌, not, false, filter};
-    ghost use Rattle.std.specs.List.{All, list_any};
+    ghost use Rattle.std.specs.Prelude.{ℕ, ◌==◌, not, filter};
     ghost use Rattle.act_tree.specs.Arena.{climbs, climbs_past, above_in, below_in};
-    ghost use Rattle.act_tree.specs.TakenOff.{with_above, with_below, IsTakenOff, IsEmptied};
-    ghost use Rattle.act_tree.specs.Slots.{at, number, size, LeadsTo};
+    ghost use Rattle.act_tree.specs.TakenOff.{with_above, with_below, IsTakenOff};
+    ghost use Rattle.act_tree.specs.Planted.{IsAdded};
+    ghost use Rattle.act_tree.specs.Slots.{at, number, size, provision_of, LeadsTo};
 
     /// No provisions. It takes no memory.
     pub fn new(alloc: Global) -> Arena
@@ -98,14 +98,18 @@ impl Arena {
         Ok(id)
     }
 
-    /// Sets the nodes right below one.
-    pub fn set_below(&mut self, id: NodeId, below: Vec<NodeId>)
-        requires { id < length self.old.slots.items }
-        ensures numbers { self.new.numbers ≡ self.old.numbers }
-        ensures slots { (s : Slot) → s ≡ slice_index_or self.old.slots.items id s
-            → self.new.slots.items ≡ slice_set self.old.slots.items id (record s { below = below }) }
+    /// Adds a provision that is right above itself, with nothing below it, and lets the index lead to it. `Err`: there was
+    /// not enough memory, and nothing was added.
+    pub fn add_alone(&mut self, alloc: Global, slot: Slot) -> Result<NodeId, Memory>
+        requires { slot.below.items ≡ [] }
+        ensures id { IfOk result (λ id. id ≡ size self.old) }
+        ensures added { OnOk result (IsAdded self.old self.new (provision_of slot)) }
+        ensures slots_kept { OnErr result (self.new.slots.items ≡ self.old.slots.items) }
+        ensures numbers_kept { OnErr result ((w : List ℕ) → number self.new w ≡ number self.old w) }
     {
-        self.slots[id.place()].below = below;
+        let id = self.add(alloc, slot)?;
+        self.set_above(id, id);
+        Ok(id)
     }
 
     /// Whether the way up from a number ends at the root.
@@ -177,32 +181,5 @@ impl Arena {
         let above = self.slots[id.place()].above;
         self.unlist(above, id);
         self.set_above(id, id);
-    }
-
-    /// Takes all numbers right below the root off. It needs no memory.
-    pub fn take_all(&mut self)
-        requires root { 0 < size self.old }
-        requires within { All (λ k. k < size self.old) (below_in (at self.old 0)) }
-        requires apart { list_any (λ j. j == 0) (below_in (at self.old 0)) ≡ false }
-        ensures numbers { self.new.numbers ≡ self.old.numbers }
-        ensures size { size self.new ≡ size self.old }
-        ensures emptied { IsEmptied (at self.old) (at self.new) }
-    {
-        for i in 0..self.slots[0].below.len() {
-            let id = self.slots[0].below[i];
-            self.set_above(id, id);
-        }
-        self.empty_root();
-    }
-
-    /// Leaves nothing right below the root.
-    pub fn empty_root(&mut self)
-        requires { 0 < size self.old }
-        ensures numbers { self.new.numbers ≡ self.old.numbers }
-        ensures size { size self.new ≡ size self.old }
-        ensures here { at self.new 0 ≡ with_below [] (at self.old 0) }
-        ensures others { (k : ℕ) → (k ≡ 0 → ⊥) → at self.new k ≡ at self.old k }
-    {
-        self.slots[0].below.clear();
     }
 }

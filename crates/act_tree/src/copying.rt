@@ -12,11 +12,10 @@ use desk_base::Memory;
 use std::alloc::Global;
 
 impl Slot {
-    /// The same provision below the number `above`. Nothing is below it yet, and what it says is shared.
-    pub fn alone(&self, alloc: Global, above: NodeId) -> Result<Slot, Memory>
+    /// The same provision below nothing. Nothing is below it yet, and what it says is shared.
+    pub fn alone(&self, alloc: Global) -> Result<Slot, Memory>
         ensures provision { IfOk result (λ s. provision_of s ≡ provision_of self.now) }
         ensures num { IfOk result (λ s. is_num s.num ≡ true) }
-        ensures above { IfOk result (λ s. s.above ≡ above) }
         ensures below { IfOk result (λ s. s.below.items ≡ []) }
     {
         Ok(Slot {
@@ -26,32 +25,31 @@ impl Slot {
             heading: self.heading.copy()?,
             content: self.content.copy()?,
             refs: self.refs.copy(alloc)?,
-            above,
+            above: NodeId::root(),
             below: Vec::new(alloc),
         })
     }
 }
 
-/// Lays down a node of a tree in another arena, below the number `above` there, and all that stands beneath it. It takes
+/// Lays down a node of a tree in another arena, right above itself there, and all that stands beneath it. It takes
 /// as much stack as the tree is deep.
 pub fn lay_again(
     alloc: Global,
     arena: &mut Arena,
     tree: &Tree,
-    above: NodeId,
     node: NodeId,
 ) -> Result<NodeId, Memory>
     requires { has_node tree.now node ≡ true }
-    ensures { IfOk result (λ id. IsLaid arena.old arena.new above id (branch_at tree.now node)) }
+    ensures { IfOk result (λ id. IsLaid arena.old arena.new id (branch_at tree.now node)) }
 {
-    let slot = tree.slot(node).alone(alloc, above)?;
-    let id = arena.add(alloc, slot)?;
+    let slot = tree.slot(node).alone(alloc)?;
+    let id = arena.add_alone(alloc, slot)?;
     let children = tree.children(node);
     let mut below = Vec::with_capacity(alloc, children.len())?;
     for child in children {
-        let laid = lay_again(alloc, arena, tree, id, *child)?;
+        let laid = lay_again(alloc, arena, tree, *child)?;
         below.push(laid)?;
     }
-    arena.set_below(id, below);
+    arena.hold(id, below);
     Ok(id)
 }

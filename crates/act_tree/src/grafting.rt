@@ -49,45 +49,18 @@ pub fn place_in(numbers: &[NodeId], id: NodeId) -> usize
 }
 
 impl Arena {
-    ghost use Rattle.std.specs.Prelude.{ℕ, List, ◌<◌, ◌^◌, OnOk, OnErr, Some, ◌==◌, false};
-    ghost use Rattle.std.specs.List.{All, list_any};
+    ghost use Rattle.std.specs.Prelude.{ℕ, List, ◌<◌, OnOk, OnErr};
     ghost use Rattle.act_tree.specs.Branches.{branches_of};
     ghost use Rattle.act_tree.specs.Arena.{below_in};
     ghost use Rattle.act_tree.specs.Brought.{brought_under};
-    ghost use Rattle.act_tree.specs.Grafted.{IsDiscarded, IsGrafted, IsStopped};
+    ghost use Rattle.act_tree.specs.Grafted.{IsGrafted};
     ghost use Rattle.act_tree.specs.Planted.{HasGrown};
-    ghost use Rattle.act_tree.specs.Slots.{at, number, size};
-    ghost use Rattle.act_tree.specs.TakenOff.{with_above};
+    ghost use Rattle.act_tree.specs.Slots.{at, size};
     ghost use Rattle.act_tree.specs.Wids.{all_wids};
 
-    // Lets the number of a slot be right above itself.
-    fn let_go(&mut self, place: usize)
-        requires within { place < size self.old }
-        requires fits { place < 2 ^ 32 }
-        ensures numbers { self.new.numbers ≡ self.old.numbers }
-        ensures size { size self.new ≡ size self.old }
-        ensures here { at self.new place ≡ with_above place (at self.old place) }
-        ensures others { (k : ℕ) → (k ≡ place → ⊥) → at self.new k ≡ at self.old k }
-    {
-        if let Some(id) = NodeId::of_place(place) {
-            self.set_above(id, id);
-        }
-    }
-
-    // Takes the numbers from one on off. It needs no memory.
-    fn discard(&mut self, start: usize)
-        requires { size self.old ≤ 2 ^ 32 }
-        ensures numbers { self.new.numbers ≡ self.old.numbers }
-        ensures size { size self.new ≡ size self.old }
-        ensures discarded { IsDiscarded (at self.old) (at self.new) start }
-    {
-        for place in start..self.slots.len() {
-            self.let_go(place);
-        }
-    }
-
-    // Lays nodes down below a number, and puts them among those below it, behind the first so many.
-    fn grow(
+    /// Lays nodes down, and puts them among those below a number, behind the first so many. `Err`: there was not enough
+    /// memory; some of them may have been laid down behind what the arena had, none of them below the number.
+    pub fn graft(
         &mut self,
         alloc: Global,
         parent: NodeId,
@@ -102,35 +75,9 @@ impl Arena {
         ensures kept { OnErr result (HasGrown self.old self.new
             (all_wids (brought_under name.now (branches_of nodes.now)))) }
     {
-        let ids = lay_all(alloc, self, NONE_THROUGHOUT, parent, Some(name), nodes)?;
+        let ids = lay_all(alloc, self, NONE_THROUGHOUT, Some(name), nodes)?;
         let below = put_numbers(alloc, &self.slots[parent.place()].below, place, &ids)?;
-        self.set_below(parent, below);
+        self.take_in(parent, &ids, below);
         Ok(())
-    }
-
-    /// Lays nodes down below a number, and puts them among those below it, behind the first so many. `Err`: there was
-    /// not enough memory, and what was laid down is taken off.
-    pub fn graft(
-        &mut self,
-        alloc: Global,
-        parent: NodeId,
-        place: usize,
-        name: &str,
-        nodes: &Nodes,
-    ) -> Result<(), Memory>
-        requires within { parent < size self.old }
-        requires place { place ≤ length (below_in (at self.old parent)) }
-        requires fits { size self.old ≤ 2 ^ 32 }
-        ensures grafted { OnOk result (IsGrafted self.old self.new parent place
-            (brought_under name.now (branches_of nodes.now))) }
-        ensures kept { OnErr result (IsStopped self.old self.new
-            (all_wids (brought_under name.now (branches_of nodes.now)))) }
-    {
-        let start = self.slots.len();
-        let grown = self.grow(alloc, parent, place, name, nodes);
-        if grown.is_err() {
-            self.discard(start);
-        }
-        grown
     }
 }

@@ -18,19 +18,17 @@ use desk_base::{Memory, Text};
 use eid_paths::{Element, Num, Numbering};
 use std::alloc::Global;
 
-// The provision that a node becomes below the number `above`, which has the wId `wid`, or right below the root where
-// that is `None`. Nothing is below it yet.
+// The provision that a node becomes below the wId `wid`, or right below the root where that is `None`. Nothing is below
+// it yet, and it is below nothing.
 fn slot_of(
     alloc: Global,
     numbering: Numbering,
-    above: NodeId,
     wid: Option<&str>,
     node: &NodeSpec,
 ) -> Result<Slot, Memory>
     ensures provision { let eid = option_map (λ s. s.now) wid.entry in IfOk result (λ s. provision_of s
         ≡ record { wid = spec.eid_below numbering eid node.now.element node.now.num; own = own_of node.now }) }
     ensures num { IfOk result (λ s. is_num s.num ≡ true) }
-    ensures above { IfOk result (λ s. s.above ≡ above) }
     ensures below { IfOk result (λ s. s.below.items ≡ []) }
 {
     Ok(Slot {
@@ -40,7 +38,7 @@ fn slot_of(
         heading: node.heading.copy()?,
         content: node.content.copy()?,
         refs: node.refs.copy(alloc)?,
-        above,
+        above: NodeId::root(),
         below: Vec::new(alloc),
     })
 }
@@ -56,7 +54,6 @@ fn root_num() -> Num
 fn root_slot(alloc: Global) -> Result<Slot, Memory>
     ensures provision { IfOk result (λ s. provision_of s ≡ root_provision) }
     ensures num { IfOk result (λ s. is_num s.num ≡ true) }
-    ensures above { IfOk result (λ s. s.above ≡ 0) }
     ensures below { IfOk result (λ s. s.below.items ≡ []) }
 {
     Ok(Slot {
@@ -85,36 +82,36 @@ pub fn lay(
 ) -> Result<NodeId, Memory>
     requires below { slot.below.items ≡ [] }
     requires num { is_num slot.num ≡ true }
-    ensures laid { let eid = option_map (λ s. s.now) wid.entry in IfOk result (λ id. IsLaid arena.old arena.new
-        slot.above id (branch (provision_of slot) (all_enacted numbering eid (branches_of children.now)))) }
+    ensures laid { let eid = option_map (λ s. s.now) wid.entry in IfOk result (λ id. IsLaid arena.old arena.new id
+        (branch (provision_of slot) (all_enacted numbering eid (branches_of children.now)))) }
     ensures kept { let eid = option_map (λ s. s.now) wid.entry in OnErr result (HasGrown arena.old arena.new
         (wids (branch (provision_of slot) (all_enacted numbering eid (branches_of children.now))))) }
 {
-    let id = arena.add(alloc, slot)?;
-    let below = lay_all(alloc, arena, numbering, id, wid, children)?;
-    arena.set_below(id, below);
+    let id = arena.add_alone(alloc, slot)?;
+    let below = lay_all(alloc, arena, numbering, wid, children)?;
+    arena.hold(id, below);
     Ok(id)
 }
 
-/// Lays down nodes below the number `above`, which has the wId `wid`. `Err`: there was not enough memory; some of them
+/// Lays down nodes, each right above itself. Their eIds are those below the eId `wid`, or right below the root where that
+/// is `None`. `Err`: there was not enough memory; some of them
 /// may have been laid down behind what the arena had.
 #[cycle(laying)]
 pub fn lay_all(
     alloc: Global,
     arena: &mut Arena,
     numbering: Numbering,
-    above: NodeId,
     wid: Option<&str>,
     nodes: &Nodes,
 ) -> Result<Vec<NodeId>, Memory>
-    ensures laid { IfOk result (λ ids. AreLaid arena.old arena.new above ids.items
+    ensures laid { IfOk result (λ ids. AreLaid arena.old arena.new ids.items
         (all_enacted numbering (option_map (λ s. s.now) wid.entry) (branches_of nodes.now))) }
     ensures kept { OnErr result (HasGrown arena.old arena.new
         (all_wids (all_enacted numbering (option_map (λ s. s.now) wid.entry) (branches_of nodes.now)))) }
 {
     let mut ids = Vec::with_capacity(alloc, nodes.items.len())?;
     for node in &nodes.items {
-        let slot = slot_of(alloc, numbering, above, wid, node)?;
+        let slot = slot_of(alloc, numbering, wid, node)?;
         let name = slot.wid.copy()?;
         let id = lay(
             alloc,

@@ -19,6 +19,7 @@ mod node_sizes;
 mod node_spec;
 mod parting;
 mod refs;
+mod relisting;
 mod restating;
 mod same_nodes;
 mod shared_nodes;

@@ -22,9 +22,8 @@ fn number_behind(numbers: &[NodeId], id: NodeId) -> Option<NodeId>
 
 impl Arena {
     ghost use Rattle.std.specs.Prelude.{◌≡◌, ◌==◌, ◌<◌, ◌++◌, IfOk};
-    ghost use Rattle.std.specs.List.{All};
     ghost use Rattle.act_tree.specs.Arena.{above_in, below_in, provision_in};
-    ghost use Rattle.act_tree.specs.Moved.{CanJoin, IsFilled, IsJoined, IsSettled};
+    ghost use Rattle.act_tree.specs.Moved.{CanJoin, IsFilled, IsJoined};
     ghost use Rattle.act_tree.specs.Slots.{at, own_at, size};
 
     /// The number right behind one among those right below the number above it.
@@ -73,29 +72,16 @@ impl Arena {
         slot.below = below;
     }
 
-    /// Lets each of those right below a number have it right above them. It needs no memory.
-    pub fn settle(&mut self, id: NodeId)
-        requires within { id < size self.old }
-        requires children { All (λ k. k < size self.old) (below_in (at self.old id)) }
-        ensures numbers { self.new.numbers ≡ self.old.numbers }
-        ensures size { size self.new ≡ size self.old }
-        ensures settled { IsSettled (at self.old) (at self.new) id }
-    {
-        for place in 0..self.slots[id.place()].below.len() {
-            let child = self.slots[id.place()].below[place];
-            self.set_above(child, id);
-        }
-    }
-
     /// Takes a number off, and gives another one the content, the refs, and all those right below it.
     pub fn join(&mut self, id: NodeId, next: NodeId, content: Text, refs: Refs, below: Vec<NodeId>)
         requires { CanJoin (at self.old) (size self.old) id next below.items }
         ensures numbers { self.new.numbers ≡ self.old.numbers }
         ensures size { size self.new ≡ size self.old }
-        ensures joined { IsJoined (at self.old) (at self.new) id next
+        ensures joined { IsJoined self.old self.new id next
             (record (own_at self.old id) { content = content; refs = refs }) below.items }
     {
         self.take_off(next);
+        self.take_all(next);
         self.fill(id, content, refs, below);
         self.settle(id);
     }

@@ -32,33 +32,43 @@ fn put_behind(
 
 impl Arena {
     ghost use Rattle.eid_paths.specs.Nums.{is_num};
-    ghost use Rattle.std.specs.Prelude.{ℕ, List, ◌≡◌, ◌<◌, ◌≤◌, ◌+◌, ◌^◌, true, IfOk, OnOk, OnErr, Some, take, drop, length, if◌then◌else◌};
+    ghost use Rattle.std.specs.Prelude.{ℕ, List, [], ◌≡◌, ◌<◌, ◌≤◌, ◌+◌, ◌^◌, true, IfOk, OnOk, OnErr, Some, take, drop, length, if◌then◌else◌};
     ghost use Rattle.std.specs.Str.{bytes_eq};
     ghost use Rattle.act_tree.specs.Arena.{above_in, below_in, provision_in};
     ghost use Rattle.act_tree.specs.Brought as brought;
     ghost use Rattle.act_tree.specs.Moved.{IsFilled};
-    ghost use Rattle.act_tree.specs.Parted.{CanPart, IsAddedBehind, IsParted};
-    ghost use Rattle.act_tree.specs.Slots.{at, number, size, laid_of, provision_of, own_at, LeadsTo};
-    ghost use Rattle.act_tree.specs.TakenOff.{with_below};
+    ghost use Rattle.act_tree.specs.Parted.{CanGive, CanPart, IsGiven, IsParted};
+    ghost use Rattle.act_tree.specs.Slots.{at, number, size, provision_of, own_at};
 
-    /// The second part of a provision, with all but the first so many of its children.
-    pub fn second_part(
+    /// The numbers right below a provision, behind the first so many.
+    pub fn below_behind(
         &self,
         alloc: Global,
         id: NodeId,
         first_child: usize,
+    ) -> Result<Vec<NodeId>, Memory>
+        requires within { id < size self.now }
+        requires place { first_child ≤ length (below_in (at self.now id)) }
+        ensures { IfOk result (λ numbers. numbers.items ≡ drop first_child (below_in (at self.now id))) }
+    {
+        Ok(self.slots[id.place()].below[first_child..].to_vec(alloc)?)
+    }
+
+    /// The second part of a provision, without children.
+    pub fn second_part(
+        &self,
+        alloc: Global,
+        id: NodeId,
         tail: Text,
         num: &Num,
         heading: Text,
         by: Id,
     ) -> Result<Slot, Memory>
         requires within { id < size self.now }
-        requires place { first_child ≤ length (below_in (at self.now id)) }
         ensures provision { IfOk result (λ s. provision_of s
             ≡ brought.second_part by (own_at self.now id).element num.now heading tail) }
         ensures num { IfOk result (λ s. is_num s.num ≡ true) }
-        ensures above { IfOk result (λ s. s.above ≡ above_in (at self.now id)) }
-        ensures below { IfOk result (λ s. s.below.items ≡ drop first_child (below_in (at self.now id))) }
+        ensures below { IfOk result (λ s. s.below.items ≡ []) }
     {
         let slot = &self.slots[id.place()];
         let name = bringer(alloc, by)?;
@@ -69,7 +79,6 @@ impl Arena {
             slot.element,
             num,
         )?;
-        let below = slot.below[first_child..].to_vec(alloc)?;
         Ok(Slot {
             wid,
             element: slot.element,
@@ -77,20 +86,9 @@ impl Arena {
             heading,
             content: tail,
             refs: Refs::new(alloc),
-            above: slot.above,
-            below,
+            above: id,
+            below: Vec::new(alloc),
         })
-    }
-
-    // Sets the numbers right below one.
-    fn relist(&mut self, id: NodeId, below: Vec<NodeId>)
-        requires { id < size self.old }
-        ensures numbers { self.new.numbers ≡ self.old.numbers }
-        ensures size { size self.new ≡ size self.old }
-        ensures here { at self.new id ≡ with_below below.items (at self.old id) }
-        ensures others { (k : ℕ) → (k ≡ id → ⊥) → at self.new k ≡ at self.old k }
-    {
-        self.slots[id.place()].below = below;
     }
 
     // Gives a provision another content, and leaves it the first so many of those right below it.
@@ -106,28 +104,31 @@ impl Arena {
         slot.below.truncate(first_child);
     }
 
-    // Adds a provision right behind another. `Err`: there was not enough memory, and nothing was added.
-    fn add_behind(&mut self, alloc: Global, id: NodeId, slot: Slot) -> Result<NodeId, Memory>
-        requires within { id < size self.old }
-        requires above { above_in (at self.old id) < size self.old }
-        ensures id { IfOk result (λ n. n ≡ size self.old) }
-        ensures added { OnOk result (IsAddedBehind (at self.old) (at self.new) id (size self.old) (laid_of slot)) }
-        ensures numbers { OnOk result (LeadsTo self.old self.new slot.wid (size self.old)) }
-        ensures sizes { OnOk result (size self.new ≡ size self.old + 1) }
-        ensures fits { OnOk result (size self.new ≤ 2 ^ 32) }
-        ensures slots_kept { OnErr result (self.new.slots.items ≡ self.old.slots.items) }
-        ensures numbers_kept { OnErr result ((w : List ℕ) → number self.new w ≡ number self.old w) }
+    // Gives the last of those right below a provision to another one, and that one a place in a list.
+    fn give(
+        &mut self,
+        id: NodeId,
+        first_child: usize,
+        head: Text,
+        other: NodeId,
+        moved: Vec<NodeId>,
+        above: NodeId,
+        list: Vec<NodeId>,
+    )
+        requires { CanGive (at self.old) (size self.old) id first_child other moved.items above }
+        ensures numbers { self.new.numbers ≡ self.old.numbers }
+        ensures size { size self.new ≡ size self.old }
+        ensures given { IsGiven self.old self.new id first_child head other moved.items above list.items }
     {
-        let above = self.slots[id.place()].above;
-        let new = NodeId::of_place(self.slots.len()).ok_or(Memory)?;
-        let list = put_behind(alloc, &self.slots[above.place()].below, id, new)?;
-        let added = self.add(alloc, slot)?;
+        self.release(id, first_child);
+        self.keep_first(id, first_child, head);
+        self.hold(other, moved);
         self.relist(above, list);
-        Ok(added)
+        self.set_above(other, above);
     }
 
     /// Parts a provision: it has another content and the first so many of those right below it, and right behind it
-    /// stands its second part. `Err`: there was not enough memory, and nothing has changed.
+    /// stands its second part with the others. `Err`: there was not enough memory, and nothing has changed.
     pub fn part(
         &mut self,
         alloc: Global,
@@ -135,19 +136,19 @@ impl Arena {
         first_child: usize,
         head: Text,
         second: Slot,
+        moved: Vec<NodeId>,
     ) -> Result<(), Memory>
-        requires { CanPart (at self.old) (size self.old) id second.below.items }
-        ensures parted { OnOk result (IsParted (at self.old) (at self.new) id (size self.old)
-            (record (own_at self.old id) { content = head }) (laid_of second) first_child) }
-        ensures numbers { OnOk result (LeadsTo self.old self.new second.wid (size self.old)) }
-        ensures sizes { OnOk result (size self.new ≡ size self.old + 1) }
-        ensures fits { OnOk result (size self.new ≤ 2 ^ 32) }
+        requires can { CanPart (at self.old) (size self.old) id first_child moved.items }
+        requires bare { second.below.items ≡ [] }
+        ensures parted { OnOk result (IsParted self.old self.new id first_child head (provision_of second) moved.items) }
         ensures slots_kept { OnErr result (self.new.slots.items ≡ self.old.slots.items) }
         ensures numbers_kept { OnErr result ((w : List ℕ) → number self.new w ≡ number self.old w) }
     {
-        let new = self.add_behind(alloc, id, second)?;
-        self.keep_first(id, first_child, head);
-        self.settle(new);
+        let above = self.slots[id.place()].above;
+        let number = NodeId::of_place(self.slots.len()).ok_or(Memory)?;
+        let list = put_behind(alloc, &self.slots[above.place()].below, id, number)?;
+        let other = self.add_alone(alloc, second)?;
+        self.give(id, first_child, head, other, moved, above, list);
         Ok(())
     }
 }

@@ -111,7 +111,6 @@ impl Tree {
     ghost use Rattle.act_tree.specs.Wids.{all_wids, is_among, one_twice};
     ghost use Rattle.act_tree.specs.Seen.{tree_view, has_node, provision_at, children_at, branch_at, below_at, with_body, once_changed, changed_at, removed_at, substituted_at, grafted_at, nums_by_wid, next_at};
     ghost use Rattle.std.specs.Prelude.{◌↔◌, [], ◌∷◌, drop};
-    ghost use Rattle.act_tree.specs.Arena.{above_in};
     ghost use Rattle.act_tree.specs.Changes.{found, root_wid};
 
     /// The tree of an act as enacted: the wId of each provision is the eId that it has there. `Err`: the first fault,
@@ -148,7 +147,7 @@ impl Tree {
     {
         let mut arena = Arena::new(alloc);
         let root = self.root();
-        let _root = lay_again(alloc, &mut arena, self, root, root)?;
+        let _root = lay_again(alloc, &mut arena, self, root)?;
         Ok(Tree {
             numbering: self.numbering,
             changes: self.changes,
@@ -516,8 +515,9 @@ impl Tree {
     {
         steps.tick();
         let arena = &self.arena;
-        let second = arena.second_part(alloc, id, first_child, tail, &num, heading, by)?;
-        self.part(alloc, id, first_child, head, second)?;
+        let second = arena.second_part(alloc, id, tail, &num, heading, by)?;
+        let moved = arena.below_behind(alloc, id, first_child)?;
+        self.part(alloc, id, first_child, head, second, moved)?;
         self.count_change();
         Ok(())
     }
@@ -572,7 +572,7 @@ impl Tree {
         ensures says { (k : ℕ) → provision_at self.new k ≡ provision_at self.old k }
         ensures stay { NodesStay self.old self.new }
     {
-        self.arena.take_all();
+        self.arena.take_all(NodeId::root());
     }
 
     // Gives a provision another content.
@@ -717,11 +717,13 @@ impl Tree {
         first_child: usize,
         head: Text,
         second: Slot,
+        moved: Vec<NodeId>,
     ) -> Result<(), Memory>
         requires node { has_node self.old id ≡ true }
         requires provision { id ≡ 0 → ⊥ }
-        requires above { second.above ≡ above_in (at self.old.arena id) }
-        requires below { second.below.items ≡ drop first_child (children_at self.old id) }
+        requires bare { second.below.items ≡ [] }
+        requires place { first_child ≤ length (children_at self.old id) }
+        requires moved { moved.items ≡ drop first_child (children_at self.old id) }
         requires num { is_num second.num ≡ true }
         requires fresh { is_in second.wid (tree_view self.old).body ≡ false }
         ensures tree { OnOk result (tree_view self.new
@@ -729,6 +731,6 @@ impl Tree {
         ensures kept { OnErr result (tree_view self.new ≡ tree_view self.old) }
         ensures stay { NodesStay self.old self.new }
     {
-        self.arena.part(alloc, id, first_child, head, second)
+        self.arena.part(alloc, id, first_child, head, second, moved)
     }
 }

@@ -9,4 +9,4 @@ abbrev pub decreases-lay_again : goal.decreases-lay_again
 decreases-lay_again l = height (branch_at l.tree.now l.node)
 
 abbrev pub invariant-loop-child : goal.invariant-loop-child
-invariant-loop-child l = AreLaid l.initial.arena l.arena l.id l.below.items (branches_of (map (branch_at l.tree) (take l.child-index l.children)))
+invariant-loop-child l = AreLaid l.initial.arena l.arena l.below.items (branches_of (map (branch_at l.tree) (take l.child-index l.children)))

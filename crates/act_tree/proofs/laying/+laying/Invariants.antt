@@ -8,4 +8,4 @@ use Rattle.act_tree.proofs.laying.+laying.Given as goal
 
 abbrev pub invariant-lay_all-loop-node : goal.invariant-lay_all-loop-node
 invariant-lay_all-loop-node l =
-    AreLaid l.initial.arena l.arena l.above l.ids.items (branches_of (map (enacted l.numbering (option_map (λ s. s.now) l.wid)) (map spec_view (take l.node-index l.node-items))))
+    AreLaid l.initial.arena l.arena l.ids.items (branches_of (map (enacted l.numbering (option_map (λ s. s.now) l.wid)) (map spec_view (take l.node-index l.node-items))))

@@ -6,24 +6,30 @@ use Rattle.act_tree.proofs.TakingAway.{may_be_emptied, left_emptied}
 use Rattle.act_tree.proofs.tree.Tree.clear.Goals as goal
 
 pub take_all-requires-clause-within : goal.take_all-requires-clause-within
-take_all-requires-clause-within c = (may_be_emptied c.args.self.now.arena c.args.self.now.whole).1.0
+take_all-requires-clause-within c = (may_be_emptied c.args.self.now.arena c.root.result c.root.ensures c.args.self.now.whole).0
+
+pub take_all-requires-clause-children : goal.take_all-requires-clause-children
+take_all-requires-clause-children c = (may_be_emptied c.args.self.now.arena c.root.result c.root.ensures c.args.self.now.whole).1.0
 
 pub take_all-requires-clause-apart : goal.take_all-requires-clause-apart
-take_all-requires-clause-apart c = (may_be_emptied c.args.self.now.arena c.args.self.now.whole).1.1
+take_all-requires-clause-apart c = (may_be_emptied c.args.self.now.arena c.root.result c.root.ensures c.args.self.now.whole).1.1
 
 pub invariant_of-self : goal.invariant_of-self
 invariant_of-self c =
-    record { whole = (left_emptied c.args.self.now.arena c.take_all.new.self c.args.self.now.whole c.take_all.ensures.numbers c.take_all.ensures.size c.take_all.ensures.emptied).whole }
+    record {
+      whole = (left_emptied c.args.self.now.arena c.root.result c.root.ensures c.args.self.now.whole c.take_all.new.self c.take_all.ensures.numbers c.take_all.ensures.size c.take_all.ensures.relisted).holds.whole;
+    }
 
 pub returns-clause-tree : goal.returns-clause-tree
 unfolding tree_view provision_at
 returns-clause-tree c =
     ap {B = TreeValue} (λ body. record { numbering = c.args.self.now.numbering; body = body; changes = c.args.self.now.changes })
-    (left_emptied c.args.self.now.arena c.take_all.new.self c.args.self.now.whole c.take_all.ensures.numbers c.take_all.ensures.size c.take_all.ensures.emptied).reads
+    (left_emptied c.args.self.now.arena c.root.result c.root.ensures c.args.self.now.whole c.take_all.new.self c.take_all.ensures.numbers c.take_all.ensures.size c.take_all.ensures.relisted).holds.reads
 
 pub returns-clause-says : goal.returns-clause-says
 unfolding provision_at
-returns-clause-says c = (left_emptied c.args.self.now.arena c.take_all.new.self c.args.self.now.whole c.take_all.ensures.numbers c.take_all.ensures.size c.take_all.ensures.emptied).says
+returns-clause-says c =
+    (left_emptied c.args.self.now.arena c.root.result c.root.ensures c.args.self.now.whole c.take_all.new.self c.take_all.ensures.numbers c.take_all.ensures.size c.take_all.ensures.relisted).says
 
 pub returns-clause-stay : goal.returns-clause-stay
 returns-clause-stay c = nodes_stay c.args.self.now _ (index_stays c.args.self.now.arena c.args.self.now.whole c.take_all.new.self c.take_all.ensures.numbers)

@@ -7,16 +7,23 @@ use Rattle.act_tree.proofs.PartedNodes.{not_brought}
 use Rattle.act_tree.proofs.SlotsOfNodes.{node_within}
 use Rattle.act_tree.proofs.tree.Tree.cut_node.Goals as goal
 
-pub second_part-requires-clause-within : goal.second_part-requires-clause-within
-second_part-requires-clause-within g c = node_within c.args.self.now c.args.id c.requires.node
+pub second_part-requires : goal.second_part-requires
+second_part-requires g c = record { within = node_within c.args.self.now c.args.id c.requires.node }
 
-pub second_part-requires-clause-place : goal.second_part-requires-clause-place
-unfolding children_at
-second_part-requires-clause-place g c = c.requires.place
+pub below_behind-requires-clause-within : goal.below_behind-requires-clause-within
+below_behind-requires-clause-within g c = node_within c.args.self.now c.args.id c.requires.node
 
-pub part-requires-clause-below : goal.part-requires-clause-below
+pub below_behind-requires-clause-place : goal.below_behind-requires-clause-place
 unfolding children_at
-part-requires-clause-below g c = c.in_ok-second.ensures.below
+below_behind-requires-clause-place g c = c.requires.place
+
+pub part-requires-clause-place : goal.part-requires-clause-place
+unfolding children_at
+part-requires-clause-place g c = c.requires.place
+
+pub part-requires-clause-moved : goal.part-requires-clause-moved
+unfolding children_at
+part-requires-clause-moved g c = c.in_ok-moved.ensures
 
 pub part-requires-clause-fresh : goal.part-requires-clause-fresh
 part-requires-clause-fresh g c =
@@ -31,6 +38,9 @@ returns-clause-tree g c =
     c.count_change.ensures.tree
     ∙ ap (λ v. changed_once v v.body) c.in_ok-part.ensures.tree
     ∙ ap (λ p. changed_once old (changed (parted c.args.first_child c.args.head p) wid old.body)) c.in_ok-second.ensures.provision
+
+pub returns-in_err-moved-clause-stay : goal.returns-in_err-moved-clause-stay
+returns-in_err-moved-clause-stay g c = same_stay c.args.self.now
 
 pub returns-in_err-second-clause-stay : goal.returns-in_err-second-clause-stay
 returns-in_err-second-clause-stay g c = same_stay c.args.self.now

@@ -5,7 +5,8 @@ use Rattle.act_tree.specs.Brought.{bringer, brought}
 use Rattle.act_tree.specs.Eids.{all_enacted}
 use Rattle.act_tree.specs.declared.surveying.TheConstants.{NONE_THROUGHOUT}
 use Rattle.act_tree.specs.Arena.{IsWhole}
-use Rattle.act_tree.specs.Grafted.{IsGrafted, IsStopped}
+use Rattle.act_tree.specs.Grafted.{IsGrafted}
+use Rattle.act_tree.specs.Planted.{HasGrown}
 use Rattle.act_tree.specs.Seen.{tree_view, has_node, provision_at, children_at}
 use Rattle.act_tree.specs.Slots.{at, number, size}
 use Rattle.act_tree.specs.Trees.{TreeValue}
@@ -30,7 +31,7 @@ invariant_of-self c =
     let new = c.graft.new.self in
     let name : c.as_str.result.now ≡ bringer c.args.by = c.as_str.ensures ∙ c.in_ok-name.ensures in
     let P : List ℕ → Type 0 = λ n. IsGrafted old new c.args.parent c.args.place (all_enacted NONE_THROUGHOUT (Some n) (branches_of c.args.nodes.now)) in
-    let Q : List ℕ → Type 0 = λ n. IsStopped old new (all_wids (all_enacted NONE_THROUGHOUT (Some n) (branches_of c.args.nodes.now))) in
+    let Q : List ℕ → Type 0 = λ n. HasGrown old new (all_wids (all_enacted NONE_THROUGHOUT (Some n) (branches_of c.args.nodes.now))) in
     let fresh = brought_apart c.args.by (branches_of c.args.nodes.now) (body_of old) c.requires.fresh in
     record {
       whole = either_way c.graft.result _ _ (IsWhole (at new) (number new) (size new))
@@ -86,7 +87,7 @@ returns-clause-kept c =
     let old = c.args.self.now.arena in
     let new = c.graft.new.self in
     let name : c.as_str.result.now ≡ bringer c.args.by = c.as_str.ensures ∙ c.in_ok-name.ensures in
-    let Q : List ℕ → Type 0 = λ n. IsStopped old new (all_wids (all_enacted NONE_THROUGHOUT (Some n) (branches_of c.args.nodes.now))) in
+    let Q : List ℕ → Type 0 = λ n. HasGrown old new (all_wids (all_enacted NONE_THROUGHOUT (Some n) (branches_of c.args.nodes.now))) in
     let fresh = brought_apart c.args.by (branches_of c.args.nodes.now) (body_of old) c.requires.fresh in
     on_err_map c.graft.result _ _
     (λ is. ap {B = TreeValue} (λ body. record { numbering = c.args.self.now.numbering; body = body; changes = c.args.self.now.changes })
@@ -103,7 +104,7 @@ returns-clause-stay c =
     let new = c.graft.new.self in
     let name : c.as_str.result.now ≡ bringer c.args.by = c.as_str.ensures ∙ c.in_ok-name.ensures in
     let P : List ℕ → Type 0 = λ n. IsGrafted old new c.args.parent c.args.place (all_enacted NONE_THROUGHOUT (Some n) (branches_of c.args.nodes.now)) in
-    let Q : List ℕ → Type 0 = λ n. IsStopped old new (all_wids (all_enacted NONE_THROUGHOUT (Some n) (branches_of c.args.nodes.now))) in
+    let Q : List ℕ → Type 0 = λ n. HasGrown old new (all_wids (all_enacted NONE_THROUGHOUT (Some n) (branches_of c.args.nodes.now))) in
     let fresh = brought_apart c.args.by (branches_of c.args.nodes.now) (body_of old) c.requires.fresh in
     nodes_stay c.args.self.now _
     (either_way c.graft.result _ _ (LeadsStill old new)

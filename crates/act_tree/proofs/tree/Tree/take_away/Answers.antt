@@ -24,14 +24,14 @@ unfolding has_node
 invariant_of-self c =
     let left : Left c.args.self.now.arena c.take_off.new.self (provision_in (at c.args.self.now.arena c.args.id)).wid =
     left_removed c.args.self.now.arena c.take_off.new.self c.args.id c.args.self.now.whole c.requires.node c.requires.provision c.take_off.ensures.numbers c.take_off.ensures.size c.take_off.ensures.taken in
-    record { whole = left.whole }
+    record { whole = left.holds.whole }
 
 pub returns-clause-tree : goal.returns-clause-tree
 unfolding has_node tree_view provision_at
 returns-clause-tree c =
     let left : Left c.args.self.now.arena c.take_off.new.self (provision_in (at c.args.self.now.arena c.args.id)).wid =
     left_removed c.args.self.now.arena c.take_off.new.self c.args.id c.args.self.now.whole c.requires.node c.requires.provision c.take_off.ensures.numbers c.take_off.ensures.size c.take_off.ensures.taken in
-    ap {B = TreeValue} (λ body. record { numbering = c.args.self.now.numbering; body = body; changes = c.args.self.now.changes }) left.reads
+    ap {B = TreeValue} (λ body. record { numbering = c.args.self.now.numbering; body = body; changes = c.args.self.now.changes }) left.holds.reads
 
 pub returns-clause-says : goal.returns-clause-says
 unfolding has_node provision_at

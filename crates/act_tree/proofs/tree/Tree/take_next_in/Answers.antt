@@ -1,8 +1,6 @@
 use Rattle.act_tree.proofs.StayingNodes.{nodes_stay, index_stays, same_stay}
-use Rattle.std.proofs.Common.{rules, ◌≡◌, ◌∙◌, sym, ap, true, is_some, Some}
-use Rattle.act_tree.specs.Arena.{above_in, below_in}
+use Rattle.std.proofs.Common.{rules, ◌≡◌, ◌∙◌, sym, ap, true, is_some}
 use Rattle.act_tree.specs.Seen.{has_node, tree_view, provision_at}
-use Rattle.act_tree.specs.Siblings.{number_behind}
 use Rattle.act_tree.specs.Slots.{at, number, size}
 use Rattle.act_tree.specs.Trees.{TreeValue}
 use Rattle.act_tree.proofs.MergedNodes.{root_alone, some_behind, behind_within, may_join, merged_arena}
@@ -38,34 +36,30 @@ unfolding has_node tree_view provision_at
 refs_of_both-requires-clause-next c =
     let arena = c.args.self.now.arena in
     let other : c.args.id ≡ 0 → ⊥ = root_alone (at arena) (number arena) (size arena) c.args.self.now.whole c.args.id c.requires.next in
-    let behind : number_behind c.args.id (below_in (at arena (above_in (at arena c.args.id)))) ≡ Some c.unwrap-next.result = sym c.next.ensures ∙ c.unwrap-next.ensures in
-    behind_within arena c.args.id c.unwrap-next.result c.args.self.now.whole c.requires.node other behind
+    behind_within arena c.args.id c.unwrap-next.result c.args.self.now.whole c.requires.node other (sym c.next.ensures ∙ c.unwrap-next.ensures)
 
 pub below_both-requires-clause-next : goal.below_both-requires-clause-next
 unfolding has_node tree_view provision_at
 below_both-requires-clause-next c =
     let arena = c.args.self.now.arena in
     let other : c.args.id ≡ 0 → ⊥ = root_alone (at arena) (number arena) (size arena) c.args.self.now.whole c.args.id c.requires.next in
-    let behind : number_behind c.args.id (below_in (at arena (above_in (at arena c.args.id)))) ≡ Some c.unwrap-next.result = sym c.next.ensures ∙ c.unwrap-next.ensures in
-    behind_within arena c.args.id c.unwrap-next.result c.args.self.now.whole c.requires.node other behind
+    behind_within arena c.args.id c.unwrap-next.result c.args.self.now.whole c.requires.node other (sym c.next.ensures ∙ c.unwrap-next.ensures)
 
 pub join-requires : goal.join-requires
 unfolding has_node tree_view provision_at
 join-requires c =
     let arena = c.args.self.now.arena in
     let other : c.args.id ≡ 0 → ⊥ = root_alone (at arena) (number arena) (size arena) c.args.self.now.whole c.args.id c.requires.next in
-    let behind : number_behind c.args.id (below_in (at arena (above_in (at arena c.args.id)))) ≡ Some c.unwrap-next.result = sym c.next.ensures ∙ c.unwrap-next.ensures in
-    may_join arena c.args.id c.unwrap-next.result c.in_ok-below.below.items c.args.self.now.whole c.requires.node other behind c.in_ok-below.ensures
+    may_join arena c.args.id c.unwrap-next.result c.args.self.now.whole c.requires.node other (sym c.next.ensures ∙ c.unwrap-next.ensures) c.in_ok-below.below.items c.in_ok-below.ensures
 
 pub invariant_of-self : goal.invariant_of-self
 unfolding has_node tree_view provision_at
 invariant_of-self c =
     let arena = c.args.self.now.arena in
     let other : c.args.id ≡ 0 → ⊥ = root_alone (at arena) (number arena) (size arena) c.args.self.now.whole c.args.id c.requires.next in
-    let behind : number_behind c.args.id (below_in (at arena (above_in (at arena c.args.id)))) ≡ Some c.unwrap-next.result = sym c.next.ensures ∙ c.unwrap-next.ensures in
     record {
-      whole = (merged_arena arena c.join.new.self c.args.id c.unwrap-next.result c.args.content c.in_ok-refs.refs c.in_ok-below.below.items c.args.self.now.whole c.requires.node other behind
-          c.join.ensures.numbers c.join.ensures.size c.in_ok-refs.ensures c.in_ok-below.ensures c.join.ensures.joined).whole;
+      whole = (merged_arena arena c.args.id c.unwrap-next.result c.args.self.now.whole c.requires.node other (sym c.next.ensures ∙ c.unwrap-next.ensures) c.in_ok-below.below.items c.in_ok-below.ensures
+          c.join.new.self c.args.content c.in_ok-refs.refs c.join.ensures.numbers c.join.ensures.size c.in_ok-refs.ensures c.join.ensures.joined).whole;
     }
 
 pub returns-clause-tree : goal.returns-clause-tree
@@ -73,10 +67,9 @@ unfolding has_node tree_view provision_at
 returns-clause-tree c =
     let arena = c.args.self.now.arena in
     let other : c.args.id ≡ 0 → ⊥ = root_alone (at arena) (number arena) (size arena) c.args.self.now.whole c.args.id c.requires.next in
-    let behind : number_behind c.args.id (below_in (at arena (above_in (at arena c.args.id)))) ≡ Some c.unwrap-next.result = sym c.next.ensures ∙ c.unwrap-next.ensures in
     ap {B = TreeValue} (λ body. record { numbering = c.args.self.now.numbering; body = body; changes = c.args.self.now.changes })
-    (merged_arena arena c.join.new.self c.args.id c.unwrap-next.result c.args.content c.in_ok-refs.refs c.in_ok-below.below.items c.args.self.now.whole c.requires.node other behind
-    c.join.ensures.numbers c.join.ensures.size c.in_ok-refs.ensures c.in_ok-below.ensures c.join.ensures.joined).reads
+    (merged_arena arena c.args.id c.unwrap-next.result c.args.self.now.whole c.requires.node other (sym c.next.ensures ∙ c.unwrap-next.ensures) c.in_ok-below.below.items c.in_ok-below.ensures
+    c.join.new.self c.args.content c.in_ok-refs.refs c.join.ensures.numbers c.join.ensures.size c.in_ok-refs.ensures c.join.ensures.joined).reads
 
 pub returns-clause-stay : goal.returns-clause-stay
 returns-clause-stay c = nodes_stay c.args.self.now _ (index_stays c.args.self.now.arena c.args.self.now.whole c.join.new.self c.join.ensures.numbers)
