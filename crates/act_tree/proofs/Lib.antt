@@ -55,3 +55,7 @@ pub mod KeptNumbers
 pub mod LevelsLeft
 pub mod WidsDiffer
 pub mod CopiedTrees
+pub mod LevelIndexLatest
+pub mod LevelIndexLinks
+pub mod LevelIndexMoves
+pub mod LevelIndexWalks

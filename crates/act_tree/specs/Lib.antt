@@ -33,4 +33,5 @@ pub mod Brought
 pub mod SameNodes
 pub mod NodeSizes
 pub mod LevelsOfNodes
+pub mod LevelIndex
 pub mod Limits
