@@ -59,3 +59,4 @@ pub mod LevelIndexLatest
 pub mod LevelIndexLinks
 pub mod LevelIndexMoves
 pub mod LevelIndexWalks
+pub mod HashedLevels

@@ -34,4 +34,5 @@ pub mod SameNodes
 pub mod NodeSizes
 pub mod LevelsOfNodes
 pub mod LevelIndex
+pub mod LevelHashes
 pub mod Limits

@@ -1,10 +1,14 @@
 //! Arena: the provisions of a tree in slots, each with the number of the one above it and the numbers of those below
-//! it, and an index that leads from a wId to a number. Slots are added and never taken away.
+//! it, an index that leads from a wId to a number, and one of the numbers by the hashes of their levels. Slots are added
+//! and never taken away.
 
-ghost use Rattle.std.specs.Prelude.{◌≡◌, ◌==◌, not, filter, ℕ, List, [], ◌∷◌, ◌++◌, ◌<◌, ◌≤◌, ◌^◌, IfOk, OnOk, OnErr, Some, None, length, if◌then◌else◌};
+ghost use Rattle.std.specs.Prelude.{◌≡◌, ◌==◌, not, filter, map, ℕ, List, [], ◌∷◌, ◌++◌, ◌<◌, ◌≤◌, ◌^◌, IfOk, OnOk, OnErr, Some, None, length, if◌then◌else◌};
 ghost use Rattle.std.specs.Str.{bytes_eq};
 ghost use Rattle.indexmap.specs.IndexMap.{get_by};
+ghost use Rattle.act_tree.specs.LevelHashes.{slot_hash};
 
+use crate::level_hash::level_hash;
+use crate::level_index::LevelIndex;
 use crate::{NodeId, Refs};
 use desk_base::{Memory, Text};
 use eid_paths::{Element, Num};
@@ -32,13 +36,16 @@ pub struct Slot {
     pub below: Vec<NodeId>,
 }
 
-/// The provisions of a tree, and the index of their wIds.
+/// The provisions of a tree, and the indexes of their wIds and of their levels.
 #[derive(Debug, Drop)]
 pub struct Arena {
     /// The provision of each number; the first is the root.
     pub slots: Vec<Slot>,
     /// The number of each wId; those of provisions that were taken off stay.
     pub numbers: IndexMap<Vec<u8>, NodeId>,
+    /// The numbers by the hashes of their levels; those of provisions that were taken off stay.
+    pub levels: LevelIndex,
+    ghost hashed: { levels.hashes ≡ map slot_hash slots.items },
 }
 
 /// Lets the index lead from a wId to a number.
@@ -79,10 +86,11 @@ impl Arena {
         Arena {
             slots: Vec::new(alloc),
             numbers: IndexMap::new(alloc),
+            levels: LevelIndex::new(alloc),
         }
     }
 
-    /// Adds a provision, and lets the index lead to it. `Err`: there was not enough memory, and nothing was added.
+    /// Adds a provision, and lets the indexes lead to it. `Err`: there was not enough memory, and nothing was added.
     pub fn add(&mut self, alloc: Global, slot: Slot) -> Result<NodeId, Memory>
         ensures id { IfOk result (λ id. id ≡ length self.old.slots.items) }
         ensures slots { OnOk result (self.new.slots.items ≡ self.old.slots.items ++ slot ∷ []) }
@@ -93,8 +101,10 @@ impl Arena {
     {
         let id = NodeId::of_place(self.slots.len()).ok_or(Memory)?;
         self.slots.reserve(1)?;
+        self.levels.reserve()?;
         note(alloc, &mut self.numbers, slot.wid.as_str(), id)?;
-        self.slots.push(slot)?;
+        self.levels.add(level_hash(slot.element, &slot.num));
+        self.slots.push_reserved(slot);
         Ok(id)
     }
 
@@ -146,6 +156,7 @@ impl Arena {
     }
 
     /// Sets the number right above one.
+    #[tactic(auto, using(crate::proofs::HashedLevels::still_hashed))]
     pub fn set_above(&mut self, id: NodeId, above: NodeId)
         requires { id < size self.old }
         ensures numbers { self.new.numbers ≡ self.old.numbers }
@@ -157,6 +168,7 @@ impl Arena {
     }
 
     // Takes a number out of the list of those right below another.
+    #[tactic(auto, using(crate::proofs::HashedLevels::still_hashed))]
     fn unlist(&mut self, above: NodeId, id: NodeId)
         requires { above < size self.old }
         ensures numbers { self.new.numbers ≡ self.old.numbers }

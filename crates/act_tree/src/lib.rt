@@ -11,6 +11,7 @@ mod eids;
 mod grafting;
 pub mod laws;
 mod laying;
+mod level_hash;
 mod level_index;
 mod levels;
 mod limits;

@@ -59,6 +59,7 @@ impl Arena {
     }
 
     // Gives a provision another content and refs, and sets the numbers right below it.
+    #[tactic(auto, using(crate::proofs::HashedLevels::still_hashed))]
     fn fill(&mut self, id: NodeId, content: Text, refs: Refs, below: Vec<NodeId>)
         requires { id < size self.old }
         ensures numbers { self.new.numbers ≡ self.old.numbers }

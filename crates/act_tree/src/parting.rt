@@ -92,6 +92,7 @@ impl Arena {
     }
 
     // Gives a provision another content, and leaves it the first so many of those right below it.
+    #[tactic(auto, using(crate::proofs::HashedLevels::still_hashed))]
     fn keep_first(&mut self, id: NodeId, first_child: usize, content: Text)
         requires { id < size self.old }
         ensures numbers { self.new.numbers ≡ self.old.numbers }

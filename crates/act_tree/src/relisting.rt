@@ -54,6 +54,7 @@ impl Arena {
     }
 
     /// Sets the numbers right below one.
+    #[tactic(auto, using(crate::proofs::HashedLevels::still_hashed))]
     pub fn relist(&mut self, id: NodeId, below: Vec<NodeId>)
         requires { id < size self.old }
         ensures numbers { self.new.numbers ≡ self.old.numbers }
@@ -91,6 +92,7 @@ impl Arena {
     }
 
     // Leaves a number none of those right below it.
+    #[tactic(auto, using(crate::proofs::HashedLevels::still_hashed))]
     fn empty(&mut self, id: NodeId)
         requires { id < size self.old }
         ensures numbers { self.new.numbers ≡ self.old.numbers }

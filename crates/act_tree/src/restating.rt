@@ -2,6 +2,7 @@
 
 use crate::NodeId;
 use crate::arena::Arena;
+use crate::level_hash::level_hash;
 use desk_base::Text;
 use eid_paths::Num;
 
@@ -12,6 +13,7 @@ impl Arena {
     ghost use Rattle.act_tree.specs.Slots.{at, own_at, size};
 
     /// Gives a provision another content.
+    #[tactic(auto, using(crate::proofs::HashedLevels::still_hashed))]
     pub fn set_content(&mut self, id: NodeId, content: Text)
         requires { id < size self.old }
         ensures numbers { self.new.numbers ≡ self.old.numbers }
@@ -22,13 +24,16 @@ impl Arena {
         self.slots[id.place()].content = content;
     }
 
-    /// Gives a provision another num.
+    /// Gives a provision another num. The index of levels is told; it needs no memory.
+    #[tactic(auto, using(crate::proofs::HashedLevels::rehashed))]
     pub fn set_num(&mut self, id: NodeId, num: Num)
         requires { id < size self.old }
         ensures numbers { self.new.numbers ≡ self.old.numbers }
         ensures size { size self.new ≡ size self.old }
         ensures restated { IsRestated (at self.old) (at self.new) id (record (own_at self.old id) { num = num }) }
     {
-        self.slots[id.place()].num = num;
+        let slot = &mut self.slots[id.place()];
+        self.levels.set(id.place(), level_hash(slot.element, &num));
+        slot.num = num;
     }
 }
