@@ -60,3 +60,5 @@ pub mod LevelIndexLinks
 pub mod LevelIndexMoves
 pub mod LevelIndexWalks
 pub mod HashedLevels
+pub mod SoughtLevels
+pub mod LevelsVisited

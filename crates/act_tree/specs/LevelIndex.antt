@@ -1,5 +1,5 @@
 -- Numbers in buckets: the bucket of each by its hash, and which of the first numbers is the latest of a bucket.
-use Rattle.std.specs.Prelude.{◌≡◌, ℕ, zero, suc, ◌+◌, ◌%◌, ◌<◌, ◌≤◌, ◌^◌, ◌==◌, ◌||◌, Bool, false, List, length, map, slice_index, slice_set, Option, Some, None, if◌then◌else◌}
+use Rattle.std.specs.Prelude.{◌≡◌, ℕ, zero, suc, ◌+◌, ◌-◌, ◌%◌, ◌<◌, ◌≤◌, ◌^◌, ◌==◌, List, length, map, slice_index, slice_set, Option, Some, None, if◌then◌else◌}
 
 -- what a clause sees of an index: the hash of each number, how many buckets there are, and for how many more numbers
 -- there is room
@@ -30,6 +30,11 @@ last_in index hash =
 abbrev pub previous_in : IndexValue → ℕ → ℕ
 previous_in index number =
     latest (buckets index.width index.hashes) number (slice_index (buckets index.width index.hashes) number)
+
+-- the last of the first so many numbers, if there is one, shares the bucket of a hash
+abbrev pub EndsIn : IndexValue → ℕ → ℕ → Type 0
+EndsIn index hash end =
+    0 < end → slice_index (buckets index.width index.hashes) (end - 1) ≡ bucket_of index.width hash
 
 -- Heads and links of the first n numbers. The head of a bucket is its latest number, and the link of a number is the
 -- latest before it in its bucket, where it is in one of them.
@@ -77,8 +82,3 @@ links_moved heads before number from out to into =
     slice_set (links_led into (links_led out before (slice_index before number)) (number + 1)) number
     (led_by into (heads_led out heads from (slice_index before number))
     (links_led out before (slice_index before number)) to)
-
--- one of the first n numbers passes a test
-abbrev pub any_below : (ℕ → Bool) → ℕ → Bool
-any_below test zero = false
-any_below test (suc n) = any_below test n || test n

@@ -1,5 +1,5 @@
 -- The levels of nodes: of those that stand side by side, and of those that begin an eId.
-use Rattle.std.specs.Prelude.{ℕ, zero, suc, ◌==◌, ◌||◌, ◌&&◌, Bool, false, not, List, map, Option}
+use Rattle.std.specs.Prelude.{ℕ, zero, suc, ◌==◌, ◌||◌, ◌&&◌, Bool, false, not, List, map, Option, Some, None, if◌then◌else◌}
 use Rattle.std.specs.Str.{bytes_eq}
 use Rattle.eid_paths.specs.declared.numbering.Numbering.{Numbering}
 use Rattle.act_tree.specs.declared.tree.Tree.{Tree}
@@ -11,6 +11,12 @@ use Rattle.act_tree.specs.Seen.{tree_view, branch_at}
 -- the levels that begin no eId, of nodes that are no children of the root
 abbrev pub levels_at : Tree → List ℕ → List (List ℕ)
 levels_at t ids = levels_on (tree_view t).numbering (branches_of (map (branch_at t) ids))
+
+-- the last of the first so many numbers whose provision has this level, if one has
+abbrev pub latest_at : (ℕ → Option Laid) → List ℕ → ℕ → Option ℕ
+latest_at at level zero = None
+latest_at at level (suc i) =
+    if bytes_eq level (own_level (provision_in (at i)).own) then Some i else latest_at at level i
 
 -- the number is that of a provision of the text that begins an eId by this level
 abbrev pub begins_by : Numbering → (ℕ → Option Laid) → ℕ → List ℕ → ℕ → Bool
@@ -24,12 +30,16 @@ begins_before numbering at size level zero = false
 begins_before numbering at size level (suc i) =
     begins_before numbering at size level i || begins_by numbering at size level i
 
--- the number is that of a provision that begins an eId by this level in the text that is left without another number
--- and all beneath it
+-- the number is that of a provision that begins an eId in the text that is left without another number and all beneath
+-- it
+abbrev pub begins_one : Numbering → (ℕ → Option Laid) → ℕ → ℕ → ℕ → Bool
+begins_one numbering at size gone i =
+    begins numbering (above_in (at i) == 0) (provision_in (at i)).own && (not (i == 0) && climbs_past size at gone i)
+
+-- it begins it by this level
 abbrev pub begins_past : Numbering → (ℕ → Option Laid) → ℕ → ℕ → List ℕ → ℕ → Bool
 begins_past numbering at size gone level i =
-    bytes_eq level (own_level (provision_in (at i)).own)
-    && (begins numbering (above_in (at i) == 0) (provision_in (at i)).own && (not (i == 0) && climbs_past size at gone i))
+    bytes_eq level (own_level (provision_in (at i)).own) && begins_one numbering at size gone i
 
 -- one of the first so many numbers is
 abbrev pub some_past : Numbering → (ℕ → Option Laid) → ℕ → ℕ → List ℕ → ℕ → Bool

@@ -53,8 +53,8 @@ pub fn are_alike(alloc: Global, tree: &Tree, ids: &[NodeId]) -> Result<bool, Mem
     Ok(false)
 }
 
-// Whether a provision has this level. (The copies carry the rule of nums, by which equal levels have equal parts.)
-fn is_level(slot: &Slot, element: Element, num: &Num) -> bool
+/// Whether a provision has this level. (The copies carry the rule of nums, by which equal levels have equal parts.)
+pub fn is_level(slot: &Slot, element: Element, num: &Num) -> bool
     ensures { result ≡ bytes_eq (level_text element num.now) (own_level (provision_of slot.now).own) }
 {
     let own = slot.num.copy();
@@ -92,35 +92,23 @@ pub fn goes_on(tree: &Tree, element: Element, num: &Num, ids: &[NodeId]) -> bool
 
 impl Arena {
     ghost use Rattle.std.specs.Prelude.{ℕ, ◌<◌, ◌≤◌, ◌^◌};
-    ghost use Rattle.act_tree.specs.LevelsOfNodes.{begins_before, begins_past, some_past};
+    ghost use Rattle.act_tree.specs.LevelsOfNodes.{begins_before, begins_one, some_past};
     ghost use Rattle.act_tree.specs.Slots.{at, size};
 
-    // Whether a number is that of a provision that begins an eId by this level in the text that is left without another
-    // number and all beneath it.
-    fn begins_at(
-        &self,
-        numbering: Numbering,
-        gone: NodeId,
-        element: Element,
-        num: &Num,
-        place: usize,
-    ) -> bool
-        requires within { place < size self.now }
-        requires fits { size self.now ≤ 2 ^ 32 }
-        ensures { result ≡ begins_past numbering (at self.now) (size self.now) gone (level_text element num.now) place }
+    // Whether a number is that of a provision that begins an eId in the text that is left without another number and all
+    // beneath it.
+    fn begins_one(&self, numbering: Numbering, gone: NodeId, id: NodeId) -> bool
+        requires { id < size self.now }
+        ensures { result ≡ begins_one numbering (at self.now) (size self.now) gone id }
     {
-        let slot = &self.slots[place];
-        if !is_level(slot, element, num) {
-            return false;
-        }
+        let slot = &self.slots[id.place()];
         let begins = slot.above.place() == 0 || numbering.has(slot.element);
-        let id = NodeId::of_place(place).unwrap();
-        begins && place != 0 && self.climbs_past(gone, id)
+        begins && id.place() != 0 && self.climbs_past(gone, id)
     }
 
     /// Whether a provision begins an eId by this level in the text that is left without a number and all beneath it; in
-    /// the whole text where that is the root. What is laid down is searched from the first number to the last, and the
-    /// way up is gone only from a provision of the level.
+    /// the whole text where that is the root. The provisions of the level are visited from the last that was laid down to
+    /// the first, and the way up is gone from those that may begin one.
     pub fn begins_without(
         &self,
         numbering: Numbering,
@@ -132,10 +120,12 @@ impl Arena {
         ensures { result ≡ some_past numbering (at self.now) (size self.now) gone (level_text element num.now)
             (size self.now) }
     {
-        for place in 0..self.slots.len() {
-            if self.begins_at(numbering, gone, element, num, place) {
+        let mut next = self.last_of_level(element, num);
+        while let Some(id) = next {
+            if self.begins_one(numbering, gone, id) {
                 return true;
             }
+            next = self.level_before(element, num, id);
         }
         false
     }

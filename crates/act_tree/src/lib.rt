@@ -24,6 +24,7 @@ mod refs;
 mod relisting;
 mod restating;
 mod same_nodes;
+mod seeking;
 mod shared_nodes;
 mod survey;
 mod surveying;

@@ -1,0 +1,74 @@
+-- Seeking a level through the bucket of its hash passes over no provision that has it.
+use Rattle.std.proofs.Common.{◌≡◌, ◌∙◌, sym, ap, refl, subst, ℕ, zero, suc, ◌-◌, ◌<◌, ◌≤◌, Bool, true, false, cond, List, length, get_or, Option, Some, None, IfSome, is_some, inl, inr, arith}
+use Rattle.std.specs.Str.{bytes_eq}
+use Rattle.std.proofs.lemmas.Bool.{cases_eq, cond-true, cond-false, false_from_ne_true}
+use Rattle.std.proofs.lemmas.List.{length-map}
+use Rattle.act_tree.specs.declared.arena.Arena.{Arena}
+use Rattle.act_tree.specs.declared.arena.Slot.{Slot}
+use Rattle.act_tree.specs.Arena.{provision_in}
+use Rattle.act_tree.specs.EidLevels.{own_level}
+use Rattle.act_tree.specs.LevelHashes.{level_hash, slot_hash}
+use Rattle.act_tree.specs.LevelIndex.{EndsIn, bucket_of, buckets, latest}
+use Rattle.act_tree.specs.LevelsOfNodes.{latest_at}
+use Rattle.act_tree.specs.Slots.{at, size, provision_of}
+use Rattle.act_tree.proofs.HashedLevels.{hash_at}
+use Rattle.act_tree.proofs.LaidDown.{laid_slot}
+use Rattle.act_tree.proofs.LevelIndexLatest.{latest_none, latest_here, latest_on}
+use Rattle.act_tree.proofs.LevelIndexMoves.{bucket_at}
+use Rattle.act_tree.proofs.Texts.{same_text}
+
+-- an option that has a value, which is known
+pub some_is : (o : Option ℕ) (k : ℕ) → is_some o ≡ true → IfSome o (λ i. i ≡ k) → o ≡ Some k
+some_is None k some is = absurd cc
+some_is (Some i) k some is = ap (λ (j : ℕ). Some j) is
+
+-- the index has as many hashes as there are slots
+pub as_many_hashes : (a : Arena) → length a.levels.hashes ≡ size a
+as_many_hashes a = ap length a.hashed ∙ length-map a.slots.items slot_hash
+
+module _ (a : Arena) (level : List ℕ) where
+  abbrev pub has : ℕ → Bool
+  has k = bytes_eq level (own_level (provision_in (at a k)).own)
+
+  abbrev places : List ℕ
+  places = buckets a.levels.width a.levels.hashes
+
+  abbrev bucket : ℕ
+  bucket = bucket_of a.levels.width (level_hash level)
+
+  -- what a slot says is said of its number
+  pub said : (k : ℕ) (s : Slot) (told : Bool) → k < size a → s ≡ get_or a.slots.items k s → told ≡ bytes_eq level (own_level (provision_of s).own) → has k ≡ told
+  said k s told low it is = ap (λ o. bytes_eq level (own_level (provision_in o).own)) (laid_slot a.slots.items k s low it) ∙ sym is
+
+  -- a provision of the level shares its bucket
+  pub shares : (k : ℕ) → k < size a → has k ≡ true → get_or places k 0 ≡ bucket
+  shares k low it =
+      bucket_at a.levels.width a.levels.hashes k (omega (arith, as_many_hashes a))
+      ∙ ap (bucket_of a.levels.width) (ap (λ (hs : List ℕ). get_or hs k 0) a.hashed ∙ hash_at a.slots.items k low ∙ ap level_hash (sym (same_text level (own_level (provision_in (at a k)).own) it)))
+
+  -- the last one that has the level, or none has it
+  pub latest_is : (k : ℕ) → has k ≡ true → latest_at (at a) level (suc k) ≡ Some k
+  latest_is k it = cond-true (has k) (Some k) (latest_at (at a) level k) it
+
+  pub latest_passes : (k : ℕ) → has k ≡ false → latest_at (at a) level (suc k) ≡ latest_at (at a) level k
+  latest_passes k other = cond-false (has k) (Some k) (latest_at (at a) level k) other
+
+  -- none has it from the last one of the bucket on
+  pub latest_in : (n : ℕ) → n ≤ size a → latest_at (at a) level n ≡ latest_at (at a) level (latest places n bucket)
+  latest_in zero low = ap (latest_at (at a) level) (sym (latest_none places bucket))
+  latest_in (suc n) low = elim (cases_eq (get_or places n 0) bucket) [
+    | inl here ↦ ap (latest_at (at a) level) (sym (latest_here places n bucket here))
+    | inr other ↦
+        latest_passes n (false_from_ne_true (has n) (λ it. other (shares n (omega arith) it))) ∙ latest_in n (omega arith)
+        ∙ ap (latest_at (at a) level) (sym (latest_on places n bucket other))
+  ]
+
+  -- one step: the last of the first ones has the level, or is passed
+  pub step_ends : (end : ℕ) → 0 < end → has (end - 1) ≡ true → latest_at (at a) level end ≡ Some (end - 1)
+  step_ends end some it = (let more : end ≡ suc (end - 1) = omega arith in ap (latest_at (at a) level) more ∙ latest_is (end - 1) it)
+
+  pub step_on : (end next : ℕ) → 0 < end → end ≤ size a → has (end - 1) ≡ false → EndsIn a.levels (level_hash level) end → next ≡ latest places (end - 1) (get_or places (end - 1) 0)
+      → latest_at (at a) level next ≡ latest_at (at a) level end
+  step_on end next some low other here is =
+      let more : end ≡ suc (end - 1) = omega arith in
+      ap (latest_at (at a) level) (is ∙ ap (latest places (end - 1)) (here some)) ∙ sym (latest_in (end - 1) (omega arith)) ∙ sym (latest_passes (end - 1) other) ∙ sym (ap (latest_at (at a) level) more)
