@@ -32,7 +32,7 @@ own_at arena i = (provision_in (at arena i)).own
 
 -- the number to which an arena's index leads from a wId
 abbrev pub number : Arena → List ℕ → Option ℕ
-number arena wid = get_by (λ k. bytes_eq wid k.items) arena.numbers
+number arena wid = get_by (bytes_eq wid) arena.numbers
 
 -- how many slots an arena has
 abbrev pub size : Arena → ℕ

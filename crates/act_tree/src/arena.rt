@@ -42,25 +42,19 @@ pub struct Arena {
     /// The provision of each number; the first is the root.
     pub slots: Vec<Slot>,
     /// The number of each wId; those of provisions that were taken off stay.
-    pub numbers: IndexMap<Vec<u8>, NodeId>,
+    pub numbers: IndexMap<Text, NodeId>,
     /// The numbers by the hashes of their levels; those of provisions that were taken off stay.
     pub levels: LevelIndex,
     ghost hashed: { levels.hashes ≡ map slot_hash slots.items },
 }
 
-/// Lets the index lead from a wId to a number.
-pub fn note(
-    alloc: Global,
-    numbers: &mut IndexMap<Vec<u8>, NodeId>,
-    wid: &str,
-    id: NodeId,
-) -> Result<(), Memory>
-    ensures noted { OnOk result ((w : List ℕ) → get_by (λ k. bytes_eq w k.items) numbers.new
-        ≡ (if bytes_eq wid.now w then Some id else get_by (λ k. bytes_eq w k.items) numbers.old)) }
-    ensures kept { OnErr result ((w : List ℕ)
-        → get_by (λ k. bytes_eq w k.items) numbers.new ≡ get_by (λ k. bytes_eq w k.items) numbers.old) }
+/// Lets the index lead from a wId to a number. The index shares the text of the wId.
+pub fn note(numbers: &mut IndexMap<Text, NodeId>, wid: &Text, id: NodeId) -> Result<(), Memory>
+    ensures noted { OnOk result ((w : List ℕ) → get_by (bytes_eq w) numbers.new
+        ≡ (if bytes_eq wid.now w then Some id else get_by (bytes_eq w) numbers.old)) }
+    ensures kept { OnErr result ((w : List ℕ) → get_by (bytes_eq w) numbers.new ≡ get_by (bytes_eq w) numbers.old) }
 {
-    numbers.insert(wid.as_bytes().to_vec(alloc)?, id)?;
+    numbers.insert(wid.copy()?, id)?;
     Ok(())
 }
 
@@ -91,7 +85,7 @@ impl Arena {
     }
 
     /// Adds a provision, and lets the indexes lead to it. `Err`: there was not enough memory, and nothing was added.
-    pub fn add(&mut self, alloc: Global, slot: Slot) -> Result<NodeId, Memory>
+    pub fn add(&mut self, slot: Slot) -> Result<NodeId, Memory>
         ensures id { IfOk result (λ id. id ≡ length self.old.slots.items) }
         ensures slots { OnOk result (self.new.slots.items ≡ self.old.slots.items ++ slot ∷ []) }
         ensures numbers { OnOk result (LeadsTo self.old self.new slot.wid (length self.old.slots.items)) }
@@ -102,7 +96,7 @@ impl Arena {
         let id = NodeId::of_place(self.slots.len()).ok_or(Memory)?;
         self.slots.reserve(1)?;
         self.levels.reserve()?;
-        note(alloc, &mut self.numbers, slot.wid.as_str(), id)?;
+        note(&mut self.numbers, &slot.wid, id)?;
         self.levels.add(level_hash(slot.element, &slot.num));
         self.slots.push_reserved(slot);
         Ok(id)
@@ -110,14 +104,14 @@ impl Arena {
 
     /// Adds a provision that is right above itself, with nothing below it, and lets the index lead to it. `Err`: there was
     /// not enough memory, and nothing was added.
-    pub fn add_alone(&mut self, alloc: Global, slot: Slot) -> Result<NodeId, Memory>
+    pub fn add_alone(&mut self, slot: Slot) -> Result<NodeId, Memory>
         requires { slot.below.items ≡ [] }
         ensures id { IfOk result (λ id. id ≡ size self.old) }
         ensures added { OnOk result (IsAdded self.old self.new (provision_of slot)) }
         ensures slots_kept { OnErr result (self.new.slots.items ≡ self.old.slots.items) }
         ensures numbers_kept { OnErr result ((w : List ℕ) → number self.new w ≡ number self.old w) }
     {
-        let id = self.add(alloc, slot)?;
+        let id = self.add(slot)?;
         self.set_above(id, id);
         Ok(id)
     }

@@ -43,7 +43,7 @@ pub fn lay_again(
     ensures { IfOk result (λ id. IsLaid arena.old arena.new id (branch_at tree.now node)) }
 {
     let slot = tree.slot(node).alone(alloc)?;
-    let id = arena.add_alone(alloc, slot)?;
+    let id = arena.add_alone(slot)?;
     let children = tree.children(node);
     let mut below = Vec::with_capacity(alloc, children.len())?;
     for child in children {

@@ -87,7 +87,7 @@ pub fn lay(
     ensures kept { let eid = option_map (λ s. s.now) wid.entry in OnErr result (HasGrown arena.old arena.new
         (wids (branch (provision_of slot) (all_enacted numbering eid (branches_of children.now))))) }
 {
-    let id = arena.add_alone(alloc, slot)?;
+    let id = arena.add_alone(slot)?;
     let below = lay_all(alloc, arena, numbering, wid, children)?;
     arena.hold(id, below);
     Ok(id)

@@ -30,6 +30,7 @@ mod survey;
 mod surveying;
 mod tree;
 mod walks;
+mod wid_bytes;
 
 pub use build_fault::{BuildFail, BuildFault};
 pub use cause::Cause;

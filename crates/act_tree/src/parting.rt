@@ -148,7 +148,7 @@ impl Arena {
         let above = self.slots[id.place()].above;
         let number = NodeId::of_place(self.slots.len()).ok_or(Memory)?;
         let list = put_behind(alloc, &self.slots[above.place()].below, id, number)?;
-        let other = self.add_alone(alloc, second)?;
+        let other = self.add_alone(second)?;
         self.give(id, first_child, head, other, moved, above, list);
         Ok(())
     }

@@ -16,6 +16,7 @@ use crate::levels::{are_alike, goes_on};
 use crate::survey::Survey;
 use crate::surveying::fault_of;
 use crate::walks::{count, find_eid, survey};
+use crate::wid_bytes::WidBytes;
 use crate::{BuildFail, BuildFault, Cause, NONE_THROUGHOUT, NodeId, Nodes, Refs};
 use desk_base::{Id, Memory, Steps, Text};
 use eid_paths::{Element, Level, Num, Numbering};
@@ -182,7 +183,7 @@ impl Tree {
         ensures branch { IfSome result (λ id. (id ≡ 0 → ⊥)
             → found wid.now (tree_view self.now).body ≡ Some (branch_at self.now id)) }
     {
-        let id = *self.arena.numbers.get(wid)?;
+        let id = *self.arena.numbers.get(WidBytes { bytes: wid })?;
         if self.arena.climbs(id) {
             Some(id)
         } else {
