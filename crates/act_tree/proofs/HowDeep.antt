@@ -9,7 +9,7 @@ use Rattle.act_tree.specs.Branches.{Branch, Branches, branch, no_branches, more_
 use Rattle.act_tree.specs.Changes.{holds, any_holds, root_wid}
 use Rattle.act_tree.specs.Depths.{depth_in, depth_of, steps_up}
 use Rattle.act_tree.specs.Provisions.{Provision}
-use Rattle.act_tree.specs.Seen.{tree_view, has_node, provision_at}
+use Rattle.act_tree.specs.Seen.{tree_view, has_node, provision_at, parent_at}
 use Rattle.act_tree.specs.Slots.{at, number, size}
 use Rattle.act_tree.proofs.EidsDiffer.{Lower, LowerAll, lower_below, lower_first, lower_rest, body_lower, not_root}
 use Rattle.act_tree.proofs.Finding.{leads_to_root}
@@ -102,3 +102,10 @@ depth_is t i node =
           let zero_is : i ≡ 0 = (leads_to_root (at t.arena) (number t.arena) (size t.arena) t.whole w i leads).1 (same_text w root_wid root) in
           none_deep w body none ∙ sym (steps_root (size t.arena) (at t.arena) i (eq-eqb i 0 zero_is))
     ]
+
+-- a node that is not the root is one deeper than the node above it
+pub deeper : (t : Tree) (i : ℕ) → has_node t i ≡ true → (i ≡ 0 → ⊥) → has_node t (parent_at t i) ≡ true
+    → depth_of (provision_at t i).wid (tree_view t).body ≡ depth_of (provision_at t (parent_at t i)).wid (tree_view t).body + 1
+unfolding has_node parent_at
+deeper t i node other over =
+    depth_is t i node ∙ step_up (size t.arena) (at t.arena) i node other ∙ ap (λ k. k + 1) (sym (depth_is t (above_in (at t.arena i)) over))

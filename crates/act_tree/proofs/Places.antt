@@ -6,7 +6,7 @@ use Rattle.std.proofs.lemmas.Bool.{cases_Bool, eq-eqb, eqb-true}
 use Rattle.act_tree.specs.declared.arena.Slot.{Slot}
 use Rattle.act_tree.specs.declared.arena.Arena.{Arena}
 use Rattle.act_tree.specs.declared.tree.Tree.{Tree}
-use Rattle.act_tree.specs.Seen.{tree_view, has_node, provision_at, children_at}
+use Rattle.act_tree.specs.Seen.{tree_view, has_node, provision_at, children_at, parent_at}
 use Rattle.act_tree.specs.Branches.{Branch, Branches, branch, no_branches, more_branches, heights}
 use Rattle.act_tree.specs.Provisions.{Provision}
 use Rattle.act_tree.specs.Changes.{Step, before, after, changed, joined, put_in, grafted}
@@ -87,46 +87,48 @@ placed a i whole climbed other start step new puts =
     ∙ ap (λ bs. renewed_in it.over.own bs it.over.wid root) new_list
     ∙ sym (step_there (at a) (number a) i it m step root 0 0 whole.stands))
 
--- the number above a node that is not the root, as its slot says, is a node
-pub parent_climbs : (t : Tree) (i j : ℕ) → has_node t i ≡ true → (i ≡ 0 → ⊥) → j ≡ above_in (at t.arena i) → has_node t j ≡ true
-unfolding has_node
+-- the number above a node that is not the root is a node
+pub parent_climbs : (t : Tree) (i j : ℕ) → has_node t i ≡ true → (i ≡ 0 → ⊥) → j ≡ parent_at t i → has_node t j ≡ true
+unfolding has_node parent_at
 parent_climbs t i j node other up =
     let low : heights (body_of t.arena) < size t.arena = t.whole.low in
     ap (climbs (size t.arena) (at t.arena)) up ∙ (above_climbs (at t.arena) (size t.arena) i node other (omega arith)).1
 
-pub slot_above : (t : Tree) (i j : ℕ) (s : Slot) → has_node t i ≡ true → j ≡ i → s ≡ get_or t.arena.slots.items j s → s.above ≡ above_in (at t.arena i)
-slot_above t i j s node place it = sym (ap above_in (node_slot t i j s node place it))
+-- it is what the slot of the node says
+pub parent_is : (t : Tree) (i j : ℕ) (s : Slot) → has_node t i ≡ true → j ≡ i → s ≡ get_or t.arena.slots.items j s → s.above ≡ parent_at t i
+unfolding parent_at
+parent_is t i j s node place it = sym (ap above_in (node_slot t i j s node place it))
 
 -- a node is listed below the one above it
-listed_there : (t : Tree) (i j : ℕ) (ks : List ℕ) → has_node t i ≡ true → (i ≡ 0 → ⊥) → j ≡ above_in (at t.arena i) → ks ≡ children_at t j → list_any (λ l. l == i) ks ≡ true
-unfolding has_node children_at
+listed_there : (t : Tree) (i j : ℕ) (ks : List ℕ) → has_node t i ≡ true → (i ≡ 0 → ⊥) → j ≡ parent_at t i → ks ≡ children_at t j → list_any (λ l. l == i) ks ≡ true
+unfolding has_node children_at parent_at
 listed_there t i j ks node other up kids =
     let low : heights (body_of t.arena) < size t.arena = t.whole.low in
     ap (list_any (λ l. l == i)) (kids ∙ ap (λ l. below_in (at t.arena l)) up)
     ∙ listed_above (at t.arena) i (at t.arena i) (above_climbs (at t.arena) (size t.arena) i node other (omega arith)).0 (t.whole.hung i)
 
-pub place_within : (t : Tree) (i j n : ℕ) (ks : List ℕ) → has_node t i ≡ true → (i ≡ 0 → ⊥) → j ≡ above_in (at t.arena i) → ks ≡ children_at t j → n ≡ place_from 0 i ks → n < length (children_at t j)
+pub place_within : (t : Tree) (i j n : ℕ) (ks : List ℕ) → has_node t i ≡ true → (i ≡ 0 → ⊥) → j ≡ parent_at t i → ks ≡ children_at t j → n ≡ place_from 0 i ks → n < length (children_at t j)
 place_within t i j n ks node other up kids is =
     let within : place_from 0 i ks < length ks = place_low i ks (listed_there t i j ks node other up kids) in
     let same : length ks ≡ length (children_at t j) = ap length kids in
     omega arith
 
 -- and stands there at its place
-pub placed_child : (t : Tree) (i j n : ℕ) (ks : List ℕ) → has_node t i ≡ true → (i ≡ 0 → ⊥) → j ≡ above_in (at t.arena i) → ks ≡ children_at t j → n ≡ place_from 0 i ks → slice_get (children_at t j) n ≡ Some i
+pub placed_child : (t : Tree) (i j n : ℕ) (ks : List ℕ) → has_node t i ≡ true → (i ≡ 0 → ⊥) → j ≡ parent_at t i → ks ≡ children_at t j → n ≡ place_from 0 i ks → slice_get (children_at t j) n ≡ Some i
 placed_child t i j n ks node other up kids is =
     ap (λ ls. slice_get ls n) (sym kids) ∙ ap (slice_get ks) is ∙ place_holds i ks (listed_there t i j ks node other up kids)
 
-pub placed_before : (t : Tree) (i j n : ℕ) (ks : List ℕ) → has_node t i ≡ true → (i ≡ 0 → ⊥) → j ≡ above_in (at t.arena i) → ks ≡ children_at t j → n ≡ place_from 0 i ks
+pub placed_before : (t : Tree) (i j n : ℕ) (ks : List ℕ) → has_node t i ≡ true → (i ≡ 0 → ⊥) → j ≡ parent_at t i → ks ≡ children_at t j → n ≡ place_from 0 i ks
     → (new : Branches Provision) → grafted (provision_at t j).wid n new (tree_view t).body ≡ changed (before new) (provision_at t i).wid (tree_view t).body
-unfolding has_node children_at provision_at tree_view
+unfolding has_node children_at provision_at tree_view parent_at
 placed_before t i j n ks node other up kids is new =
     ap (λ m. grafted (provision_in (at t.arena j)).wid m new (body_of t.arena)) (is ∙ ap (place_from 0 i) kids)
     ∙ ap (λ l. grafted (provision_in (at t.arena l)).wid (place_from 0 i (below_in (at t.arena l))) new (body_of t.arena)) up
     ∙ placed t.arena i t.whole node other 0 (before new) new (λ b bs. refl)
 
-pub placed_after : (t : Tree) (i j n : ℕ) (ks : List ℕ) → has_node t i ≡ true → (i ≡ 0 → ⊥) → j ≡ above_in (at t.arena i) → ks ≡ children_at t j → n ≡ place_from 0 i ks
+pub placed_after : (t : Tree) (i j n : ℕ) (ks : List ℕ) → has_node t i ≡ true → (i ≡ 0 → ⊥) → j ≡ parent_at t i → ks ≡ children_at t j → n ≡ place_from 0 i ks
     → (new : Branches Provision) → grafted (provision_at t j).wid (n + 1) new (tree_view t).body ≡ changed (after new) (provision_at t i).wid (tree_view t).body
-unfolding has_node children_at provision_at tree_view
+unfolding has_node children_at provision_at tree_view parent_at
 placed_after t i j n ks node other up kids is new =
     ap (λ m. grafted (provision_in (at t.arena j)).wid (m + 1) new (body_of t.arena)) (is ∙ ap (place_from 0 i) kids)
     ∙ ap (λ l. grafted (provision_in (at t.arena l)).wid (place_from 0 i (below_in (at t.arena l)) + 1) new (body_of t.arena)) up

@@ -5,7 +5,7 @@ use Rattle.act_tree.specs.Branches.{Branch, Branches}
 use Rattle.act_tree.specs.Provisions.{Provision}
 use Rattle.act_tree.specs.Trees.{TreeValue, changed_once}
 use Rattle.act_tree.specs.Changes.{Step, changed, grafted, next_of, removed, substituted}
-use Rattle.act_tree.specs.Arena.{branches_below, branch_from, climbs, below_in, provision_in}
+use Rattle.act_tree.specs.Arena.{branches_below, branch_from, climbs, above_in, below_in, provision_in}
 use Rattle.act_tree.specs.Slots.{at, size}
 
 -- the tree's value: its numbering, the text below its root, and its changes
@@ -27,6 +27,10 @@ provision_at t i = provision_in (at t.arena i)
 -- the numbers of the nodes right below the one of a number
 unfoldable pub children_at : Tree → ℕ → List ℕ
 children_at t i = below_in (at t.arena i)
+
+-- the number of the node right above the one of a number
+unfoldable pub parent_at : Tree → ℕ → ℕ
+parent_at t i = above_in (at t.arena i)
 
 -- the node of a number, with all beneath it
 unfoldable pub branch_at : Tree → ℕ → Branch Provision

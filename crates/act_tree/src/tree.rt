@@ -110,7 +110,7 @@ impl Tree {
     ghost use Rattle.act_tree.specs.Trees.{unchanged};
     ghost use Rattle.act_tree.specs.NodesStay.{NodesStay};
     ghost use Rattle.act_tree.specs.Wids.{all_wids, is_among, one_twice};
-    ghost use Rattle.act_tree.specs.Seen.{tree_view, has_node, provision_at, children_at, branch_at, below_at, with_body, once_changed, changed_at, removed_at, substituted_at, grafted_at, nums_by_wid, next_at};
+    ghost use Rattle.act_tree.specs.Seen.{tree_view, has_node, provision_at, children_at, parent_at, branch_at, below_at, with_body, once_changed, changed_at, removed_at, substituted_at, grafted_at, nums_by_wid, next_at};
     ghost use Rattle.std.specs.Prelude.{◌↔◌, [], ◌∷◌, drop};
     ghost use Rattle.act_tree.specs.Changes.{found, root_wid};
 
@@ -615,11 +615,24 @@ impl Tree {
         }
     }
 
+    /// The parent of a node that is not the root. It is one look-up.
+    pub fn parent(&self, id: NodeId) -> NodeId
+        requires node { has_node self.now id ≡ true }
+        requires provision { id ≡ 0 → ⊥ }
+        ensures number { result ≡ parent_at self.now id }
+        ensures node { has_node self.now result ≡ true }
+        ensures depth { depth_of (provision_at self.now id).wid (tree_view self.now).body
+            ≡ depth_of (provision_at self.now result).wid (tree_view self.now).body + 1 }
+    {
+        self.arena.slots[id.place()].above
+    }
+
     /// The parent of a node that is not the root, and the place of the node among the children of the parent: what is
     /// grafted there stands right before the node, and what is grafted at the next place right behind it.
     pub fn place_of(&self, id: NodeId) -> (NodeId, usize)
         requires node { has_node self.now id ≡ true }
         requires provision { id ≡ 0 → ⊥ }
+        ensures number { result.0 ≡ parent_at self.now id }
         ensures parent { has_node self.now result.0 ≡ true }
         ensures place { result.1 < length (children_at self.now result.0) }
         ensures child { slice_get (children_at self.now result.0) result.1 ≡ Some id }
@@ -628,7 +641,7 @@ impl Tree {
         ensures after { (new : Branches Provision)
             → grafted_at self.now result.0 (result.1 + 1) new ≡ changed_at self.now id (after new) }
     {
-        let above = self.arena.slots[id.place()].above;
+        let above = self.parent(id);
         (above, place_in(self.children(above), id))
     }
 
