@@ -55,12 +55,12 @@ first_more : (above more : List Level) → top_of above ≡ false → first_text
 first_more [] more under = absurd cc
 first_more (level ∷ above) more under = refl
 
-text_more : (above : List Level) (last : Level) → top_of above ≡ false → eid_text (above ++ last ∷ []) ≡ eid_text above ++ 95 ∷ 95 ∷ level_text last.element last.num
+pub text_more : (above : List Level) (last : Level) → top_of above ≡ false → eid_text (above ++ last ∷ []) ≡ eid_text above ++ 95 ∷ 95 ∷ level_text last.element last.num
 text_more [] last under = absurd cc
 text_more (level ∷ above) last under = text_behind level above last
 
 -- levels that spell one text are the same
-same_levels : (one other : List Level) → eid_text one ≡ eid_text other → have_nums one ≡ true → have_nums other ≡ true → 0 < length one → 0 < length other → one ≡ other
+pub same_levels : (one other : List Level) → eid_text one ≡ eid_text other → have_nums one ≡ true → have_nums other ≡ true → 0 < length one → 0 < length other → one ≡ other
 same_levels one other same good good_too some some_too =
     let read : Ok one ≡ Ok other = sym (eid_is_read one some good) ∙ ap eid_of same ∙ eid_is_read other some_too good_too in
     cc
@@ -74,17 +74,17 @@ not_longer levels one rest same =
     omega arith
 
 -- a provision below these levels begins an eId
-record Begins (n : Numbering) (above : List Level) (own : Own) : Type 0 where
+pub record Begins (n : Numbering) (above : List Level) (own : Own) : Type 0 where
   pub does : begins n (top_of above) own ≡ true
   pub levels : levels_with n above own ≡ level_of_own own ∷ []
 
 -- it goes on behind them
-record GoesOn (n : Numbering) (above : List Level) (own : Own) : Type 0 where
+pub record GoesOn (n : Numbering) (above : List Level) (own : Own) : Type 0 where
   pub does : begins n (top_of above) own ≡ false
   pub under : top_of above ≡ false
   pub levels : levels_with n above own ≡ above ++ level_of_own own ∷ []
 
-either : (n : Numbering) (above : List Level) (own : Own) → Begins n above own ⊎ GoesOn n above own
+pub either : (n : Numbering) (above : List Level) (own : Own) → Begins n above own ⊎ GoesOn n above own
 either n [] own =
     inl (record {
       does = refl;
@@ -97,7 +97,7 @@ either n (level ∷ above) own =
     ]
 
 module _ (n : Numbering) where
-  good_with : (above : List Level) (own : Own) → have_nums above ≡ true → is_num own.num ≡ true → have_nums (levels_with n above own) ≡ true
+  pub good_with : (above : List Level) (own : Own) → have_nums above ≡ true → is_num own.num ≡ true → have_nums (levels_with n above own) ≡ true
   good_with above own good num =
       let last : have_nums (level_of_own own ∷ []) ≡ true = both (is_num own.num) true num refl in
       elim (either n above own) [
@@ -105,7 +105,7 @@ module _ (n : Numbering) where
         | inr on ↦ ap have_nums on.levels ∙ list_all-append (λ level. is_num level.num) above (level_of_own own ∷ []) ∙ both (have_nums above) _ good last
       ]
 
-  some_with : (above : List Level) (own : Own) → 0 < length (levels_with n above own)
+  pub some_with : (above : List Level) (own : Own) → 0 < length (levels_with n above own)
   some_with above own =
       elim (either n above own) [
         | inl it ↦ (let one : length (levels_with n above own) ≡ length (level_of_own own ∷ []) = ap length it.levels in omega arith)
@@ -114,7 +114,7 @@ module _ (n : Numbering) where
             omega arith
       ]
 
-  top_with : (above : List Level) (own : Own) → top_of (levels_with n above own) ≡ false
+  pub top_with : (above : List Level) (own : Own) → top_of (levels_with n above own) ≡ false
   top_with above own =
       elim (either n above own) [
         | inl it ↦ ap top_of it.levels
@@ -135,7 +135,7 @@ module _ (n : Numbering) where
   gone_on above own below on = ap (λ t. cond t [] (own_level own ∷ [])) on.does
 
   -- an eId goes on behind these levels by one of some levels
-  record Goes (above : List Level) (goings : List (List ℕ)) (levels : List Level) : Type 0 where
+  pub record Goes (above : List Level) (goings : List (List ℕ)) (levels : List Level) : Type 0 where
     pub level : Level
     pub rest : List Level
     pub split : levels ≡ above ++ level ∷ rest
@@ -143,7 +143,7 @@ module _ (n : Numbering) where
     pub among : is_among (level_text level.element level.num) goings ≡ true
 
   -- an eId begins with one of some levels, or goes on behind those above
-  record Placed (above : List Level) (heads goings : List (List ℕ)) (e : List ℕ) : Type 0 where
+  pub record Placed (above : List Level) (heads goings : List (List ℕ)) (e : List ℕ) : Type 0 where
     pub levels : List Level
     pub is : e ≡ eid_text levels
     pub good : have_nums levels ≡ true
@@ -210,7 +210,7 @@ module _ (n : Numbering) where
       }
 
   -- the eId of a provision below these levels, as the levels with its own spell it
-  up_is : (above : List Level) (own : Own) → Some (eid_below n (spelled above) own.element own.num) ≡ spelled (levels_with n above own)
+  pub up_is : (above : List Level) (own : Own) → Some (eid_below n (spelled above) own.element own.num) ≡ spelled (levels_with n above own)
   up_is above own = ap (λ t. Some t) (below_is n above own) ∙ sym (spelled_with n above own)
 
   mutual
@@ -228,7 +228,7 @@ module _ (n : Numbering) where
               (placed_among below all e good_too (and_parts _ _ nums).1 (sym (ap (λ a. is_among e (all_eids n a (all_owns below))) (up_is above p.own)) ∙ beneath)))
         ]
 
-    placed_among : (bs : Branches Provision) (above : List Level) (e : List ℕ) → have_nums above ≡ true → are_numbered bs ≡ true → is_among e (all_eids n (spelled above) (all_owns bs)) ≡ true
+    pub placed_among : (bs : Branches Provision) (above : List Level) (e : List ℕ) → have_nums above ≡ true → are_numbered bs ≡ true → is_among e (all_eids n (spelled above) (all_owns bs)) ≡ true
         → Placed above (all_beginning n (top_of above) (all_owns bs)) (all_going_on n (top_of above) (all_owns bs)) e
     placed_among no_branches above e good nums found = absurd cc
     placed_among (more_branches b bs) above e good nums found =

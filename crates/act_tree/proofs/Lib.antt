@@ -46,6 +46,9 @@ pub mod Ways
 pub mod LevelsDiffer
 pub mod EidsOfTree
 pub mod FoundNodes
+pub mod LatestNumbers
+pub mod GoingDown
+pub mod WaysFound
 pub mod HowDeep
 pub mod LevelsBegun
 pub mod LevelsFound

@@ -1,6 +1,5 @@
 -- The eIds of the nodes of a tree.
 use Rattle.std.specs.Prelude.{ℕ, zero, suc, ◌==◌, ◌≡◌, true, List, Option, Some, None, if◌then◌else◌}
-use Rattle.std.specs.List.{All}
 use Rattle.eid_paths.specs.declared.numbering.Numbering.{Numbering}
 use Rattle.act_tree.specs.declared.tree.Tree.{Tree}
 use Rattle.act_tree.specs.Arena.{Laid, provision_in, above_in}
@@ -23,12 +22,3 @@ eid_at t i = eid_of_wid (tree_view t) (provision_at t i).wid
 -- a node of the tree that is not the root has this eId
 abbrev pub IsNodeOf : Tree → List ℕ → ℕ → Type 0
 IsNodeOf t eid id = (has_node t id ≡ true) × ((id ≡ 0 → ⊥) × (eid_at t id ≡ Some eid))
-
--- the eId of a node that stands below the eId `above`, or right below the root where that is `None`
-abbrev pub eid_under : Tree → Option (List ℕ) → ℕ → List ℕ
-eid_under t above id =
-    eid_below (tree_view t).numbering above (provision_at t id).own.element (provision_at t id).own.num
-
--- these are nodes that stand below the eId `above`
-abbrev pub AreUnder : Tree → Option (List ℕ) → List ℕ → Type 0
-AreUnder t above ids = All (λ id. IsNodeOf t (eid_under t above id) id) ids

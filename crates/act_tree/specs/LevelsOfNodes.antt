@@ -18,11 +18,15 @@ latest_at at level zero = None
 latest_at at level (suc i) =
     if bytes_eq level (own_level (provision_in (at i)).own) then Some i else latest_at at level i
 
+-- the number is that of a provision of the text that begins an eId
+abbrev pub begins_eid : Numbering → (ℕ → Option Laid) → ℕ → ℕ → Bool
+begins_eid numbering at size i =
+    begins numbering (above_in (at i) == 0) (provision_in (at i)).own && (not (i == 0) && climbs size at i)
+
 -- the number is that of a provision of the text that begins an eId by this level
 abbrev pub begins_by : Numbering → (ℕ → Option Laid) → ℕ → List ℕ → ℕ → Bool
 begins_by numbering at size level i =
-    bytes_eq level (own_level (provision_in (at i)).own)
-    && (begins numbering (above_in (at i) == 0) (provision_in (at i)).own && (not (i == 0) && climbs size at i))
+    bytes_eq level (own_level (provision_in (at i)).own) && begins_eid numbering at size i
 
 -- one of the first so many numbers is
 abbrev pub begins_before : Numbering → (ℕ → Option Laid) → ℕ → List ℕ → ℕ → Bool

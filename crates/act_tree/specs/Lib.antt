@@ -35,4 +35,5 @@ pub mod NodeSizes
 pub mod LevelsOfNodes
 pub mod LevelIndex
 pub mod LevelHashes
+pub mod WaysDown
 pub mod Limits

@@ -63,8 +63,8 @@ pub fn is_level(slot: &Slot, element: Element, num: &Num) -> bool
     slot.element == element && same
 }
 
-// Whether a node begins no eId and has this level, as a provision that is no child of the root.
-fn goes_on_at(tree: &Tree, element: Element, num: &Num, id: NodeId) -> bool
+/// Whether a node begins no eId and has this level, as a provision that is no child of the root.
+pub fn goes_on_at(tree: &Tree, element: Element, num: &Num, id: NodeId) -> bool
     requires { has_node tree.now id ≡ true }
     ensures { result ≡ is_among (level_text element num.now) (levels_at tree.now (id ∷ [])) }
 {

@@ -7,6 +7,7 @@ mod cause;
 mod copying;
 mod depths;
 mod eid;
+mod eid_ways;
 mod eids;
 mod grafting;
 pub mod laws;

@@ -9,17 +9,18 @@ ghost use Rattle.act_tree.specs.Slots.{at, number, provision_of, size};
 use crate::arena::{Arena, Slot};
 use crate::copying::lay_again;
 use crate::depths::count_up;
+use crate::eid_ways::go_on;
 use crate::eids::eid_of_number;
 use crate::grafting::{bringer, place_in};
 use crate::laying::plant;
 use crate::levels::{are_alike, goes_on};
 use crate::survey::Survey;
 use crate::surveying::fault_of;
-use crate::walks::{count, find_eid, survey};
+use crate::walks::{count, survey};
 use crate::wid_bytes::WidBytes;
 use crate::{BuildFail, BuildFault, Cause, NONE_THROUGHOUT, NodeId, Nodes, Refs};
 use desk_base::{Id, Memory, Steps, Text};
-use eid_paths::{Element, Level, Num, Numbering};
+use eid_paths::{Eid, Element, Level, Num, Numbering, parse_eid};
 use std::alloc::Global;
 use std::sync::ledger::Ledger;
 
@@ -90,7 +91,7 @@ fn view_of(slot: &Slot, is_root: bool) -> NodeView<'_>
 }
 
 impl Tree {
-    ghost use Rattle.std.specs.Prelude.{◌≡◌, ◌==◌, ◌+◌, ℕ, ◌-◌, ◌^◌, min, true, false, IfOk, OnOk, OnErr, IfErr, IfSome, is_some, map, length, ◌≤◌, ◌<◌, option_map, None, Some, slice_get, if◌then◌else◌};
+    ghost use Rattle.std.specs.Prelude.{◌≡◌, ◌==◌, ◌+◌, ℕ, ◌-◌, ◌^◌, min, true, false, IfOk, OnOk, OnErr, IfErr, IfSome, is_some, map, length, ◌≤◌, ◌<◌, ◌&&◌, option_map, None, Some, slice_get, take, if◌then◌else◌};
     ghost use Rattle.std.specs.List.{All};
     ghost use Rattle.eid_paths.specs.Nums.{is_num};
     ghost use Rattle.std.specs.Str.{bytes_eq};
@@ -103,8 +104,12 @@ impl Tree {
     ghost use Rattle.act_tree.specs.declared.surveying.TheConstants.{NONE_THROUGHOUT};
     ghost use Rattle.act_tree.specs.Eids.{all_enacted};
     ghost use Rattle.act_tree.specs.Depths.{depth_of};
-    ghost use Rattle.act_tree.specs.EidLevels.{all_beginning, levels_begun, levels_on};
-    ghost use Rattle.eid_paths.specs.Levels.{level_text};
+    ghost use Rattle.act_tree.specs.EidLevels.{all_beginning, levels_begun, levels_on, own_level};
+    ghost use Rattle.act_tree.specs.LevelsOfNodes.{begins_eid};
+    ghost use Rattle.act_tree.specs.Slots.{at, size};
+    ghost use Rattle.act_tree.specs.WaysDown.{has_way};
+    ghost use Rattle.eid_paths.specs.Eids.{eid_text};
+    ghost use Rattle.eid_paths.specs.Levels.{have_nums, level_text};
     ghost use Rattle.act_tree.specs.EidsOfNodes.{IsNodeOf};
     ghost use Rattle.act_tree.specs.EidsOfWids.{eid_of_wid, has_eid, level_of_own};
     ghost use Rattle.act_tree.specs.Trees.{unchanged};
@@ -294,37 +299,53 @@ impl Tree {
         Ok(eid)
     }
 
-    // The node whose wId this is, if it is also its eId.
-    fn named(&self, alloc: Global, eid: &str) -> Result<Option<NodeId>, Memory>
-        ensures { IfOk result (λ o. IfSome o (IsNodeOf self.now eid.now)) }
+    // The node of an eId beneath a number whose provision has its first level, if that begins an eId.
+    fn down_from(&self, levels: &Eid<'_>, id: NodeId) -> Option<NodeId>
+        requires within { id < size self.now.arena }
+        requires some { 0 < length levels.now }
+        requires level { bytes_eq (eid_text (take 1 levels.now)) (own_level (provision_at self.now id).own) ≡ true }
+        ensures found { let n = (tree_view self.now).numbering in is_some result
+            ≡ (begins_eid n (at self.now.arena) (size self.now.arena) id
+            && has_way n (drop 1 levels.now) (below_at self.now id)) }
+        ensures node { IfSome result (IsNodeOf self.now (eid_text levels.now)) }
     {
-        let Some(id) = self.find(eid.as_bytes()) else {
-            return Ok(None);
-        };
-        if id.place() == 0 {
-            return Ok(None);
-        }
-        let own = self.eid_of(alloc, id)?;
-        if own.as_str() == eid {
-            Ok(Some(id))
+        if self.arena.begins_eid(self.numbering, id) {
+            go_on(self, levels, 1, id)
         } else {
-            Ok(None)
+            None
         }
     }
 
-    /// The node of an eId; where more have it, one of them. `None`: no node has it. The root has no eId. Where the eId
-    /// is also the wId, as in an act as enacted, it is one look-up and the way up from there; else all nodes are
-    /// searched.
-    pub fn find_eid(&self, alloc: Global, eid: &str) -> Result<Option<NodeId>, Memory>
-        ensures found { IfOk result (λ o. is_some o ≡ has_eid eid.now (tree_view self.now)) }
-        ensures node { IfOk result (λ o. IfSome o (IsNodeOf self.now eid.now)) }
+    // The node of an eId, sought beneath each provision that begins one by its first level.
+    fn of_levels(&self, levels: &Eid<'_>) -> Option<NodeId>
+        requires some { 0 < length levels.now }
+        requires nums { have_nums levels.now ≡ true }
+        ensures found { is_some result ≡ has_eid (eid_text levels.now) (tree_view self.now) }
+        ensures node { IfSome result (IsNodeOf self.now (eid_text levels.now)) }
     {
-        let named = self.named(alloc, eid)?;
-        if named.is_some() {
-            return Ok(named);
+        let first = levels.level(0);
+        let mut next = self.arena.last_of_level(first.element, &first.num);
+        while let Some(id) = next {
+            let found = self.down_from(levels, id);
+            if found.is_some() {
+                return found;
+            }
+            next = self.arena.level_before(first.element, &first.num, id);
         }
-        let found = find_eid(alloc, self, None, eid, self.children(self.root()))?;
-        Ok(found)
+        None
+    }
+
+    /// The node of an eId; where more have it, one of them. `None`: no node has it. The root has no eId. What is searched
+    /// are the provisions of its first level, which the index leads to, and from each that begins an eId the children on
+    /// the way down by the other levels.
+    pub fn find_eid(&self, eid: &str) -> Option<NodeId>
+        ensures found { is_some result ≡ has_eid eid.now (tree_view self.now) }
+        ensures node { IfSome result (IsNodeOf self.now eid.now) }
+    {
+        let Ok(levels) = parse_eid(eid) else {
+            return None;
+        };
+        self.of_levels(&levels)
     }
 
     /// How many provisions were laid down, the root and those that were taken away included: each node's number is less.

@@ -1,11 +1,9 @@
 //! Walks over the nodes of a tree. They take as much stack as the tree is deep.
 
-ghost use Rattle.std.specs.Prelude.{◌≡◌, ◌-◌, ◌^◌, min, true, map, option_map, is_some, OnOk, IfOk, IfSome};
-ghost use Rattle.act_tree.specs.EidsOfNodes.{AreUnder, IsNodeOf};
-ghost use Rattle.act_tree.specs.Wids.{is_among};
+ghost use Rattle.std.specs.Prelude.{◌≡◌, ◌-◌, ◌^◌, min, true, map, option_map, OnOk};
 ghost use Rattle.std.specs.List.{All};
 ghost use Rattle.act_tree.specs.Branches.{branches_of, counts};
-ghost use Rattle.act_tree.specs.Faults.{all_owns, all_eids};
+ghost use Rattle.act_tree.specs.Faults.{all_owns};
 ghost use Rattle.act_tree.specs.Seen.{tree_view, has_node, branch_at};
 ghost use Rattle.act_tree.specs.Surveys.{seen, all_surveyed};
 
@@ -57,32 +55,4 @@ pub fn survey(
         )?;
     }
     Ok(())
-}
-
-/// A node of this eId, among nodes below the one of the eId `above`, or right below the root where that is `None`, and
-/// beneath them.
-pub fn find_eid(
-    alloc: Global,
-    tree: &Tree,
-    above: Option<&str>,
-    eid: &str,
-    ids: &[NodeId],
-) -> Result<Option<NodeId>, Memory>
-    requires { AreUnder tree.now (option_map (λ s. s.now) above) ids.now }
-    ensures found { let bs = all_owns (branches_of (map (branch_at tree.now) ids.now)) in IfOk result (λ o. is_some o
-        ≡ is_among eid.now (all_eids (tree_view tree.now).numbering (option_map (λ s. s.now) above.entry) bs)) }
-    ensures node { IfOk result (λ o. IfSome o (IsNodeOf tree.now eid.now)) }
-{
-    for id in ids {
-        let own = tree.eid_of(alloc, *id)?;
-        if own.as_str() == eid {
-            return Ok(Some(*id));
-        }
-        let children = tree.children(*id);
-        let found = find_eid(alloc, tree, Some(own.as_str()), eid, children)?;
-        if found.is_some() {
-            return Ok(found);
-        }
-    }
-    Ok(None)
 }

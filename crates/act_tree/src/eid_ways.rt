@@ -1,0 +1,55 @@
+//! The way down to the node of an eId: from a provision that begins one, by the levels with which it goes on.
+
+ghost use Rattle.std.specs.Prelude.{◌≡◌, ◌<◌, ◌≤◌, ◌+◌, is_some, length, take, drop, IfSome};
+ghost use Rattle.eid_paths.specs.Eids.{eid_text};
+ghost use Rattle.act_tree.specs.EidsOfNodes.{IsNodeOf};
+ghost use Rattle.act_tree.specs.Seen.{tree_view, below_at};
+ghost use Rattle.act_tree.specs.WaysDown.{has_way};
+
+use crate::arena::Arena;
+use crate::levels::goes_on_at;
+use crate::{NodeId, Tree};
+use eid_paths::{Eid, Numbering};
+
+impl Arena {
+    ghost use Rattle.std.specs.Prelude.{◌<◌};
+    ghost use Rattle.act_tree.specs.LevelsOfNodes.{begins_eid};
+    ghost use Rattle.act_tree.specs.Slots.{at, size};
+
+    /// Whether a number is that of a provision of the text that begins an eId.
+    pub fn begins_eid(&self, numbering: Numbering, id: NodeId) -> bool
+        requires { id < size self.now }
+        ensures { result ≡ begins_eid numbering (at self.now) (size self.now) id }
+    {
+        let slot = &self.slots[id.place()];
+        let begins = slot.above.place() == 0 || numbering.has(slot.element);
+        begins && id.place() != 0 && self.climbs(id)
+    }
+}
+
+/// The node of an eId, at or beneath one that has the eId of its first so many levels; where more have it, one of them.
+/// It takes as much stack as there are levels.
+pub fn go_on(tree: &Tree, levels: &Eid<'_>, named: usize, id: NodeId) -> Option<NodeId>
+    requires node { IsNodeOf tree.now (eid_text (take named levels.now)) id }
+    requires some { 0 < named }
+    requires within { named ≤ length levels.now }
+    ensures found { is_some result
+        ≡ has_way (tree_view tree.now).numbering (drop named levels.now) (below_at tree.now id) }
+    ensures node { IfSome result (IsNodeOf tree.now (eid_text levels.now)) }
+{
+    if named == levels.len() {
+        return Some(id);
+    }
+    let level = levels.level(named);
+    let children = tree.children(id);
+    for child in children {
+        if !goes_on_at(tree, level.element, &level.num, *child) {
+            continue;
+        }
+        let found = go_on(tree, levels, named + 1, *child);
+        if found.is_some() {
+            return found;
+        }
+    }
+    None
+}
