@@ -8,7 +8,7 @@ use Rattle.act_tree.specs.Arena.{Laid, provision_in, above_in, below_in, branche
 use Rattle.act_tree.specs.Changes.{without, root_wid}
 use Rattle.act_tree.specs.EidLevels.{begins, own_level, all_beginning}
 use Rattle.act_tree.specs.Faults.{all_owns}
-use Rattle.act_tree.specs.LevelsOfNodes.{begins_by, begins_before, begins_past, some_past}
+use Rattle.act_tree.specs.LevelsOfNodes.{begins_by, begins_before, begins_eid, begins_one, begins_past, some_past}
 use Rattle.act_tree.specs.Slots.{at, number, size}
 use Rattle.act_tree.specs.TakenOff.{with_above, with_below, IsTakenOff}
 use Rattle.act_tree.specs.Wids.{is_among}
@@ -21,9 +21,13 @@ use Rattle.act_tree.proofs.Spots.{Spot}
 use Rattle.act_tree.proofs.Sound.{whole_from, reads_from}
 use Rattle.act_tree.proofs.TakingAway.{Sits, sits, spot_of, text_without, says_without}
 
+-- no way up passes the root
+pub one_past_root : (n : Numbering) (at : ℕ → Option Laid) (size i : ℕ) → begins_one n at size 0 i ≡ begins_eid n at size i
+one_past_root n at size i = ap (λ t. begins n (above_in (at i) == 0) (provision_in (at i)).own && (not (i == 0) && t)) (past_root size at i)
+
 module _ (n : Numbering) (at : ℕ → Option Laid) (size : ℕ) (x : List ℕ) where
   pub by_past_root : (i : ℕ) → begins_past n at size 0 x i ≡ begins_by n at size x i
-  by_past_root i = ap (λ t. bytes_eq x (own_level (provision_in (at i)).own) && (begins n (above_in (at i) == 0) (provision_in (at i)).own && (not (i == 0) && t))) (past_root size at i)
+  by_past_root i = ap (λ t. bytes_eq x (own_level (provision_in (at i)).own) && t) (one_past_root n at size i)
 
   pub some_past_root : (m : ℕ) → some_past n at size 0 x m ≡ begins_before n at size x m
   some_past_root zero = refl

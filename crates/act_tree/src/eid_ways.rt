@@ -6,26 +6,9 @@ ghost use Rattle.act_tree.specs.EidsOfNodes.{IsNodeOf};
 ghost use Rattle.act_tree.specs.Seen.{tree_view, below_at};
 ghost use Rattle.act_tree.specs.WaysDown.{has_way};
 
-use crate::arena::Arena;
 use crate::levels::goes_on_at;
 use crate::{NodeId, Tree};
-use eid_paths::{Eid, Numbering};
-
-impl Arena {
-    ghost use Rattle.std.specs.Prelude.{◌<◌};
-    ghost use Rattle.act_tree.specs.LevelsOfNodes.{begins_eid};
-    ghost use Rattle.act_tree.specs.Slots.{at, size};
-
-    /// Whether a number is that of a provision of the text that begins an eId.
-    pub fn begins_eid(&self, numbering: Numbering, id: NodeId) -> bool
-        requires { id < size self.now }
-        ensures { result ≡ begins_eid numbering (at self.now) (size self.now) id }
-    {
-        let slot = &self.slots[id.place()];
-        let begins = slot.above.place() == 0 || numbering.has(slot.element);
-        begins && id.place() != 0 && self.climbs(id)
-    }
-}
+use eid_paths::Eid;
 
 /// The node of an eId, at or beneath one that has the eId of its first so many levels; where more have it, one of them.
 /// It takes as much stack as there are levels.

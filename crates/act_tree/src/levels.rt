@@ -92,7 +92,7 @@ pub fn goes_on(tree: &Tree, element: Element, num: &Num, ids: &[NodeId]) -> bool
 
 impl Arena {
     ghost use Rattle.std.specs.Prelude.{ℕ, ◌<◌, ◌≤◌, ◌^◌};
-    ghost use Rattle.act_tree.specs.LevelsOfNodes.{begins_before, begins_one, some_past};
+    ghost use Rattle.act_tree.specs.LevelsOfNodes.{begins_before, begins_eid, begins_one, some_past};
     ghost use Rattle.act_tree.specs.Slots.{at, size};
 
     // Whether a number is that of a provision that begins an eId in the text that is left without another number and all
@@ -104,6 +104,14 @@ impl Arena {
         let slot = &self.slots[id.place()];
         let begins = slot.above.place() == 0 || numbering.has(slot.element);
         begins && id.place() != 0 && self.climbs_past(gone, id)
+    }
+
+    /// Whether a number is that of a provision of the text that begins an eId.
+    pub fn begins_eid(&self, numbering: Numbering, id: NodeId) -> bool
+        requires { id < size self.now }
+        ensures { result ≡ begins_eid numbering (at self.now) (size self.now) id }
+    {
+        self.begins_one(numbering, NodeId::root(), id)
     }
 
     /// Whether a provision begins an eId by this level in the text that is left without a number and all beneath it; in
