@@ -386,8 +386,8 @@ impl Tree {
         Ok(alike)
     }
 
-    /// Whether a node begins an eId by this level: it is a child of the root, or its element is numbered throughout. What
-    /// is laid down is searched in one pass, and no eId is spelled.
+    /// Whether a node begins an eId by this level: it is a child of the root, or its element is numbered throughout. Of
+    /// what is laid down only the provisions are visited whose levels share its hash, and no eId is spelled.
     pub fn has_level(&self, element: Element, num: &Num) -> bool
         ensures { result ≡ is_among (level_text element num.now) (levels_begun (tree_view self.now)) }
     {

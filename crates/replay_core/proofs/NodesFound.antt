@@ -1,10 +1,9 @@
 -- What a text has for the wId of a node is the flag that the way up from it gives; and where no two provisions have one eId, what is found by that of a node is the node, shown.
-use Rattle.std.proofs.Common.{◌≡◌, ◌∙◌, sym, ap, refl, ℕ, zero, suc, ◌+◌, ◌<◌, ◌==◌, Bool, true, false, ◌||◌, ◌&&◌, cond, List, [], ◌∷◌, Option, Some, None, is_some, inl, inr, arith}
-use Rattle.std.specs.Prelude.{slice_get, unwrap_or}
+use Rattle.std.proofs.Common.{◌≡◌, ◌∙◌, sym, ap, refl, ℕ, zero, suc, ◌<◌, ◌==◌, Bool, true, false, ◌||◌, ◌&&◌, cond, List, [], ◌∷◌, Option, Some, None, is_some, inl, inr, arith}
+use Rattle.std.specs.Prelude.{unwrap_or}
 use Rattle.std.specs.Str.{bytes_eq}
 use Rattle.std.proofs.lemmas.Bool.{cases_Bool, cases_eq, or_cases, and_parts, eq-eqb, ne_eqb}
 use Rattle.std.proofs.lemmas.List.Folds.{list_any-append}
-use Rattle.std.proofs.lemmas.Map.Keys.{any_passes_from_place}
 use Rattle.eid_paths.specs.declared.numbering.Numbering.{Numbering}
 use Rattle.act_tree.specs.declared.tree.Tree.{Tree}
 use Rattle.act_tree.specs.Arena.{Laid, provision_in, above_in, below_in, branches_below, branch_from, hangs_on, climbs, Stands, StandAll, IsWhole}
@@ -15,14 +14,13 @@ use Rattle.act_tree.specs.EidsOfNodes.{eid_up, IsNodeOf}
 use Rattle.act_tree.specs.EidsOfWids.{has_eid}
 use Rattle.act_tree.specs.Faults.{all_owns, all_eids, eids_of}
 use Rattle.act_tree.specs.Provisions.{Own, Provision}
-use Rattle.act_tree.specs.Seen.{tree_view, has_node, provision_at, children_at, branch_at, below_at}
+use Rattle.act_tree.specs.Seen.{tree_view, has_node, provision_at, parent_at, branch_at, below_at}
 use Rattle.act_tree.specs.Slots.{at, number, size}
 use Rattle.act_tree.specs.Wids.{is_among, one_twice}
 use Rattle.act_tree.proofs.EidsDiffer.{Lower, LowerAll, node_eid, own_eid, eid_among, node_held, lower_below, lower_first, lower_rest, body_lower, not_root}
 use Rattle.act_tree.proofs.Frames.{none_left, none_right, Apart, twice_apart}
 use Rattle.act_tree.proofs.GoingUp.{eid_root}
 use Rattle.act_tree.proofs.ReplacedNodes as replaced
-use Rattle.act_tree.proofs.SiblingNodes.{listed_child}
 use Rattle.act_tree.proofs.Standing.{branch_is, stands_below}
 use Rattle.act_tree.proofs.Texts.{same_text, equal_text, other_text, bytes_eq_sym}
 use Rattle.act_tree.proofs.TreeNodes.{one_climbs, found_wid}
@@ -60,24 +58,6 @@ module _ (A : Type 0) (top : A) (step : Provision → A → A) (at : ℕ → Opt
       let on : (hangs_on i (at i) && climbs s at (above_in (at i))) ≡ true = sym (ap (λ t. t || (hangs_on i (at i) && climbs s at (above_in (at i)))) (ne_eqb i 0 other)) ∙ climbed in
       ap (λ t. cond t top (step (provision_in (at i)) (up s (above_in (at i))))) (ne_eqb i 0 other)
       ∙ ap (step (provision_in (at i))) (up_on s (above_in (at i)) (and_parts _ _ on).1)
-
--- how many nodes stand on the way up from one, itself included and the root not counted
-abbrev pub depth_now : Tree → ℕ → ℕ
-depth_now t i = up ℕ 0 (λ p k. k + 1) (at t.arena) (size t.arena) i
-
--- the number above a node that is listed below another is that of the other
-parent_is : (t : Tree) (i u place : ℕ) → has_node t u ≡ true → slice_get (children_at t u) place ≡ Some i → above_in (at t.arena i) ≡ u
-unfolding has_node children_at
-parent_is t i u place node child =
-    (listed_child (at t.arena) (number t.arena) (size t.arena) t.whole u i node (any_passes_from_place {K = ℕ} (λ j. j == i) (below_in (at t.arena u)) place i child (eq-eqb i i refl))).above
-
--- above the other stands one less: the measure of a way up
-pub parent_higher : (t : Tree) (i u place : ℕ) → has_node t i ≡ true → (i ≡ 0 → ⊥) → has_node t u ≡ true → slice_get (children_at t u) place ≡ Some i → depth_now t u < depth_now t i
-unfolding has_node
-parent_higher t i u place node other over child =
-    let one : depth_now t i ≡ depth_now t (above_in (at t.arena i)) + 1 = up_step ℕ 0 (λ p k. k + 1) (at t.arena) (size t.arena) i node other in
-    let same : depth_now t (above_in (at t.arena i)) ≡ depth_now t u = ap (depth_now t) (parent_is t i u place over child) in
-    omega arith
 
 module _ (known : Known) (reading : Reading) (day : ℕ) where
   -- the flag of a number, as the way up from it gives it
@@ -247,10 +227,11 @@ module _ (known : Known) (reading : Reading) (day : ℕ) (t : Tree) where
         ∙ ap (λ f. Some f) (flag_step known reading day (at t.arena) (size t.arena) i node other ∙ ap (flag_below known reading day over) (sym named) ∙ is over ∙ ap (λ o. unwrap_or o over) told)
 
     -- where it has none of its own, that of the node above it is its flag
-    pub flag_from_above : own ≡ None → (u place : ℕ) (found : Bool) → has_node t u ≡ true → slice_get (children_at t u) place ≡ Some i
+    pub flag_from_above : own ≡ None → (u : ℕ) (found : Bool) → u ≡ parent_at t i → has_node t u ≡ true
         → flag known reading day (tree_view t).body (provision_at t u).wid ≡ Some found → flag known reading day (tree_view t).body (provision_at t i).wid ≡ Some found
-    flag_from_above none u place found over child there =
-        flag_of_own None none ∙ ap (λ j. Some (flag_now j)) (parent_is t i u place over child) ∙ sym (flag_is u over) ∙ there
+    unfolding parent_at
+    flag_from_above none u found up over there =
+        flag_of_own None none ∙ ap (λ j. Some (flag_now j)) (sym up) ∙ sym (flag_is u over) ∙ there
 
   -- by an eId that is not in a tree nothing is found
   pub none_found : (f : Bool) (e : List ℕ) (o : Option ℕ) → is_some o ≡ has_eid e (tree_view t) → o ≡ None → portion_among e (shown_tree known reading day f (tree_view t)) ≡ None

@@ -113,7 +113,7 @@ pub fn flag_of_node(on: &OnDay<'_>, tree: &Tree, flag: bool, node: NodeId) -> Re
     match own {
         Some(bears) => Ok(bears),
         None => {
-            let (parent, _place) = tree.place_of(node);
+            let parent = tree.parent(node);
             flag_of_node(on, tree, flag, parent)
         }
     }
@@ -133,8 +133,7 @@ pub fn portion_of(
     ensures { IfOk result (λ found. option_map shown_view found ≡ portion_among eid.now
         (shown_tree on.now.known.now on.now.reading on.now.day flag (tree_view tree.now))) }
 {
-    let found = tree.find_eid(alloc, eid)?;
-    let Some(id) = found else {
+    let Some(id) = tree.find_eid(eid) else {
         return Ok(None);
     };
     let bears = flag_of_node(on, tree, flag, id)?;

@@ -138,7 +138,7 @@ pub fn fault_of_split(
 }
 
 /// The first fault of a tree with nodes among the children of a node, if it would have one; `gone`: that node goes for
-/// them, and the other is left. The nodes of the tree are searched for the levels that are brought, and how deep they
+/// them, and the other is left. The index of the tree is asked for the levels that are brought, and how deep they
 /// come to stand is told by the way up from the node; nothing of the tree is copied, and none of its eIds is spelled.
 pub fn fault_of_bringing(
     alloc: Global,

@@ -1,7 +1,9 @@
-use Rattle.std.proofs.Common.{rules, ◌≡◌, ◌∙◌, sym, ap, ◌<◌, Bool, Some}
+use Rattle.std.proofs.Common.{rules, ◌≡◌, ◌∙◌, sym, ap, ◌+◌, ◌<◌, Bool, Some, arith}
 use Rattle.std.proofs.lemmas.Bool.{eqb-true, eqb-false}
 use Rattle.std.proofs.lemmas.Result.{IfOk-weaker}
-use Rattle.replay_core.proofs.NodesFound.{depth_now, parent_higher, root_flagged, flag_of_own, flag_from_above}
+use Rattle.act_tree.specs.Depths.{depth_of}
+use Rattle.act_tree.specs.Seen.{tree_view, provision_at}
+use Rattle.replay_core.proofs.NodesFound.{root_flagged, flag_of_own, flag_from_above}
 use Rattle.replay_core.proofs.showing.+flag_of_node.Goals as goal
 
 pub returns-then-eq : goal.returns-then-eq
@@ -18,10 +20,10 @@ returns-in-Some t c =
 
 pub flag_of_node-requires : goal.flag_of_node-requires
 flag_of_node-requires t c =
-    let other : c.args.node ≡ 0 → ⊥ = λ is. eqb-false c.args.node c.root.result (sym c.eq.ensures ∙ c.if-eq.false) (is ∙ sym c.root.ensures.root) in
-    let higher : depth_now c.args.tree.now c.place_of-parent.result.0 < depth_now c.args.tree.now c.args.node =
-    parent_higher c.args.tree.now c.args.node c.place_of-parent.result.0 c.place_of-parent.result.1 c.requires.node other c.place_of-parent.ensures.parent c.place_of-parent.ensures.child in
-    (search (rules, higher), (c.place_of-parent.ensures.parent, c.requires.flag))
+    let tree = c.args.tree.now in
+    let deeper : depth_of (provision_at tree c.args.node).wid (tree_view tree).body ≡ depth_of (provision_at tree c.parent-parent.result).wid (tree_view tree).body + 1 = c.parent-parent.ensures.depth in
+    let higher : depth_of (provision_at tree c.parent-parent.result).wid (tree_view tree).body < depth_of (provision_at tree c.args.node).wid (tree_view tree).body = omega arith in
+    (search (rules, higher), (c.parent-parent.ensures.node, c.requires.flag))
 
 pub returns-in-None : goal.returns-in-None
 returns-in-None t c =
@@ -29,5 +31,5 @@ returns-in-None t c =
     IfOk-weaker c.flag_of_node.result _ _
     (λ found there. flag_from_above c.args.on.now.known.now c.args.on.now.reading c.args.on.now.day c.args.tree.now c.args.node c.provision.result.wid.now c.in_ok-own.own
     c.requires.node other c.provision.ensures.wid c.in_ok-own.ensures c.in-None.is
-    c.place_of-parent.result.0 c.place_of-parent.result.1 found c.place_of-parent.ensures.parent c.place_of-parent.ensures.child there)
+    c.parent-parent.result found c.parent-parent.ensures.number c.parent-parent.ensures.node there)
     c.flag_of_node.ensures

@@ -7,12 +7,12 @@ use Rattle.replay_core.proofs.showing.portion_of.Goals as goal
 
 pub returns-in_default : goal.returns-in_default
 returns-in_default c =
-    sym (none_found c.args.on.now.known.now c.args.on.now.reading c.args.on.now.day c.args.tree.now c.args.flag c.args.eid.now c.in_ok-found.found c.in_ok-found.ensures.found c.in_default.is)
+    sym (none_found c.args.on.now.known.now c.args.on.now.reading c.args.on.now.day c.args.tree.now c.args.flag c.args.eid.now c.find_eid.result c.find_eid.ensures.found c.in_default.is)
 
 pub returns : goal.returns
 returns c =
     let tree = c.args.tree.now in
-    let node = rw c.in-Some.is at c.in_ok-found.ensures.node in
+    let node = rw c.in-Some.is at c.find_eid.ensures.node in
     node_found c.args.on.now.known.now c.args.on.now.reading c.args.on.now.day tree c.args.flag c.in_ok-bears.bears c.in-Some.id c.args.eid.now c.in_ok-own.own
     (shown_view c.in_ok-shown.shown) (branches_of c.in_ok-below.below) (branches_of (map (branch_at tree) c.children-children.result.now))
     c.requires.once c.requires.flag node c.in_ok-bears.ensures c.in_ok-shown.ensures c.in_ok-own.ensures c.in_ok-below.ensures c.children-children.ensures.branches
