@@ -55,6 +55,15 @@ pub fn nodes_keep_numbers(earlier: &Tree, later: &Tree, before: NodeId, after: N
     ensures { after ≡ before }
 {}
 
+/// After an `Err` of a change the text is as it was and nodes stay (`kept` and `stay` of each): so the same numbers are
+/// nodes, and each says what it said.
+pub fn failed_change_leaves_nodes(earlier: &Tree, later: &Tree, id: NodeId)
+    requires stay { NodesStay earlier.now later.now }
+    requires text { tree_view later.now ≡ tree_view earlier.now }
+    ensures nodes { has_node later.now id ≡ has_node earlier.now id }
+    ensures says { has_node earlier.now id ≡ true → provision_at later.now id ≡ provision_at earlier.now id }
+{}
+
 /// A change that leaves all nodes and their wIds, as that of a content or of nums, is one through which nodes stay.
 pub fn nodes_left_stay(earlier: &Tree, later: &Tree)
     requires nodes { (k : ℕ) → has_node later.now k ≡ has_node earlier.now k }
