@@ -1,7 +1,6 @@
 -- That a level is begun by one of the first so many numbers is told by those that have it, from the last to the first.
 use Rattle.std.proofs.Common.{◌≡◌, ◌∙◌, sym, ap, refl, subst, ℕ, zero, suc, ◌<◌, ◌≤◌, Bool, true, false, ◌||◌, ◌&&◌, List, Option, Some, None, inl, inr, arith}
-use Rattle.std.specs.Str.{bytes_eq}
-use Rattle.std.proofs.lemmas.Bool.{cases_Bool, or_right}
+use Rattle.std.proofs.lemmas.Bool.{cases_Bool}
 use Rattle.eid_paths.specs.declared.numbering.Numbering.{Numbering}
 use Rattle.act_tree.specs.declared.arena.Arena.{Arena}
 use Rattle.act_tree.specs.LevelsOfNodes.{begins_one, begins_past, latest_at, some_past}
@@ -62,10 +61,7 @@ module _ (n : Numbering) (a : Arena) (gone : ℕ) (level : List ℕ) where
   pub told : (k : ℕ) (r : Bool) → has a level k ≡ true → r ≡ begins_one n (at a) (size a) gone k → past k ≡ r
   told k r it is = ap (λ (t : Bool). t && begins_one n (at a) (size a) gone k) it ∙ sym is
 
-  -- it begins it, or those before it are visited
-  pub one_begins : (k : ℕ) (r : Bool) → has a level k ≡ true → r ≡ begins_one n (at a) (size a) gone k → r ≡ true → some (suc k) ≡ true
-  one_begins k r it is begins = or_right (some k) (past k) (told k r it is ∙ begins)
-
+  -- one that does not leaves what those before it tell
   pub one_fails : (k : ℕ) (r : Bool) (next : Option ℕ) → has a level k ≡ true → r ≡ begins_one n (at a) (size a) gone k → r ≡ false → next ≡ latest_at (at a) level k
       → some (upto next) ≡ some (suc k)
   one_fails k r next it is fails goes = ap (λ (o : Option ℕ). some (upto o)) goes ∙ sym (visited k) ∙ sym (passed k (told k r it is ∙ fails))

@@ -1,5 +1,5 @@
 -- Seeking a level through the bucket of its hash passes over no provision that has it.
-use Rattle.std.proofs.Common.{◌≡◌, ◌∙◌, sym, ap, refl, subst, ℕ, zero, suc, ◌-◌, ◌<◌, ◌≤◌, Bool, true, false, cond, List, length, get_or, Option, Some, None, IfSome, is_some, inl, inr, arith}
+use Rattle.std.proofs.Common.{◌≡◌, ◌∙◌, sym, ap, ℕ, zero, suc, ◌-◌, ◌<◌, ◌≤◌, Bool, true, false, List, length, get_or, Some, inl, inr, arith}
 use Rattle.std.specs.Str.{bytes_eq}
 use Rattle.std.proofs.lemmas.Bool.{cases_eq, cond-true, cond-false, false_from_ne_true}
 use Rattle.std.proofs.lemmas.List.{length-map}
@@ -16,11 +16,6 @@ use Rattle.act_tree.proofs.LaidDown.{laid_slot}
 use Rattle.act_tree.proofs.LevelIndexLatest.{latest_none, latest_here, latest_on}
 use Rattle.act_tree.proofs.LevelIndexMoves.{bucket_at}
 use Rattle.act_tree.proofs.Texts.{same_text}
-
--- an option that has a value, which is known
-pub some_is : (o : Option ℕ) (k : ℕ) → is_some o ≡ true → IfSome o (λ i. i ≡ k) → o ≡ Some k
-some_is None k some is = absurd cc
-some_is (Some i) k some is = ap (λ (j : ℕ). Some j) is
 
 -- the index has as many hashes as there are slots
 pub as_many_hashes : (a : Arena) → length a.levels.hashes ≡ size a
@@ -63,10 +58,7 @@ module _ (a : Arena) (level : List ℕ) where
         ∙ ap (latest_at (at a) level) (sym (latest_on places n bucket other))
   ]
 
-  -- one step: the last of the first ones has the level, or is passed
-  pub step_ends : (end : ℕ) → 0 < end → has (end - 1) ≡ true → latest_at (at a) level end ≡ Some (end - 1)
-  step_ends end some it = (let more : end ≡ suc (end - 1) = omega arith in ap (latest_at (at a) level) more ∙ latest_is (end - 1) it)
-
+  -- one step: the last of the first ones is passed, for the last before it of the bucket
   pub step_on : (end next : ℕ) → 0 < end → end ≤ size a → has (end - 1) ≡ false → EndsIn a.levels (level_hash level) end → next ≡ latest places (end - 1) (get_or places (end - 1) 0)
       → latest_at (at a) level next ≡ latest_at (at a) level end
   step_on end next some low other here is =

@@ -1,4 +1,4 @@
-use Rattle.std.proofs.Common.{◌∙◌, ap, ℕ, List, [], ◌∷◌}
+use Rattle.std.proofs.Common.{◌∙◌, ap, ℕ, [], ◌∷◌}
 use Rattle.eid_paths.specs.Elements.{element_word}
 use Rattle.act_tree.specs.LevelHashes.{hash_on}
 use Rattle.act_tree.proofs.HashedLevels.{hash_parts}

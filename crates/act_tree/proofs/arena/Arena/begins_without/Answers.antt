@@ -1,8 +1,7 @@
-use Rattle.std.proofs.Common.{◌≡◌, ◌∙◌, ◌<◌, ℕ, List, Option, Some, true, sym, ap, subst, suc, arith}
+use Rattle.std.proofs.Common.{◌∙◌, ◌<◌, ℕ, List, Option, Some, sym, ap, subst, arith}
 use Rattle.eid_paths.specs.Levels.{level_text}
 use Rattle.act_tree.specs.LevelsOfNodes.{some_past}
 use Rattle.act_tree.specs.Slots.{at, size}
-use Rattle.act_tree.proofs.SoughtLevels.{has}
 use Rattle.act_tree.proofs.LevelsVisited.{IsMet, upto, met, upto_le, visited, one_fails}
 use Rattle.act_tree.proofs.arena.Arena.begins_without.Goals as goal
 

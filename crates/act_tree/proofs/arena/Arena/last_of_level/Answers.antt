@@ -1,4 +1,4 @@
-use Rattle.std.proofs.Common.{◌≡◌, ◌∙◌, ◌≤◌, ℕ, List, length, sym, ap, subst, arith}
+use Rattle.std.proofs.Common.{◌≡◌, ◌∙◌, ℕ, List, length, sym, ap, arith}
 use Rattle.eid_paths.specs.Levels.{level_text}
 use Rattle.act_tree.specs.LevelHashes.{level_hash}
 use Rattle.act_tree.specs.LevelIndex.{bucket_of, buckets, latest, last_in}
