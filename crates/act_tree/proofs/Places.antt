@@ -118,6 +118,11 @@ pub placed_child : (t : Tree) (i j n : ℕ) (ks : List ℕ) → has_node t i ≡
 placed_child t i j n ks node other up kids is =
     ap (λ ls. slice_get ls n) (sym kids) ∙ ap (slice_get ks) is ∙ place_holds i ks (listed_there t i j ks node other up kids)
 
+-- the parent of a node has it among its children
+pub child_there : (t : Tree) (i j : ℕ) → has_node t i ≡ true → (i ≡ 0 → ⊥) → j ≡ parent_at t i → (place : ℕ) × (slice_get (children_at t j) place ≡ Some i)
+child_there t i j node other up =
+    (place_from 0 i (children_at t j), placed_child t i j (place_from 0 i (children_at t j)) (children_at t j) node other up refl refl)
+
 pub placed_before : (t : Tree) (i j n : ℕ) (ks : List ℕ) → has_node t i ≡ true → (i ≡ 0 → ⊥) → j ≡ parent_at t i → ks ≡ children_at t j → n ≡ place_from 0 i ks
     → (new : Branches Provision) → grafted (provision_at t j).wid n new (tree_view t).body ≡ changed (before new) (provision_at t i).wid (tree_view t).body
 unfolding has_node children_at provision_at tree_view parent_at

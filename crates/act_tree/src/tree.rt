@@ -642,6 +642,7 @@ impl Tree {
         requires provision { id ≡ 0 → ⊥ }
         ensures number { result ≡ parent_at self.now id }
         ensures node { has_node self.now result ≡ true }
+        ensures child { (place : ℕ) × (slice_get (children_at self.now result) place ≡ Some id) }
         ensures depth { depth_of (provision_at self.now id).wid (tree_view self.now).body
             ≡ depth_of (provision_at self.now result).wid (tree_view self.now).body + 1 }
     {

@@ -46,8 +46,7 @@ fn node_above(tree: &Tree, id: NodeId) -> NodeId
     if tree.numbering().has(tree.provision(id).element) {
         return tree.root();
     }
-    let (parent, _place) = tree.place_of(id);
-    parent
+    tree.parent(id)
 }
 
 fn change_of(tree: &Tree, named: &[(NodeId, Num)], id: NodeId) -> NumChange

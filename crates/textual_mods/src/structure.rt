@@ -87,7 +87,7 @@ fn substitute_node<L: Ledger>(
     ensures step { steps.new ≡ steps.old + 1 }
 {
     nums_are_kept(new);
-    let (parent, _place) = tree.place_of(id);
+    let parent = tree.parent(id);
     let gone = Some(id);
     let fault = or_step(fault_of_bringing(alloc, tree, &gone, parent, new), steps)?;
     match fault {

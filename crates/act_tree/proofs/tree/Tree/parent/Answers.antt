@@ -2,7 +2,7 @@ use Rattle.std.proofs.Common.{rules, ◌≡◌, ◌+◌, ◌<◌, ℕ, length, r
 use Rattle.act_tree.specs.Depths.{depth_of}
 use Rattle.act_tree.specs.Seen.{tree_view, provision_at, parent_at}
 use Rattle.act_tree.proofs.HowDeep.{deeper}
-use Rattle.act_tree.proofs.Places.{parent_climbs, parent_is}
+use Rattle.act_tree.proofs.Places.{child_there, parent_climbs, parent_is}
 use Rattle.act_tree.proofs.SlotsOfNodes.{node_within}
 use Rattle.act_tree.proofs.tree.Tree.parent.Goals as goal
 
@@ -17,6 +17,11 @@ returns-clause-number c = parent_is c.args.self.now c.args.id c.place.result c.i
 pub returns-clause-node : goal.returns-clause-node
 returns-clause-node c =
     parent_climbs c.args.self.now c.args.id c.index.result.now.above c.requires.node c.requires.provision
+    (parent_is c.args.self.now c.args.id c.place.result c.index.result.now c.requires.node c.place.ensures c.index.ensures)
+
+pub returns-clause-child : goal.returns-clause-child
+returns-clause-child c =
+    child_there c.args.self.now c.args.id c.index.result.now.above c.requires.node c.requires.provision
     (parent_is c.args.self.now c.args.id c.place.result c.index.result.now c.requires.node c.place.ensures c.index.ensures)
 
 pub returns-clause-depth : goal.returns-clause-depth
