@@ -8,7 +8,7 @@ use Rattle.law_journal.specs.declared.window.Window.{Window}
 
 module _ (bytes seen : List ℕ) (start held : ℕ) (same : take held bytes ≡ take held (drop start seen)) where
   -- so many bytes from an index on are the disk's from that place on
-  piece_same : (at m count : ℕ) → held ≡ at + m → count ≤ m → take count (drop at bytes) ≡ take count (drop (start + at) seen)
+  pub piece_same : (at m count : ℕ) → held ≡ at + m → count ≤ m → take count (drop at bytes) ≡ take count (drop (start + at) seen)
   piece_same at m count is le =
       let ours : drop at (take held bytes) ≡ take m (drop at bytes) = ap (λ h. drop at (take h bytes)) is ∙ drop-take at m bytes in
       let theirs : drop at (take held (drop start seen)) ≡ take m (drop (start + at) seen) =

@@ -29,6 +29,11 @@ fn payload_at<D: Disk>(
     ensures idle { Idles (D.outlook disk.old) (D.outlook disk.new) }
     ensures cause { HasLoadCause (D.faults disk.old) (D.faults disk.new) result }
 {
+    if let Some(bytes) = window.peek(disk, place, size) {
+        into.clear();
+        into.extend_from_slice(bytes)?;
+        return Ok(());
+    }
     into.resize(size, 0)?;
     let count = window.read(disk, place, into.as_mut_slice())?;
     if count < size {

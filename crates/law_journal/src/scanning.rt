@@ -69,8 +69,11 @@ pub fn step<D: Disk>(
     ensures idle { Idles (D.outlook disk.old) (D.outlook disk.new) }
     ensures cause { HasCause (D.faults disk.old) (D.faults disk.new) result }
 {
-    let mut header = [0; 5];
     let wanted = (len - place).min(5) as usize;
+    if let Some(header) = window.peek(disk, place, wanted) {
+        return Ok(found_at(header, place, len));
+    }
+    let mut header = [0; 5];
     let count = window.read(disk, place, &mut header[..wanted])?;
     Ok(found_at(&header[..count], place, len))
 }

@@ -1,6 +1,6 @@
 //! Window: a piece of the disk that is kept in memory, so that many short reads cost one long one.
 
-ghost use Rattle.std.specs.Prelude.{◌≡◌, ◌+◌, ◌-◌, ◌^◌, ◌<◌, ◌≤◌, min, length, IfOk, IfSome, OnOk};
+ghost use Rattle.std.specs.Prelude.{◌≡◌, ◌+◌, ◌-◌, ◌^◌, ◌<◌, ◌≤◌, min, take, drop, length, IfOk, IfSome, OnOk};
 ghost use Rattle.desk_base.specs.Streams.{HasCause};
 ghost use Rattle.law_journal.specs.Disks.{Idles, Reads};
 ghost use Rattle.law_journal.specs.Windows as spec;
@@ -79,6 +79,20 @@ impl Window {
             return None;
         }
         Some((place - self.start) as usize)
+    }
+
+    /// So many bytes from a place on, where the piece has them all: nothing is copied.
+    pub fn peek<D: Disk>(&self, _disk: &D, place: u64, count: usize) -> Option<&[u8]>
+        requires { IsWindow (D.outlook _disk.now) self.now }
+        ensures bytes { IfSome result (λ bytes. (D.outlook _disk.now).tells
+            → bytes.now ≡ take count (drop place (D.outlook _disk.now).seen)) }
+        ensures length { IfSome result (λ bytes. length bytes.now ≡ count) }
+    {
+        let at = self.index_of(place)?;
+        if self.held - at < count {
+            return None;
+        }
+        Some(&self.bytes[at..at + count])
     }
 
     // Fills the piece from a place on.
