@@ -26,6 +26,7 @@ use Rattle.law_register.proofs.Legal.{first_kept, not_broken, IsNew, kept_rules,
 use Rattle.law_register.proofs.Lookups.{items_length}
 use Rattle.law_register.proofs.Puts.{bytes_same}
 use Rattle.law_register.proofs.Snoc.{draft_more, laws_more, ids_more}
+use Rattle.law_register.proofs.Steps.{last_is_drafter}
 
 at_most : (m n : ℕ) → nat_lt m n ≡ false → n ≤ m
 at_most m n h = grind (arith, nat_tests)
@@ -149,13 +150,14 @@ small_entry es d c kept =
     (first_false (nat_lt MOST_ENTRY_BYTES (size_of d c)) (nat_lt MOST_REGISTER_BYTES (entries_size es + size_of d c))
     (not_broken (nat_lt MOST_ENTRY_BYTES (size_of d c) || nat_lt MOST_REGISTER_BYTES (entries_size es + size_of d c)) _ kept))
 
--- all numbers of an accepted entry stay within their types
-pub can_note : (ix : Indexes) (es : List Entry) (e : Entry) → IsKept ix es → IsNew es e.drafter e.request e.command e.law → CanNote ix e
+-- whoever sent the last entry has a mark, and all numbers of an accepted entry stay within their types
+pub can_note : (ix : Indexes) (es : List Entry) (e : Entry) → IsKept ix es → IsNew es e.drafter e.request e.command e.law → CanNote ix es e
 can_note ix es e kept new =
     let rules = kept_rules es e.drafter e.command new.kept in
     let draft = kept.stands.drafts e.drafter in
     let size = small_entry es e.drafter e.command rules.register in
     record {
+      last = λ d last. kept.stands.present d ∙ last_is_drafter es d last;
       front = omega (arith, kept.stands.front, legal_front es kept.legal);
       size = omega (arith, kept.stands.size, legal_size es kept.legal, size);
       ids = λ w. omega (arith, (kept.stands.works w).ids, legal_ids w es kept.legal);

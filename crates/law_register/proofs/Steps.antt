@@ -1,6 +1,7 @@
 -- What the marks stand for, once an entry stands behind the others.
-use Rattle.std.proofs.Common.{◌≡◌, ◌∙◌, sym, ap, subst, ℕ, zero, suc, ◌+◌, ◌==◌, Bool, true, false, cond, ◌&&◌, ◌||◌, not, List, [], ◌∷◌, ◌++◌, length, filter, Option, Some, None, slice_get, refl, arith}
+use Rattle.std.proofs.Common.{◌≡◌, ◌∙◌, sym, ap, subst, ℕ, zero, suc, ◌+◌, ◌-◌, ◌==◌, Bool, true, false, cond, ◌&&◌, ◌||◌, not, List, [], ◌∷◌, ◌++◌, length, filter, Option, Some, None, slice_get, slice_range, refl, arith}
 use Rattle.std.proofs.lemmas.List.{length-append}
+use Rattle.std.proofs.lemmas.Option.{slice_get_within}
 use Rattle.std.specs.List.{list_any}
 use Rattle.std.specs.Str.{bytes_eq}
 use Rattle.law_register.specs.declared.law.act.Act.{Act}
@@ -17,11 +18,13 @@ use Rattle.law_register.specs.declared.register.verdict.Reply.{Reply}
 use Rattle.law_register.specs.Register.Drafts.{is_by, additions, added, redrafted, draft_of, items_but}
 use Rattle.law_register.specs.Register.Indexes.{told, told_at, work_named, act_of, body_of, marks_work, RequestStands, ItemsStand, DraftStands, EnactedStands, IdStands, added_of, items_in, items_after}
 use Rattle.law_register.specs.Register.KnownIds.{IdFacts}
+use Rattle.law_register.specs.Register.Marks.{IsOfLast}
 use Rattle.law_register.specs.Register.Verdicts.{reply_to, request_of, drafters}
 use Rattle.std.specs.Option.{option_or}
+use Rattle.indexmap.proofs.MapLemmas.{split_last}
 use Rattle.law_register.proofs.Lookups.{items_filter, mark_works}
-use Rattle.law_register.proofs.Puts.{bytes_same, bytes_either, number_same, left_true, right_true}
-use Rattle.law_register.proofs.Snoc.{found_here, added_more, draft_more, request_more, drafters_more}
+use Rattle.law_register.proofs.Puts.{bytes_are, bytes_same, bytes_either, number_same, left_true, right_true}
+use Rattle.law_register.proofs.Snoc.{found_here, added_more, draft_more, request_more, with_drafter, drafters_more}
 
 -- what stands at an index stays there
 pub entry_stays : (es : List Entry) (e : Entry) (i : ℕ) (x : Entry) → slice_get es i ≡ Some x → slice_get (es ++ e ∷ []) i ≡ Some x
@@ -196,6 +199,25 @@ drafters_step es e d old new h put =
         swap own (list_any (bytes_eq d) (drafters es))
         ∙ ap (λ b. list_any (bytes_eq d) (drafters es) || b) (sym mine ∙ bytes_either e.drafter d)
         ∙ sym (any_last (bytes_eq d) (drafters es) e.drafter)
+
+with_drafter_has : (d : List ℕ) (seen : List (List ℕ)) → list_any (bytes_eq d) (with_drafter d seen) ≡ true
+with_drafter_has d seen = by (list_any (bytes_eq d) seen) refl
+  where
+    with_true : (b : Bool) → b || true ≡ true
+    with_true true = refl
+    with_true false = refl
+
+    by : (b : Bool) → list_any (bytes_eq d) seen ≡ b → list_any (bytes_eq d) (cond b seen (seen ++ d ∷ [])) ≡ true
+    by true has = has
+    by false none = any_last (bytes_eq d) seen d ∙ ap (λ b. list_any (bytes_eq d) seen || b) (bytes_are d d refl) ∙ with_true (list_any (bytes_eq d) seen)
+
+-- who sent the last entry is one of the drafters
+pub last_is_drafter : (es : List Entry) (d : List ℕ) → IsOfLast es d → list_any (bytes_eq d) (drafters es) ≡ true
+last_is_drafter es d (e, is, of) =
+    let front = slice_range es 0 (length es - 1) in
+    let split = split_last es e is (omega (arith, slice_get_within es (length es - 1) e is)) in
+    ap (λ (l : List Entry). list_any (bytes_eq d) (drafters l)) split ∙ ap (list_any (bytes_eq d)) (drafters_more front e)
+    ∙ ap (λ (w : List ℕ). list_any (bytes_eq d) (with_drafter w (drafters front))) of ∙ with_drafter_has d (drafters front)
 
 pub count_step : (es : List Entry) (e : Entry) (old new : ℕ) (had : Bool) → old ≡ length (drafters es) → had ≡ list_any (bytes_eq e.drafter) (drafters es)
     → new ≡ old + cond had 0 1 → new ≡ length (drafters (es ++ e ∷ []))

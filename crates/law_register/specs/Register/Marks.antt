@@ -1,5 +1,5 @@
 -- What one more entry makes of the marks of the indexes.
-use Rattle.std.specs.Prelude.{◌≡◌, ℕ, ◌+◌, ◌<◌, ◌≤◌, ◌^◌, ◌==◌, ◌&&◌, ◌||◌, List, [], ◌∷◌, ◌++◌, length, filter, map, Option, Some, is_some, if◌then◌else◌}
+use Rattle.std.specs.Prelude.{◌≡◌, ℕ, ◌+◌, ◌-◌, ◌<◌, ◌≤◌, ◌^◌, ◌==◌, ◌&&◌, ◌||◌, true, List, [], ◌∷◌, ◌++◌, length, filter, map, slice_get, Option, Some, is_some, if◌then◌else◌}
 use Rattle.std.specs.Option.{option_map_or}
 use Rattle.std.specs.Str.{bytes_eq}
 use Rattle.indexmap.specs.IndexMap.{index_map_len}
@@ -73,8 +73,13 @@ new_step ix entries e = record {
   before = last_before (work_mark ix) (concerned_by entries (id_mark ix) e.command);
 }
 
--- all numbers stay within their types
-pub record CanNote (ix : Indexes) (e : Entry) : Type 0 where
+-- the last of these entries is of a drafter
+abbrev pub IsOfLast : List Entry → List ℕ → Type 0
+IsOfLast entries drafter = (last : Entry) × (slice_get entries (length entries - 1) ≡ Some last) × (last.drafter ≡ drafter)
+
+-- whoever sent the last entry has a mark, and all numbers stay within their types
+pub record CanNote (ix : Indexes) (entries : List Entry) (e : Entry) : Type 0 where
+  pub last : (drafter : List ℕ) → IsOfLast entries drafter → is_some (drafter_mark ix drafter) ≡ true
   pub front : ix.front ≤ 65535
   pub size : ix.size + entry_size e < 2 ^ 64
   pub ids : (work : List ℕ) → ids_in (work_mark ix work) ≤ 512

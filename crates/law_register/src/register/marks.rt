@@ -1,6 +1,6 @@
 //! Marks: what one more entry makes of those of each index. None of these calls takes memory.
 
-ghost use Rattle.std.specs.Prelude.{◌≡◌, ◌||◌, ◌==◌, ◌&&◌, ◌+◌, ◌-◌, ◌<◌, ◌≤◌, ◌^◌, ℕ, List, [], ◌∷◌, ◌++◌, length, filter, map, slice_get, take, drop, Option, Some, None, IfSome, IfNone, option_map, is_some, if◌then◌else◌, vec_len, vec_capacity};
+ghost use Rattle.std.specs.Prelude.{◌≡◌, ◌||◌, ◌==◌, ◌&&◌, ◌+◌, ◌-◌, ◌<◌, ◌≤◌, ◌^◌, ℕ, List, [], ◌∷◌, ◌++◌, length, filter, map, slice_get, take, drop, Option, Some, None, IfSome, IfNone, IsTrue, true, option_map, is_some, if◌then◌else◌, vec_len, vec_capacity};
 ghost use Rattle.std.specs.Str.{bytes_eq};
 ghost use Rattle.indexmap.specs.IndexMap.{get_by, index_map_len, spare};
 ghost use Rattle.law_register.specs.Answer.Counted.{is_same_id};
@@ -189,11 +189,33 @@ fn leaves_drafts(command: &Command) -> bool
     )
 }
 
-// A mark takes a kilobyte, so one that would stay as it is is not moved.
-fn stays_as_it_is(drafters: &Drafters, drafter: &Drafter, command: &Command) -> bool
+// Whether the last entry is of this drafter.
+fn is_last(entries: &[Entry], drafter: &Drafter) -> bool
+    ensures { IsTrue result → marking.IsOfLast entries.now drafter.now }
+{
+    match entries.last() {
+        Some(last) => last.drafter == *drafter,
+        None => false,
+    }
+}
+
+// A mark takes a kilobyte, so one that would stay as it is is not moved; who sent the last entry has one, and is not looked up.
+fn stays_as_it_is(
+    drafters: &Drafters,
+    drafter: &Drafter,
+    entries: &[Entry],
+    command: &Command,
+) -> bool
+    requires last { (d : List ℕ) → marking.IsOfLast entries.now d → is_some (drafter_in drafters.now d) ≡ true }
     ensures { result ≡ (spec.leaves_drafts command.now && is_some (drafter_in drafters.now drafter.now)) }
 {
-    leaves_drafts(command) && drafters.get(&drafter_key(drafter)).is_some()
+    if !leaves_drafts(command) {
+        return false;
+    }
+    if is_last(entries, drafter) {
+        return true;
+    }
+    drafters.get(&drafter_key(drafter)).is_some()
 }
 
 /// Notes what a command of a drafter, at this index, makes of the draft.
@@ -204,6 +226,7 @@ pub fn note_draft(
     at: usize,
     command: &Command,
 )
+    requires last { (d : List ℕ) → marking.IsOfLast entries.now d → is_some (drafter_in drafters.old d) ≡ true }
     requires room { 2 ≤ spare drafters.old }
     requires few { length (items_in (drafter_in drafters.old drafter.now)) + additions command.now ≤ 64 }
     requires small { added_of (drafter_in drafters.old drafter.now) ≤ 536870912 }
@@ -220,7 +243,7 @@ pub fn note_draft(
     ensures count { index_map_len drafters.new
         ≡ index_map_len drafters.old + (if is_some (drafter_in drafters.old drafter.now) then 0 else 1) }
 {
-    if !stays_as_it_is(drafters, drafter, command) {
+    if !stays_as_it_is(drafters, drafter, entries, command) {
         redraft(drafters, drafter, entries, at, command);
     }
 }
@@ -558,7 +581,7 @@ impl Indexes {
 
     /// Notes an entry behind others, which gets this reply. It takes no memory.
     pub fn note(&mut self, entries: &[Entry], entry: &Entry, reply: Reply)
-        requires fits { CanNote self.old entry.now }
+        requires fits { CanNote self.old entries.now entry.now }
         requires room { 1 ≤ index_room self.old }
         ensures { IsNoted self.old self.new entries.now entry.now reply }
     {

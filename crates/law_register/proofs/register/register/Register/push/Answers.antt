@@ -1,6 +1,6 @@
 use Rattle.std.proofs.Common.{◌≡◌, ◌∙◌, sym, ap, subst, List, true}
 use Rattle.law_register.specs.declared.register.entry.Entry.{Entry}
-use Rattle.law_register.specs.Register.Marks.{IsNoted}
+use Rattle.law_register.specs.Register.Marks.{CanNote, IsNoted}
 use Rattle.law_register.specs.Register.Registers.{Contents, IsKept}
 use Rattle.law_register.specs.Register.Verdicts.{reply_to, is_accepted, verdict}
 use Rattle.law_register.proofs.Legal.{accepted_new}
@@ -13,8 +13,10 @@ note-requires-clause-fits c =
     let e = c.args.entry in
     let E = c.self.inside.entries.items in
     let P : List Entry → Type 0 = λ es. is_accepted e.law (verdict es e.drafter e.request e.command) ≡ true in
-    can_note c.self.inside.indexes E e c.self.invariant
-    (accepted_new E e.drafter e.request e.command e.law (subst P (sym (ap (λ (s : Contents). s.entries) c.self.view_is)) c.requires.accepted))
+    let C : List Entry → Type 0 = λ es. CanNote c.self.inside.indexes es e in
+    subst C (sym c.deref.ensures.value)
+    (can_note c.self.inside.indexes E e c.self.invariant
+    (accepted_new E e.drafter e.request e.command e.law (subst P (sym (ap (λ (s : Contents). s.entries) c.self.view_is)) c.requires.accepted)))
 
 pub invariant_of-self : goal.invariant_of-self
 invariant_of-self c =
