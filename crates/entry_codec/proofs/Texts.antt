@@ -33,6 +33,13 @@ text_broken n bytes front rest e never = ap (then_test is_utf8 (length bytes)) e
     by true is = absurd (never (IsUtf8-from_is_utf8 front is))
     by false is = refl
 
+-- a text that keeps its rule is read where its bytes come
+pub ruled_read : (rule : List ℕ → Bool) (n : ℕ) (bytes t rest : List ℕ) → chunk_read n bytes ≡ Ok (t, rest) → IsUtf8 t → rule t ≡ true
+    → (ruled_text rule n).read bytes ≡ Ok (t, rest)
+ruled_read rule n bytes t rest e utf8 kept =
+    ap (then_test rule (length bytes)) (text_read n bytes t rest t e refl utf8)
+    ∙ ap (chosen t rest (length bytes)) kept
+
 -- what is read as the IRI of a work says its own text
 pub own_text : (t : List ℕ) (w : Work) → work_of t ≡ Ok w → w.text ≡ t
 own_text t w found = let spells = work_spelled t w found in ap (λ w. w.text) spells.same ∙ sym spells.spelled

@@ -31,7 +31,7 @@ dated : (reading : Read Work) (date : IriDate) → date_read reading ≡ Some da
 dated (Ok work) date is = refl
 dated (Err fault) date is = absurd (cc is)
 
-work_named : (t : List ℕ) (date : IriDate) → date_named t ≡ Some date → is_work t ≡ true
+pub work_named : (t : List ℕ) (date : IriDate) → date_named t ≡ Some date → is_work t ≡ true
 unfolding date_named
 work_named t date is = dated (work_of t) date is
 

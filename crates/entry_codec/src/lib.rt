@@ -7,5 +7,5 @@ mod reading;
 mod writing;
 
 pub use fault::{CodecFault, DecodeFail};
-pub use reading::decode;
+pub use reading::{decode, decode_knowing};
 pub use writing::encode;

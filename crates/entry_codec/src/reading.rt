@@ -10,6 +10,7 @@ mod commands;
 mod edits;
 mod effects;
 mod entries;
+mod known;
 mod modifications;
 mod nodes;
 mod numbers;
@@ -18,7 +19,8 @@ mod texts;
 mod values;
 
 use crate::{CodecFault, DecodeFail};
-use law_register::Entry;
+use frbr_names::WorkName;
+use law_register::{Drafter, Entry};
 use reader::{Reader, Stop};
 use std::alloc::Global;
 
@@ -33,10 +35,19 @@ fn fault_at(bytes: &[u8], left: usize) -> CodecFault
 }
 
 #[tactic(auto, unfolding(crate::specs::Entries::decoding))]
-fn decoded(alloc: Global, bytes: &[u8]) -> Result<Entry, DecodeFail>
+fn decoded<'a>(
+    alloc: Global,
+    bytes: &'a [u8],
+    drafter: Option<&'a Drafter>,
+    work: Option<&'a WorkName>,
+) -> Result<Entry, DecodeFail>
     ensures { Gives (λ e. e) result (spec.decoding bytes.now) }
 {
-    let mut reader = Reader { left: bytes };
+    let mut reader = Reader {
+        left: bytes,
+        known_drafter: drafter,
+        known_work: work,
+    };
     match reader.entry(alloc) {
         Ok(entry) if reader.left.is_empty() => Ok(entry),
         Ok(_) => Err(DecodeFail::Fault(fault_at(bytes, reader.left.len()))),
@@ -55,5 +66,20 @@ pub fn decode(alloc: Global, bytes: &[u8]) -> Result<Entry, DecodeFail>
     ensures well { IfOk result (λ e. is_well_spelled e.command ≡ true) }
     ensures able { IfOk result (λ e. can_be_spelled e ≡ true) }
 {
-    decoded(alloc, bytes)
+    decoded(alloc, bytes, None, None)
+}
+
+/// The entry that bytes spell, as `decode` gives it. Where the drafter is the one that is known, or the IRI of a work is that of the
+/// work that is known, the entry shares its text, which is neither read anew nor kept once more.
+pub fn decode_knowing<'a>(
+    alloc: Global,
+    bytes: &'a [u8],
+    drafter: Option<&'a Drafter>,
+    work: Option<&'a WorkName>,
+) -> Result<Entry, DecodeFail>
+    ensures value { Gives (λ e. e) result (spec.decoding bytes.now) }
+    ensures well { IfOk result (λ e. is_well_spelled e.command ≡ true) }
+    ensures able { IfOk result (λ e. can_be_spelled e ≡ true) }
+{
+    decoded(alloc, bytes, drafter, work)
 }

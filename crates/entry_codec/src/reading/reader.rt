@@ -5,6 +5,8 @@ ghost use Rattle.entry_codec.specs.Reads.{Reads};
 ghost use Rattle.entry_codec.specs.Fields as fields;
 
 use desk_base::Memory;
+use frbr_names::WorkName;
+use law_register::Drafter;
 use std::alloc::{AllocError, AllocFailed};
 
 /// Why a reading stops.
@@ -49,10 +51,14 @@ impl<T: Drop> From<AllocFailed<T>> for Stop {
     }
 }
 
-/// The bytes that are left.
+/// The bytes that are left, and names that may come again.
 #[derive(Drop)]
 pub(crate) struct Reader<'a> {
     pub left: &'a [u8],
+    /// A drafter that is known.
+    pub known_drafter: Option<&'a Drafter>,
+    /// A work that is known.
+    pub known_work: Option<&'a WorkName>,
 }
 
 impl<'a> Reader<'a> {

@@ -9,6 +9,7 @@ ghost use Rattle.entry_codec.specs.Fields.{each};
 ghost use Rattle.entry_codec.specs.Values as spec;
 ghost use Rattle.entry_codec.specs.Values.{ruled_text};
 
+use super::known::{known_drafter, known_work};
 use super::reader::{Reader, Stop};
 use act_tree::Refs;
 use desk_base::Text;
@@ -43,6 +44,10 @@ impl<'a> Reader<'a> {
     fn drafter_of(&mut self, alloc: Global, len: usize) -> Result<Drafter, Stop>
         ensures { Reads (λ d. d) result self.new.left.now ((spec.ruled_text is_drafter len).read self.old.left.now) }
     {
+        if let Some(drafter) = known_drafter(self.left, len, self.known_drafter) {
+            self.left = &self.left[len..];
+            return Ok(drafter);
+        }
         let start = self.left.len();
         let text = self.text_of(len)?;
         match Drafter::from_text(alloc, text)? {
@@ -81,6 +86,10 @@ impl<'a> Reader<'a> {
     fn work_of(&mut self, alloc: Global, len: usize) -> Result<WorkName, Stop>
         ensures { Reads (λ w. w) result self.new.left.now ((spec.ruled_text spec.is_work len).read self.old.left.now) }
     {
+        if let Some(work) = known_work(self.left, len, self.known_work) {
+            self.left = &self.left[len..];
+            return Ok(work);
+        }
         let start = self.left.len();
         let text = self.text_of(len)?;
         match parse_work(text) {
