@@ -5,6 +5,8 @@ ghost use Rattle.law_keeper.specs.Keepers.{IsSettled, Keeps, LeavesNoMore, Leave
 ghost use Rattle.law_keeper.specs.declared.readiness.Readiness.TheVariants.{Ready};
 ghost use Rattle.law_register.specs.Law.Spelling.{is_well_spelled};
 ghost use Rattle.law_register.specs.Register.Verdicts.{verdict as said};
+ghost use Rattle.entry_codec.specs.Entries.{decoding};
+ghost use Rattle.entry_codec.specs.Reads.{Gives as GivesEntry};
 ghost use Rattle.law_office.specs.Offices.{Holds, HoldsBook, IsRight};
 ghost use Rattle.law_office.specs.Opening as spec;
 ghost use Rattle.law_office.specs.Opening.{HasOpenCause, IsOfPayload, Opens, opened_of, with_entry, with_payload};
@@ -12,9 +14,10 @@ ghost use Rattle.law_office.specs.Opening.{HasOpenCause, IsOfPayload, Opens, ope
 use crate::book::Book;
 use desk_base::Memory;
 use entry_codec::laws::decoded_is_spelled;
-use entry_codec::{CodecFault, DecodeFail, decode};
+use entry_codec::{CodecFault, DecodeFail, decode_knowing};
+use frbr_names::WorkName;
 use law_keeper::Keeper;
-use law_register::{Damage, Entry, OpenFault, Register, Verdict, laws};
+use law_register::{Command, Damage, Entry, Modification, OpenFault, Register, Verdict, laws};
 use std::alloc::Global;
 use viewpoints::Past;
 
@@ -26,23 +29,6 @@ fn order_rule(law: Option<u32>, verdict: &Verdict) -> Option<u8>
         Verdict::Accepted { law: number, .. } => { if law == *number { None } else { Some(0) } }
         Verdict::Repeat(_) => Some(1),
         Verdict::Refused(rule) => Some(rule.number()),
-    }
-}
-
-// Gives an entry the text in which the last one has its drafter's name, where it is the same: most of what is opened
-// would else be a text for each entry.
-fn share_name(register: &Register, entry: &mut Entry)
-    ensures { entry.new ≡ entry.old }
-{
-    let count = register.len();
-    if count == 0 {
-        return;
-    }
-    let last = &register.entry(count - 1).drafter;
-    if *last == entry.drafter {
-        if let Ok(name) = last.copy() {
-            entry.drafter = name;
-        }
     }
 }
 
@@ -58,8 +44,6 @@ fn add_judged(register: &mut Register, entry: Entry, verdict: &Verdict) -> Resul
 {
     match order_rule(entry.law, verdict) {
         None => {
-            let mut entry = entry;
-            share_name(register, &mut entry);
             register.push(entry);
             Ok(())
         }
@@ -94,16 +78,64 @@ fn add_entry(alloc: Global, register: &mut Register, entry: Entry) -> Result<(),
     }
 }
 
+// The entry at an index, if there is one.
+fn entry_at(register: &Register, index: usize) -> Option<&Entry> {
+    if index < register.len() {
+        Some(register.entry(index))
+    } else {
+        None
+    }
+}
+
+// The work from which the modification of a command comes, if it brings one.
+fn source_of(command: &Command) -> Option<&WorkName> {
+    let (Command::Correct { body, .. } | Command::DraftAdd { body, .. }) = command else {
+        return None;
+    };
+    match body {
+        Modification::Textual { source, .. }
+        | Modification::Force { source, .. }
+        | Modification::Efficacy { source, .. } => Some(&source.href),
+    }
+}
+
+// Decodes a payload. The entry shares the name of the drafter of the last entry, and that of the work of a source, where they come
+// again: most of what is opened would else be a text for each entry.
+fn decode_next(
+    alloc: Global,
+    register: &Register,
+    like: usize,
+    payload: &[u8],
+) -> Result<Entry, DecodeFail>
+    ensures value { GivesEntry (λ e. e) result (decoding payload.now) }
+    ensures well { IfOk result (λ e. is_well_spelled e.command ≡ true) }
+{
+    let drafter = match entry_at(register, register.len().wrapping_sub(1)) {
+        Some(entry) => Some(&entry.drafter),
+        None => None,
+    };
+    let work = match entry_at(register, like) {
+        Some(entry) => source_of(&entry.command),
+        None => None,
+    };
+    decode_knowing(alloc, payload, drafter, work)
+}
+
 // Appends the entry that a payload spells.
 #[tactic(auto, unfolding(crate::specs::Opening::with_payload))]
-fn add_payload(alloc: Global, register: &mut Register, payload: &[u8]) -> Result<(), OpenFault>
+fn add_payload(
+    alloc: Global,
+    register: &mut Register,
+    like: usize,
+    payload: &[u8],
+) -> Result<(), OpenFault>
     ensures adds { Opens (λ _. register.new.entries) result (with_payload register.old.entries payload.now) }
     ensures spelled { OnOk result (spec.spellings register.new.entries
         ≡ spec.spellings register.old.entries ++ payload.now ∷ []) }
     ensures refuses { IfErr result IsOfPayload }
 {
     decoded_is_spelled(payload);
-    match decode(alloc, payload) {
+    match decode_next(alloc, register, like, payload) {
         Ok(entry) => add_entry(alloc, register, entry),
         Err(DecodeFail::Fault(CodecFault { place, byte })) => {
             laws::entries_are_few(register);
@@ -115,6 +147,15 @@ fn add_payload(alloc: Global, register: &mut Register, payload: &[u8]) -> Result
             }))
         }
         Err(DecodeFail::Memory) => Err(OpenFault::Memory),
+    }
+}
+
+// The index of the last entry that brings a modification: the one before, or the one at the end.
+fn last_source(register: &Register, before: usize) -> usize {
+    let last = register.len().wrapping_sub(1);
+    match entry_at(register, last) {
+        Some(entry) if source_of(&entry.command).is_some() => last,
+        _ => before,
     }
 }
 
@@ -138,8 +179,10 @@ fn load_entries<K: Keeper>(
 {
     let mut payload = Vec::new(alloc);
     let mut end = 0;
+    let mut like = 0;
     'walk: while let Some(next) = keeper.load(end, &mut payload)? {
-        add_payload(alloc, register, payload.as_slice())?;
+        add_payload(alloc, register, like, payload.as_slice())?;
+        like = last_source(register, like);
         end = next;
     }
     Ok(end)
