@@ -87,6 +87,11 @@ fn entry_at(register: &Register, index: usize) -> Option<&Entry> {
     }
 }
 
+// The last entry, if there is one.
+fn last_entry(register: &Register) -> Option<&Entry> {
+    entry_at(register, register.len().saturating_sub(1))
+}
+
 // The work from which the modification of a command comes, if it brings one.
 fn source_of(command: &Command) -> Option<&WorkName> {
     let (Command::Correct { body, .. } | Command::DraftAdd { body, .. }) = command else {
@@ -99,8 +104,9 @@ fn source_of(command: &Command) -> Option<&WorkName> {
     }
 }
 
-// Decodes a payload. The entry shares the name of the drafter of the last entry, and that of the work of a source, where they come
-// again: most of what is opened would else be a text for each entry.
+// Decodes a payload. The entry shares the name of the drafter of the last entry, and that of the work of the last
+// source, which is that of the entry at the index `like`, where they come again: most of what is opened would else be a
+// text for each entry.
 fn decode_next(
     alloc: Global,
     register: &Register,
@@ -110,7 +116,7 @@ fn decode_next(
     ensures value { GivesEntry (λ e. e) result (decoding payload.now) }
     ensures well { IfOk result (λ e. is_well_spelled e.command ≡ true) }
 {
-    let drafter = match entry_at(register, register.len().wrapping_sub(1)) {
+    let drafter = match last_entry(register) {
         Some(entry) => Some(&entry.drafter),
         None => None,
     };
@@ -121,7 +127,7 @@ fn decode_next(
     decode_knowing(alloc, payload, drafter, work)
 }
 
-// Appends the entry that a payload spells.
+// Appends the entry that a payload spells; `like` is the index of the last entry with a source.
 #[tactic(auto, unfolding(crate::specs::Opening::with_payload))]
 fn add_payload(
     alloc: Global,
@@ -150,11 +156,10 @@ fn add_payload(
     }
 }
 
-// The index of the last entry that brings a modification: the one before, or the one at the end.
+// The index of the last entry with a source, where it was this one before the entry at the end came.
 fn last_source(register: &Register, before: usize) -> usize {
-    let last = register.len().wrapping_sub(1);
-    match entry_at(register, last) {
-        Some(entry) if source_of(&entry.command).is_some() => last,
+    match last_entry(register) {
+        Some(entry) if source_of(&entry.command).is_some() => register.len().saturating_sub(1),
         _ => before,
     }
 }
