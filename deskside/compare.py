@@ -59,14 +59,16 @@ def row(wid, one, other):
             "labels": [label(one), label(other)], "pieces": marked(one["content"], other["content"]) if one["content"] != other["content"] else []}
 
 
+def joined(table, answers):
+    """The rows of a comparison, of the desk's table and its answers on both days."""
+    by_eid = [{node["eId"]: node for node, _, _ in desk.provisions(it)} for it in answers]
+    return [row(it["wId"], by_eid[0].get(it["first"]), by_eid[1].get(it["second"])) for it in table]
+
+
 def rows(dossier, first, second, reading="force"):
     """The rows of a comparison, and both answers."""
     answers = [desk.text(dossier, day, reading)[0] for day in (first, second)]
-    by_eid = [{node["eId"]: node for node, _, _ in desk.provisions(it)} for it in answers]
-    found = []
-    for it in register.correspondence(dossier, first, second):
-        found.append(row(it["wId"], by_eid[0].get(it["first"]), by_eid[1].get(it["second"])))
-    return found, answers
+    return joined(register.correspondence(dossier, first, second), answers), answers
 
 
 def terminal(found, first, second):
@@ -92,6 +94,5 @@ def compared(name, first, second, is_html):
     if not is_html:
         return terminal(found, first, second)
     dressed = dressing.load(f"{name}.dressing.json")
-    return page.templates().get_template("compare.html").render(
-        title=dressed["work"], language=dressed["language"], day="", first=first, second=second, rows=found, line=writing.LINE,
-        expressions=[it["expression"] for it in answers])
+    return page.render("compare.html", title=dressed["work"], language=dressed["language"], day="", first=first, second=second, rows=found,
+                       expressions=[it["expression"] for it in answers])

@@ -25,6 +25,22 @@ def made(amended, lost):
     }
 
 
+PLAIN = """<akomaNtoso xmlns="{space}"><act name="act"><meta><identification source="#desk">
+<FRBRWork><FRBRthis value="{work}/!main"/><FRBRuri value="{work}"/><FRBRdate date="{date}" name="generation"/><FRBRauthor href="#desk"/><FRBRcountry value="{country}"/></FRBRWork>
+<FRBRExpression><FRBRthis value=""/><FRBRuri value=""/><FRBRdate date="{date}" name="generation"/><FRBRauthor href="#desk"/><FRBRlanguage language="{language}"/></FRBRExpression>
+<FRBRManifestation><FRBRthis value=""/><FRBRuri value=""/><FRBRdate date="{date}" name="generation"/><FRBRauthor href="#desk"/></FRBRManifestation>
+</identification></meta><body/></act></akomaNtoso>"""
+
+
+def plain(act):
+    """The dressing of an act that came to the desk without one."""
+    work = act["FRBRuri"]
+    shell = PLAIN.format(space=forms.NAMESPACE, work=work, date=act["FRBRdate"], country=work.split("/")[2][:2], language=act["FRBRlanguage"])
+    body = {"shell": shell, "eId": "body", "num": "", "heading": "", "content": ""}
+    return {"format": FORMAT, "work": work, "date": act["FRBRdate"], "language": act["FRBRlanguage"], "numbering": act["numbering"], "wids": {},
+            "shells": {"body": body}, "sources": {}, "lost": []}
+
+
 def load(path):
     with open(path, encoding="utf-8") as it:
         found = json.load(it)

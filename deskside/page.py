@@ -21,6 +21,15 @@ def templates():
     return jinja2.Environment(loader=jinja2.FileSystemLoader(TEMPLATES), autoescape=True, undefined=jinja2.StrictUndefined, trim_blocks=True, lstrip_blocks=True)
 
 
+def style():
+    with open(os.path.join(TEMPLATES, "style.css"), encoding="utf-8") as it:
+        return Markup(it.read())
+
+
+def render(name, **shown):
+    return templates().get_template(name).render(style=style(), line=writing.LINE, **shown)
+
+
 class Page:
     """The body of a document as HTML. Notes go to the end."""
 
@@ -135,7 +144,17 @@ def title_of(document):
     return ""
 
 
-def parts(dressed, dossier, answer, day):
+def unapplied_of(modifications, answer):
+    """What could not be applied, each with its cause in words."""
+    found = []
+    for it in answer["unapplied"]:
+        modification = writing.inner(modifications[it["id"]])
+        found.append({"id": it["id"], "cause": it["cause"], "words": forms.CAUSES.get(it["cause"], it["cause"]), "type": modification["type"],
+                      "source": modification["source"]["href"], "target": writing.target(modification)})
+    return found
+
+
+def parts(dressed, modifications, answer, day):
     """What a page shows of a document."""
     page = Page()
     body = etree.Element("div")
@@ -150,19 +169,14 @@ def parts(dressed, dossier, answer, day):
         it = akn.first(dressed.document, name)
         if it is not None:
             page.children(it, etree.SubElement(back, "div", {"class": name}), 2)
-    unapplied = []
-    for it in answer["unapplied"]:
-        modification = next(iter(dossier["modifications"][int(it["id"].partition(".")[0]) - 2].values()))
-        unapplied.append({"id": it["id"], "cause": it["cause"], "words": forms.CAUSES.get(it["cause"], it["cause"]), "type": modification["type"],
-                          "source": modification["source"]["href"], "target": writing.target(modification)})
     return {
         "title": title_of(dressed.document) or dressed.dressing["work"], "language": dressed.dressing["language"], "work": dressed.dressing["work"],
         "expression": answer["expression"], "day": day, "reading": answer["reading"], "bears": answer["bears"], "viewpoint": answer["viewpoint"],
-        "front": html_of(front), "body": html_of(body), "back": html_of(back), "notes": [html_of(it) for it in page.noted()], "unapplied": unapplied,
-        "lost": dressed.dressing["lost"], "plain": dressed.plain, "line": writing.LINE,
+        "front": html_of(front), "body": html_of(body), "back": html_of(back), "notes": [html_of(it) for it in page.noted()], "unapplied": unapplied_of(modifications, answer),
+        "lost": dressed.dressing["lost"], "plain": dressed.plain,
     }
 
 
-def text(dressing, dossier, answer, answered, day):
-    dressed = writing.document(dressing, dossier, answer, answered, day)
-    return templates().get_template("text.html").render(parts(dressed, dossier, answer, day))
+def text(dressing, modifications, answer, answered, day):
+    dressed = writing.document(dressing, modifications, answer, answered, day)
+    return render("text.html", **parts(dressed, modifications, answer, day))

@@ -10,18 +10,23 @@ from dressing import Dressed
 LINE = "The words are proved, their dress is tested."
 
 
-def textual(modification):
-    return next(iter(modification.values())), next(iter(modification))
+def inner(modification):
+    return next(iter(modification.values()))
 
 
-def document(dressing, dossier, answer, answered, day):
-    """The document of a day. answered: the bytes of the answer, whose sum it carries."""
+def numbered(dossier):
+    """The modifications of a dossier by their ids."""
+    return {f"{at}.1": it for at, it in enumerate(dossier["modifications"], 2)}
+
+
+def document(dressing, modifications, answer, answered, day):
+    """The document of a day. modifications: those known, by their ids; answered: the bytes of the answer, whose sum it carries."""
     dressed = Dressed(dressing, answer)
     meta = akn.first(dressed.document, "meta")
     identify(meta, dressing, answer, day)
-    if dossier["modifications"]:
-        amend(meta, dossier, dressing, answer)
-    tell(meta, dressing, dossier, answer, answered, dressed)
+    if answer["applied"]:
+        amend(meta, modifications, dressing, answer)
+    tell(meta, dressing, modifications, answer, answered, dressed)
     return dressed
 
 
@@ -55,12 +60,9 @@ def part(meta, name, before, source="#lawdesk"):
     return found
 
 
-def amend(meta, dossier, dressing, answer):
+def amend(meta, modifications, dressing, answer):
     """Lists what was applied: an event, a group of days and a passive modification for each."""
     order = ("references", "notes", "proprietary", "presentation")
-    applied = [it for it in answer["applied"]]
-    if not applied:
-        return
     lifecycle = part(meta, "lifecycle", ("analysis", "temporalData", *order))
     analysis = part(meta, "analysis", ("temporalData", *order))
     passive = akn.first(analysis, "passiveModifications")
@@ -72,8 +74,8 @@ def amend(meta, dossier, dressing, answer):
         else:
             analysis.insert(0, passive)
     days = part(meta, "temporalData", order)
-    for number in applied:
-        modification, _ = textual(dossier["modifications"][int(number.partition(".")[0]) - 2])
+    for number in answer["applied"]:
+        modification = inner(modifications[number])
         name = number.replace(".", "-")
         period = modification["force"]
         source = dressing["sources"].get(number, {"work": modification["source"]["href"], "eId": ""})
@@ -96,7 +98,7 @@ def target(modification):
     return modification["renumber"][0]["wId"]
 
 
-def tell(meta, dressing, dossier, answer, answered, dressed):
+def tell(meta, dressing, modifications, answer, answered, dressed):
     """What no element of the standard says stands in a part of our own: what could not be applied and why, what is not due, what was lost."""
     found = part(meta, "proprietary", ("presentation",))
     own = etree.SubElement(found, akn.ours("consolidation"), nsmap={"desk": forms.OURS})
@@ -108,8 +110,7 @@ def tell(meta, dressing, dossier, answer, answered, dressed):
     for it in answer["unapplied"]:
         line = etree.SubElement(own, akn.ours("unapplied"), id=it["id"], cause=it["cause"])
         line.text = forms.CAUSES.get(it["cause"], it["cause"])
-    for at, modification in enumerate(dossier["modifications"]):
-        number = f"{at + 2}.1"
+    for number, modification in modifications.items():
         if "textualMod" in modification and number not in due:
             etree.SubElement(own, akn.ours("notDue"), {"id": number, "from": modification["textualMod"]["force"]["from"]})
     for what in dressing["lost"]:
