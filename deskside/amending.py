@@ -21,8 +21,8 @@ class Amended:
 
     def __init__(self, act, own, place, report):
         self.act, self.modifications, self.place, self.report = act, own, place, report
-        # shells of what modifications bring, by wId; ids of the modifications by the eIds of their sources, by work
-        self.shells, self.ids, self.answers = {}, {}, {}
+        # shells of what modifications bring, by wId; ids of the modifications by the eIds of their sources, by work; what makes each, by its id
+        self.shells, self.ids, self.sources, self.answers = {}, {}, {}, {}
 
     def next_id(self):
         return len(self.modifications) + 2
@@ -102,8 +102,29 @@ class Amending:
             start = found.get("date")
         return (start, end) if start else None
 
+    def maker(self, href):
+        """The provision of this document that makes a modification."""
+        found = self.by_eid.get(href)
+        while found is not None and akn.name_of(found) not in reading.HIERARCHY:
+            found = found.getparent()
+        return found
+
+    def tell_others(self):
+        """Lists what this document says beside its modifications: its words are in no output."""
+        body, made = akn.first(self.document, "body"), {it.get("href", "").lstrip("#") for it in self.document.iter(akn.tag("source"))}
+        makers = {self.maker(it) for it in made}
+        for it in body.iter(etree.Element) if body is not None else ():
+            is_own = akn.name_of(it) in reading.HIERARCHY and not any(akn.name_of(up) == "quotedStructure" for up in it.iterancestors())
+            if is_own and it not in makers and not any(child in makers for child in it.iter(etree.Element)):
+                self.say(BESIDE, f"{it.get('eId', akn.name_of(it))} modifies nothing: '{folding.fold([it])}'", it)
+        for name in ("preface", "preamble", "conclusions", "attachments"):
+            it = akn.first(self.document, name)
+            if it is not None:
+                self.say(BESIDE, f"the {name} of an amending act: '{folding.fold([it])}'", it)
+
     def read(self):
         """Records each modification of this document that aims at the act."""
+        self.tell_others()
         active = akn.first(self.document, "meta", "analysis", "activeModifications")
         for it in active if active is not None else ():
             name = akn.name_of(it)
@@ -150,9 +171,16 @@ class Amending:
         shells, mod = made
         self.amended.shells.update(shells)
         self.amended.ids[(self.work, element.get("eId", ""))] = self.amended.ids[(self.work, href)] = f"{self.amended.next_id()}.1"
+        self.keep_source(href, element)
         self.amended.modifications.append({"textualMod": mod})
         self.say(SAME, kind)
         return None
+
+    def keep_source(self, href, element):
+        """Keeps where the next modification comes from, and the words that make it."""
+        maker = self.maker(href)
+        words = folding.fold([maker]) if maker is not None else ""
+        self.amended.sources[f"{self.amended.next_id()}.1"] = {"work": self.work, "eId": href or element.get("eId", ""), "words": words}
 
     def edit(self, element, kind, destination, wid, mod):
         """The keys of an edit, and the shells of what it brings; or None where it is lost."""
@@ -216,7 +244,8 @@ class Amending:
 
     def renumbered(self, element, wid, mod):
         href = akn.first(element, "new").get("href", "") if akn.first(element, "new") is not None else ""
-        num = href.lstrip("#").rpartition("__")[2].rpartition("_")[2]
+        found = re.search(r"(?:\A|__|/)[a-z]+[-_]([A-Za-z0-9-]+)\Z", href.lstrip("#"))
+        num = found[1] if found else ""
         quoted = self.quoted(element, "new")
         if quoted is not None:
             num = reading.clean(folding.fold([quoted]))
@@ -230,7 +259,7 @@ class Amending:
         what = akn.name_of(element)
         if kind not in (FORCE if what == "forceMod" else EFFICACY):
             return self.lose(element, f"a {what} of a kind that the desk has not")
-        source, _ = self.source(element)
+        source, href = self.source(element)
         period = self.period(element, "force" if what == "forceMod" else "efficacy") or self.period(element, "application")
         if period is None and kind != "extraefficacy":
             return self.lose(element, f"a {kind} of {wid} without a period")
@@ -244,6 +273,7 @@ class Amending:
                 mod["days"] = {"from": period[0], **({"until": period[1]} if period[1] else {})}
             elif kind != "extraefficacy":
                 mod["date"] = period[0]
+        self.keep_source(href, element)
         self.amended.modifications.append({what: mod})
         return self.say(SAME, kind)
 

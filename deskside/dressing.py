@@ -15,13 +15,9 @@ FORMAT = "deskside 1"
 def made(amended, lost):
     """The dressing of an act that was read."""
     shells = {**amended.place.shells, **amended.shells}
-    sources = {}
-    for (work, eid), number in amended.ids.items():
-        if eid:
-            sources.setdefault(number, {"work": work, "eId": eid})
     return {
         "format": FORMAT, "work": amended.act["FRBRuri"], "date": amended.act["FRBRdate"], "language": amended.act["FRBRlanguage"],
-        "numbering": amended.act["numbering"], "wids": amended.place.wids, "shells": shells, "sources": sources, "lost": lost,
+        "numbering": amended.act["numbering"], "wids": amended.place.wids, "shells": shells, "sources": amended.sources, "lost": lost,
     }
 
 
