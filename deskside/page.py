@@ -14,6 +14,7 @@ from reading import HEADS
 TEMPLATES = os.path.join(os.path.dirname(os.path.abspath(__file__)), "templates")
 INLINE = {"b": "strong", "i": "em", "u": "u", "sup": "sup", "sub": "sub", "ins": "ins", "del": "del", "code": "code", "q": "q", "abbr": "abbr"}
 BLOCKS = {"p": "p", "table": "table", "tr": "tr", "td": "td", "th": "th", "caption": "caption", "ul": "ul", "ol": "ol", "li": "li"}
+MARK = "[Not in force or without effect on this day]"
 GROUPS = {"content", "intro", "list", "blockList", "tblock", "blockContainer", "wrapUp", "listWrapUp"}
 
 
@@ -52,7 +53,7 @@ class Page:
         if not len(title):
             found.remove(title)
         if element.get(akn.ours("bears")) == "false":
-            etree.SubElement(found, "p", {"class": "mark"}).text = "[Not in force or without effect on this day]"
+            etree.SubElement(found, "p", {"class": "mark"}).text = MARK
         self.children(element, found, depth)
         return found
 
@@ -72,6 +73,8 @@ class Page:
                     if num is not None:
                         self.inside(num, etree.SubElement(holder, "span", {"class": "num"}))
                         holder[-1].tail = " "
+                if it.get(akn.ours("bears")) == "false":
+                    etree.SubElement(holder, "p", {"class": "mark"}).text = MARK
                 self.loose(it, holder)
                 self.children(it, holder, depth)
             else:
