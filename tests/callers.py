@@ -7,13 +7,17 @@ from checks import TURNS, check
 
 
 def turned():
-    """Each edge of the form of a line, each order in which passes are joined, and one run of many turns, whose seed stands in the name of its
-    check."""
+    """Each edge of the form of a line, each order in which passes are joined, turns in which callers fall asleep, and one run of many turns,
+    whose seed stands in the name of its check."""
     rows = turns.EDGES + list(turns.orders())
     seed = time.time_ns() % 1_000_000_000
-    for name, lines in [("turns", rows), (f"turns of seed {seed}", [turns.many(seed)])]:
+    for name, lines in [("turns", rows), ("slow turns", [turns.asleep()]), (f"turns of seed {seed}", [turns.many(seed)])]:
         given = "".join(line + "\n" for line, _ in lines).encode()
-        done = subprocess.run([TURNS], input=given, stdout=subprocess.PIPE, timeout=120)
+        try:
+            done = subprocess.run([TURNS], input=given, stdout=subprocess.PIPE, timeout=120)
+        except subprocess.TimeoutExpired:
+            check(f"{name}: an end within two minutes", "none", "an end")
+            continue
         got = done.stdout.decode().split("\n")
         check(f"{name}: the status, and how many lines", (done.returncode, len(got) - 1, got[-1]), (0, len(lines), ""))
         for (line, want), line_got in zip(lines, got):

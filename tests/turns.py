@@ -30,6 +30,12 @@ def orders():
                 yield course(number, 3, shape, places)
 
 
+def asleep():
+    """Four callers with five turns each, of 50 ms every one: who waits falls asleep, and who isn't woken then waits for ever."""
+    line, told = course(11, 5, "star", (0, 0, 0, 0))
+    return "slow " + line, told
+
+
 def many(seed):
     """Four callers with 20,000 turns each, all at once."""
     return course(seed, 20_000, "star", (0, 0, 0, 0))
@@ -43,6 +49,8 @@ EDGES = [
     ("7 1 kept ring 0", "no such line"),
     ("7 1 kept star x", "no such line"),
     ("7 4294967296 kept star 0", "no such line"),
+    ("slow", "no such line"),
+    ("slow 7 1 kept ring 0", "no such line"),
     ("7 1 kept star" + " 0" * 65, "no such line"),
     course(7, 0, "star", (0,)),
     course(7, 5, "chain", (3, 9, 1)),
