@@ -18,7 +18,7 @@ use Rattle.law_register.specs.declared.desk.open_fault.OpenFault.TheVariants as 
 use Rattle.law_register.specs.declared.register.entry.Entry.{Entry}
 use Rattle.lawdesk.specs.Checking.{told_damage}
 use Rattle.lawdesk.specs.Outliving.{BeginWith, IsOldOrKept, OutliveAll}
-use Rattle.lawdesk.specs.Runs.{IsWritten}
+use Rattle.dossier_text.specs.Runs.{IsWritten}
 
 -- the statuses of `batch`: 0 each request was answered, 1 what came behind the last was refused as no request, 3 and 4
 -- a source and a sink that failed, 5 a keeper that failed when it was opened, or of which some response says that it
