@@ -7,6 +7,7 @@ mod entering;
 mod generating;
 mod input;
 mod job;
+mod laws;
 mod line;
 mod notice;
 mod report;
