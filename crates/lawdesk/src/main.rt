@@ -5,6 +5,7 @@ mod batching;
 mod checking;
 mod generating;
 mod job;
+mod laws;
 mod notice;
 mod report_job;
 mod run;
