@@ -1,5 +1,5 @@
 -- What one modification more makes of a version.
-use Rattle.std.proofs.Common.{◌≡◌, ◌∙◌, sym, ap, refl, subst, ◌+◌, ◌-◌, Bool, true, false, List, [], ◌∷◌, ◌++◌, append_assoc, cond, Option, Some, None, Ok, Err, Result}
+use Rattle.std.proofs.Common.{◌≡◌, ◌∙◌, sym, ap, refl, subst, Bool, true, false, List, [], ◌∷◌, ◌++◌, append_assoc, cond, Option, Some, None, Ok, Err, Result}
 use Rattle.std.specs.List.{All, AllByRecursion, find}
 use Rattle.std.proofs.lemmas.List.Elements.{All-head, All-tail}
 use Rattle.desk_base.specs.declared.id.Id.{Id}

@@ -1,6 +1,5 @@
 -- The wIds of nodes side by side.
-use Rattle.std.proofs.Common.{◌≡◌, ◌∙◌, sym, ap, ℕ, ◌+◌, ◌<◌, List, [], ◌∷◌, ◌++◌, map, drop, get_or, length, append_assoc, append-nil, ◌≤◌}
-use Rattle.std.proofs.lemmas.List.{drop_all}
+use Rattle.std.proofs.Common.{◌≡◌, ◌∙◌, sym, ap, ℕ, ◌+◌, ◌<◌, List, [], ◌∷◌, ◌++◌, map, drop, get_or, length, append_assoc}
 use Rattle.act_tree.specs.declared.tree.Tree.{Tree}
 use Rattle.act_tree.specs.Branches.{Branches, branches_of}
 use Rattle.act_tree.specs.Provisions.{Provision}
@@ -31,9 +30,3 @@ wids_kept t ids i id kids old pushed new all wid within at under named push more
     ∙ append_assoc old ((provision_at t id).wid ∷ []) (all_wids kids ++ rest)
     ∙ ap (λ ws. old ++ ws) (sym (wids_from t ids i id kids within at under))
     ∙ kept
-
--- once no node is left, all are gathered
-pub wids_all : (t : Tree) (ids : List ℕ) (i : ℕ) (now all : List (List ℕ)) → length ids ≤ i
-    → now ++ all_wids (branches_of (map (branch_at t) (drop i ids))) ≡ all → now ≡ all
-wids_all t ids i now all past kept =
-    sym (append-nil now) ∙ ap (λ js. now ++ all_wids (branches_of (map (branch_at t) js))) (sym (drop_all i ids past)) ∙ kept

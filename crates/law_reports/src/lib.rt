@@ -3,6 +3,7 @@
 
 mod correspondences;
 mod events;
+pub mod laws;
 mod lifecycles;
 mod table;
 mod unapplied_mods;

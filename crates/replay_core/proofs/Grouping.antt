@@ -1,19 +1,15 @@
 -- What a group that is put back does to the groups of all things.
-use Rattle.std.proofs.Common.{◌≡◌, ◌∙◌, sym, ap, ℕ, ◌==◌, ◌&&◌, Bool, true, false, cond, List, [], ◌∷◌, Option, Some, refl, arith}
+use Rattle.std.proofs.Common.{◌≡◌, ◌∙◌, sym, ap, ℕ, Bool, true, false, cond, List, [], ◌∷◌, Option, Some, refl, arith}
 use Rattle.std.proofs.lemmas.Bool.Decides.{nat_tests}
 use Rattle.std.proofs.lemmas.Slice.Eq.{bytes_eq-Decides}
 use Rattle.desk_base.specs.declared.id.Id.{Id}
 use Rattle.law_register.specs.declared.law.modification.Destination.{Destination}
 use Rattle.law_register.specs.declared.law.modification.Destination.TheVariants as to
-use Rattle.law_register.specs.Answer.Counted.{is_same_id, is_same, take_turn, take_turns}
-use Rattle.bearing_mods.specs.Turns.{Turn}
+use Rattle.law_register.specs.Answer.Counted.{is_same_id, is_same}
 use Rattle.std.specs.Map.{lookup}
 use Rattle.law_register.specs.contracts.law.modification.DestinationPartialEq.TheImpl.{eq-value}
 use Rattle.replay_core.specs.declared.counted.Group.{Group}
 use Rattle.replay_core.specs.Groups.{forces_of, efficacies_of}
-
-same_number : (a b : ℕ) → (a == b) ≡ true → a ≡ b
-same_number a b h = grind (arith, nat_tests)
 
 abbrev id_of : ℕ → ℕ → Id
 id_of l i = record { law = l; item = i }
@@ -59,19 +55,6 @@ put_back {X} change old mid new group thing t made out back =
 pub either : {X : Type 0} (b : Bool) (x : X) → cond b x x ≡ x
 either true x = refl
 either false x = refl
-
--- a list after one that is counted, or not, took its turn
-pub one_turn : {X : Type 0} (turn : X → Turn) (one : X) (others : List X) (mine counts : Bool) → counts ≡ true
-    → cond mine (take_turn turn one others) others ≡ take_turns turn (cond (mine && counts) (one ∷ []) []) others
-one_turn turn one others true true is = refl
-one_turn turn one others false true is = refl
-one_turn turn one others mine false is = absurd (let no : false ≡ true = is in cc)
-
-pub no_turn : {X : Type 0} (turn : X → Turn) (one : X) (others : List X) (mine counts : Bool) → counts ≡ false
-    → others ≡ take_turns turn (cond (mine && counts) (one ∷ []) []) others
-no_turn turn one others true false is = refl
-no_turn turn one others false false is = refl
-no_turn turn one others mine true is = absurd (let no : true ≡ false = is in cc)
 
 -- the comparison of destinations is that of the definition
 pub eq_is : (a b : Destination) → eq-value.it a b ≡ is_same a b

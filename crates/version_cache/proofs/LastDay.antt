@@ -16,9 +16,6 @@ use Rattle.law_register.proofs.NamedDays.{breakpoints_ascend}
 use Rattle.version_cache.specs.Days.{last_until, order_by}
 use Rattle.version_cache.proofs.Still.{order_none, order_still}
 
-same_day : (a b : ℕ) → Some a ≡ Some b → a ≡ b
-same_day a b h = cc
-
 -- an option whose day is none, or is before one
 abbrev IsBeforeLast : ℕ → Option ℕ → Type 0
 IsBeforeLast d None = Unit {0}

@@ -17,11 +17,6 @@ pub passes : {A : Type 0} (test : A → Bool) (a : A) → test a ≡ true → Pa
 unfolding Passes
 passes test a is = is
 
--- nothing is read
-pub passes_fault : {A : Type 0} (test : A → Bool) (fault : FormFault) → Passes test (Err fault)
-unfolding Passes
-passes_fault test fault = tt
-
 -- a reading goes on from another
 pub passes_on : {A B : Type 0} (test : B → Bool) (r : Read A) (next : A → Read B) → ((a : A) → r ≡ Ok a → Passes test (next a)) → Passes test (r >>= next)
 unfolding Passes

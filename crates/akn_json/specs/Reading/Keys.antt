@@ -1,7 +1,8 @@
 -- The keys of the forms.
-use Rattle.std.specs.Prelude.{ℕ, List, codes}
+use Rattle.std.specs.Prelude.{ℕ, ◌≡◌, List, [], ◌∷◌, ◌++◌, codes}
 use Rattle.akn_json.specs.declared.reading.key.Key.{Key}
 use Rattle.akn_json.specs.declared.reading.key.Key.TheVariants as key
+use Rattle.akn_json.specs.declared.reading.tables.Keys.{Keys}
 
 -- a key as it stands in the JSON text
 abbrev pub key_name : Key → List ℕ
@@ -49,3 +50,13 @@ key_name key.Work = codes "work"
 key_name key.Id = codes "id"
 key_name key.Item = codes "item"
 key_name key.Seen = codes "seen"
+
+-- the names of keys, with a blank between two
+abbrev pub names_of : List Key → List ℕ
+names_of [] = []
+names_of (known ∷ []) = key_name known
+names_of (known ∷ next ∷ more) = key_name known ++ 32 ∷ names_of (next ∷ more)
+
+-- an object of a table has members at keys of these names, and may have some at those besides
+abbrev pub HasKeys : {R O : ℕ} → Keys R O → List ℕ → List ℕ → Type 0
+HasKeys keys required optional = (names_of keys.required ≡ required) × (names_of keys.optional ≡ optional)

@@ -1,0 +1,12 @@
+//! Laws of the tables. Each is a function that does nothing, whose clause is the law.
+
+ghost use Rattle.std.specs.Prelude.{◌≡◌, ℕ, List};
+ghost use Rattle.law_register.specs.declared.register.entry.Entry.{Entry};
+ghost use Rattle.law_reports.specs.Unapplied.{IsUnapplied};
+
+/// What could not be applied on a day is one table: the works stand in the order of the bytes of their IRIs, and of each what could
+/// not be applied stands in the order in which it was tried, so that two tables of one register and day are the same bytes.
+pub fn unapplied_is_one_table()
+    ensures { (entries : List Entry) (day : ℕ) (one other : List ℕ)
+        → IsUnapplied entries day one → IsUnapplied entries day other → one ≡ other }
+{}
