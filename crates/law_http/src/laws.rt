@@ -119,8 +119,8 @@ pub fn repeat_changes_nothing()
 /// which these determine, and of the days that the clock gives, one for each command with a good form. Then nothing is
 /// pending.
 pub fn served_without_fault_is_determined<D: Desk>()
-    ensures { (left before now : Option (List ℕ)) (old new : D) (steps later : ℕ) (served : Served)
-        → IsStreamed D.state D.crashes left before now old new steps later served
+    ensures { (left over before now : Option (List ℕ)) (old new : D) (steps later : ℕ) (served : Served)
+        → IsStreamed D.state D.crashes left over before now old new steps later served
         → (D.state old).pending ≡ None → IsFaultless served
         → IsDetermined left before now (D.state old).entries (D.state old).days (D.state new).entries
         × ((D.state new).pending ≡ None) }
