@@ -1,7 +1,7 @@
 -- The bytes of a buffer: a part of a list between two places.
 use Rattle.std.proofs.Common.{◌≡◌, ℕ, ◌+◌, ◌-◌, ◌≤◌, List, ◌++◌, length, take, drop, sym, ap, ◌∙◌, arith, append_assoc, length-take, length-drop}
 use Rattle.std.specs.Prelude.{slice_range, OnErr, Result, Ok, Err}
-use Rattle.std.proofs.lemmas.List.{take-take, take_at, drop-take, drop-append-le, drop-drop}
+use Rattle.std.proofs.lemmas.List.{take-take, take_all, take_at, drop-take, drop-append-le, drop-drop}
 use Rattle.law_http.proofs.Pieces.{cut_piece}
 
 -- a part is what stands behind its first place in the front of its last
@@ -47,6 +47,13 @@ filled xs into behind more start end count room order within fits enough =
     (cut_piece front into behind more end count room long fits enough)
     ∙ drop-append-le start front (take count into) (omega (arith, order, long))
     ∙ ap (λ l. l ++ take count into) (sym (slice_by xs front start end order (λ i. front)))
+
+-- what was there stands in front of what is there, with a piece behind it or with none
+pub front_same : (xs ys : List ℕ) → ys ≡ xs → take (length xs) ys ≡ xs
+front_same xs ys same = ap (take (length xs)) same ∙ take_all (length xs) xs (omega arith)
+
+pub front_read : (xs piece ys : List ℕ) → ys ≡ xs ++ piece → take (length xs) ys ≡ xs
+front_read xs piece ys is = ap (take (length xs)) is ∙ take_at xs piece (length xs) (λ i. length xs)
 
 pub on_err : {A E P : Type 0} (r : Result A E) → P → OnErr r P
 on_err (Ok a) holds = tt

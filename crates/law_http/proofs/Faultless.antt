@@ -191,10 +191,10 @@ closes_at_end closing none = record { said = λ entries days. ap responses_bytes
 closes_refused : (closing : List Response) (refusal : MessageRefusal) → closing ≡ refused refusal ∷ [] → Closes closing (heard.Refused refusal ∷ [])
 closes_refused closing refusal is = record { said = λ entries days. ap responses_bytes is; entries = λ entries days. refl }
 
-pub determined : {D : Type 0} (state : D → DeskState) (crashes : D → Crashes Found) (left before now : Option (List ℕ)) (old new : D) (steps later : ℕ) (served : Served)
-    → IsStreamed state crashes left before now old new steps later served → (state old).pending ≡ None → IsFaultless served
+pub determined : {D : Type 0} (state : D → DeskState) (crashes : D → Crashes Found) (left over before now : Option (List ℕ)) (old new : D) (steps later : ℕ) (served : Served)
+    → IsStreamed state crashes left over before now old new steps later served → (state old).pending ≡ None → IsFaultless served
     → IsDetermined left before now (state old).entries (state old).days (state new).entries × ((state new).pending ≡ None)
-determined state crashes left before now old new steps later served s none faultless =
+determined state crashes left over before now old new steps later served s none faultless =
     by served.end faultless.whole s.ends s.puts
   where
     quiet : faults_told s.exchanges ≡ 0
@@ -215,7 +215,7 @@ determined state crashes left before now old new steps later served s none fault
           all.none_pending,
         )
 
-    by : (end : StreamEnd) → IsWhole end → EndsAs end left (requests_of s.exchanges) s.closing → ArePut end before now (responses_of s.exchanges ++ s.closing)
+    by : (end : StreamEnd) → IsWhole end → EndsAs end left over (requests_of s.exchanges) s.closing → ArePut end before now (responses_of s.exchanges ++ s.closing)
         → IsDetermined left before now (state old).entries (state old).days (state new).entries × ((state new).pending ≡ None)
     by ends.End whole (hears, closing) written = put [] hears (closes_at_end s.closing closing) written
     by (ends.Refused refusal) whole (hears, closing) written = put (heard.Refused refusal ∷ []) hears (closes_refused s.closing refusal closing) written

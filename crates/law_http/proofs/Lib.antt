@@ -1,6 +1,8 @@
 pub mod Acknowledged
 pub mod Answered
+pub mod Apart
 pub mod Buffers
+pub mod CutShort
 pub mod Determined
 pub mod EmptyLines
 pub mod Faultless

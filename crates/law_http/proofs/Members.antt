@@ -15,10 +15,10 @@ use Rattle.law_http.specs.declared.refusal.MessageRefusal.{MessageRefusal}
 use Rattle.law_http.specs.declared.refusal.MessageRefusal.TheVariants.{Truncated}
 
 -- a request and the bytes behind it, of a stream that has more bytes behind
-abbrev requested : ℕ → Framing → List ℕ → Heard × List ℕ
+abbrev pub requested : ℕ → Framing → List ℕ → Heard × List ℕ
 requested n f bytes = (heard.Request (record { method = f.method; target = f.target; body = take f.length (drop n bytes); last = f.last }), drop (n + f.length) bytes)
 
-abbrev made : ℕ → Framing → List ℕ → Bool → Heard × List ℕ
+abbrev pub made : ℕ → Framing → List ℕ → Bool → Heard × List ℕ
 made n f bytes t = if t then requested n f bytes else (heard.Refused Truncated, bytes)
 
 more_behind : (n : ℕ) (f : Framing) (bytes left : List ℕ) → n + f.length ≤ length bytes
@@ -54,7 +54,7 @@ body_heard n f h before bytes rest (Some l) None said kept ended is = absurd kep
 body_heard n f h before bytes rest (Some l) (Some m) said kept ended is =
     (Ok f, said, heard_whole n f bytes m rest h ended is ∙ ap (with_body n f) kept)
 
-heard_from : (bytes : List ℕ) (member : Heard × List ℕ) → 0 < length bytes → IsHeardBy (head_length bytes) bytes member → IsHeardFrom bytes member
+pub heard_from : (bytes : List ℕ) (member : Heard × List ℕ) → 0 < length bytes → IsHeardBy (head_length bytes) bytes member → IsHeardFrom bytes member
 heard_from [] member some is = absurd (omega (arith, some))
 heard_from (b ∷ bytes) member some is = is
 

@@ -1,6 +1,6 @@
 -- A piece that is read behind bytes which are there.
 use Rattle.std.proofs.Common.{◌≡◌, ℕ, ◌+◌, ◌≤◌, List, ◌++◌, length, take, drop, sym, ap, ◌∙◌, arith, append_assoc, length-append, length-take, take-append-drop}
-use Rattle.std.proofs.lemmas.List.{take-take, take_at, take_all}
+use Rattle.std.proofs.lemmas.List.{take-take, take_at}
 
 -- what is cut off behind the piece does not matter
 pub cut_piece : (xs into behind more : List ℕ) (before n room : ℕ) → before ≡ length xs → n ≤ length into → before + n ≤ room
@@ -15,7 +15,7 @@ cut_piece xs into behind more before n room is fits enough =
     take-take (before + n) room ((xs ++ (into ++ behind)) ++ more) enough ∙ ap (take (before + n)) whole
     ∙ take_at front (drop n into ++ later) (before + n) (omega (arith, is, fits, length-append xs (take n into), length-take n into))
 
--- the bytes that were there stand in front of the room for a piece
-pub front_stays : (xs room : List ℕ) (before n : ℕ) → before ≡ length xs → take before (take (before + n) xs ++ room) ≡ xs
-front_stays xs room before n is =
-    ap (λ l. take before (l ++ room)) (take_all (before + n) xs (omega (arith, is))) ∙ take_at xs room before (omega (arith, is))
+-- the front of a list stays while more is read behind it
+pub front_of_more : (xs ys zs : List ℕ) → take (length xs) ys ≡ xs → take (length ys) zs ≡ ys → length xs ≤ length ys → take (length xs) zs ≡ xs
+front_of_more xs ys zs first second grown =
+    sym (take-take (length xs) (length ys) zs grown) ∙ ap (take (length xs)) second ∙ first

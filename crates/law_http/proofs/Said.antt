@@ -1,13 +1,14 @@
 -- How what is heard, said and written goes on behind a request that is answered.
 use Rattle.std.proofs.Common.{◌≡◌, ◌∙◌, sym, ap, subst, refl, ℕ, zero, suc, ◌+◌, Bool, true, false, ◌⊎◌, inl, inr, List, [], ◌∷◌, ◌++◌, map, Option, None, Some, Result, Ok, Err, append_assoc, arith}
 use Rattle.std.specs.Prelude.{◌≢◌, ◌≤◌, ◌↔◌, ◌||◌, IsTrue, IsFalse}
-use Rattle.std.specs.Io.KnownBytes.{append_known}
+use Rattle.std.specs.Io.KnownBytes.{append_known, prepend_known}
 use Rattle.std.proofs.lemmas.List.{append-nil}
 use Rattle.desk_base.specs.Streams.{Appended, AppendsFront, HasCause, Rose, risen}
 use Rattle.desk_base.specs.declared.source.Failed.{Failed}
-use Rattle.law_http.specs.Hearing.{AreHeard, IsHeardOf}
+use Rattle.law_http.specs.Hearing.{AreHeard, HoldsNoRequest, IsHeardOf}
 use Rattle.law_http.specs.Responses.{response_bytes}
-use Rattle.law_http.specs.Streaming.{AppendsAll, AreCut, AreGivenUp, AreHeardFirst, ArePut, AreWritten, EndsAs, HadMemory, HearsAll, HearsFirst, responses_bytes}
+use Rattle.law_http.specs.Streaming.{AppendsAll, AreCut, AreGivenUp, AreHeardFirst, ArePut, AreWritten, EndsAs, HadMemory, HearsAll, HearsFirst, HearsUntil, responses_bytes}
+use Rattle.law_http.specs.Streams.{KeepsRequest}
 use Rattle.law_http.specs.Turns.{IsPut, IsPutInPart, PutsBefore, end_after, end_behind}
 use Rattle.law_http.specs.declared.heard.Heard.{Heard}
 use Rattle.law_http.specs.declared.heard.Heard.TheVariants as heard
@@ -119,19 +120,32 @@ first_then None rest request requests closing first goes_on then_ = tt
 first_then (Some bytes) None request requests closing first goes_on then_ = absurd first
 first_then (Some bytes) (Some behind) request requests closing first goes_on then_ = (behind, first, λ is. not_both request.last goes_on is, then_)
 
-pub ends_then : (end : StreamEnd) (left rest : Option (List ℕ)) (request : Request) (requests : List Request) (closing : List Response)
-    → IsHeardOf left rest (heard.Request request) → IsFalse request.last → EndsAs end rest requests closing → EndsAs end left (request ∷ requests) closing
-ends_then ends.End left rest request requests closing first goes_on (hears, none) =
+pub until_then : (left rest over : Option (List ℕ)) (request : Request) (requests : List Request) → IsHeardOf left rest (heard.Request request)
+    → IsFalse request.last → HearsUntil rest requests over → HearsUntil left (request ∷ requests) over
+until_then None rest over request requests first goes_on then_ = tt
+until_then (Some bytes) None over request requests first goes_on then_ = absurd first
+until_then (Some bytes) (Some behind) None request requests first goes_on then_ = absurd then_
+until_then (Some bytes) (Some behind) (Some later) request requests first goes_on then_ = (behind, first, goes_on, then_)
+
+-- no request is heard any more
+pub until_here : (left over : Option (List ℕ)) (part : List ℕ) → KeepsRequest left (prepend_known part over) → HoldsNoRequest part → HearsUntil left [] over
+until_here None over part kept holds = tt
+until_here (Some bytes) None part kept holds = absurd kept
+until_here (Some bytes) (Some later) part kept holds = (part, holds, kept)
+
+pub ends_then : (end : StreamEnd) (left rest over : Option (List ℕ)) (request : Request) (requests : List Request) (closing : List Response)
+    → IsHeardOf left rest (heard.Request request) → IsFalse request.last → EndsAs end rest over requests closing → EndsAs end left over (request ∷ requests) closing
+ends_then ends.End left rest over request requests closing first goes_on (hears, none) =
     (all_then left rest request requests [] first goes_on hears, none)
-ends_then (ends.Refused refusal) left rest request requests closing first goes_on (hears, said) =
+ends_then (ends.Refused refusal) left rest over request requests closing first goes_on (hears, said) =
     (all_then left rest request requests (heard.Refused refusal ∷ []) first goes_on hears, said)
-ends_then ends.ReadFault left rest request requests closing first goes_on (hears, none) =
-    (first_then left rest request requests closing first goes_on hears, none)
-ends_then ends.WriteFault left rest request requests closing first goes_on (inl (hears, said)) =
+ends_then ends.ReadFault left rest over request requests closing first goes_on (hears, none) =
+    (until_then left rest over request requests first goes_on hears, none)
+ends_then ends.WriteFault left rest over request requests closing first goes_on (inl (hears, said)) =
     inl (first_then left rest request requests closing first goes_on hears, said)
-ends_then ends.WriteFault left rest request requests closing first goes_on (inr (refusal, hears, said)) =
+ends_then ends.WriteFault left rest over request requests closing first goes_on (inr (refusal, hears, said)) =
     inr (refusal, all_then left rest request requests (heard.Refused refusal ∷ []) first goes_on hears, said)
-ends_then ends.Memory left rest request requests closing first goes_on (hears, said) =
+ends_then ends.Memory left rest over request requests closing first goes_on (hears, said) =
     (first_then left rest request requests closing first goes_on hears, said)
 
 -- the last request

@@ -4,6 +4,8 @@ use Rattle.law_http.specs.Cutting.{after_empty_lines, head_length}
 use Rattle.std.specs.Io.KnownBytes.{prepend_known}
 use Rattle.law_http.specs.Heads.{IsSaid}
 use Rattle.law_http.specs.declared.head.Framing.{Framing}
+use Rattle.law_http.specs.declared.heard.HearFault.{HearFault}
+use Rattle.law_http.specs.declared.heard.HearFault.TheVariants as faults
 use Rattle.law_http.specs.declared.heard.Request.{Request}
 use Rattle.law_http.specs.declared.heard.Heard.{Heard}
 use Rattle.law_http.specs.declared.heard.Heard.TheVariants as heard
@@ -82,3 +84,23 @@ AreHeard bytes (heard.Request request ∷ more) =
 AreHeard bytes (heard.End ∷ more) = ⊥
 AreHeard bytes (heard.Refused refusal ∷ more) =
     (rest : List ℕ) × IsFirstHeard bytes (heard.Refused refusal) rest × (more ≡ [])
+
+-- what is heard where a stream ends too early for a request: nothing, or a request that is cut short
+abbrev pub IsCutShort : Heard → Type 0
+IsCutShort (heard.Request request) = ⊥
+IsCutShort heard.End = ⊤
+IsCutShort (heard.Refused refusal) = refusal ≡ Truncated
+
+-- these bytes hold no whole request, nor anything that is refused before more of them come: were they all the bytes of a
+-- stream, it would end too early for one
+pub record HoldsNoRequest (bytes : List ℕ) : Type 0 where
+  pub member : Heard
+  pub behind : List ℕ
+  pub is_first : IsFirstHeard bytes member behind
+  pub is_cut_short : IsCutShort member
+
+-- where a read failed, what was read holds no whole request
+abbrev pub HeldNoRequest : {T : Type 0} → Result T HearFault → List ℕ → Type 0
+HeldNoRequest (Ok value) bytes = ⊤
+HeldNoRequest (Err faults.ReadFault) bytes = HoldsNoRequest bytes
+HeldNoRequest (Err faults.Memory) bytes = ⊤

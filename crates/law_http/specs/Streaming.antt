@@ -1,11 +1,12 @@
--- What a stream serves: the requests that are heard of it, one after another, each answered before the next is read.
+-- What a stream serves: the requests that are heard of it, one after another, each answered before more is read.
 use Rattle.std.specs.Prelude.{◌≡◌, ◌≢◌, ◌⊎◌, ◌↔◌, ℕ, ◌+◌, ◌-◌, ◌^◌, ◌≤◌, max, min, true, List, [], ◌∷◌, ◌++◌, map, IsTrue, IsFalse, Option, None, Some, ⊤}
 use Rattle.std.specs.Io.KnownBytes.{append_known}
 use Rattle.std.specs.List.{AllByRecursion}
 use Rattle.desk_base.specs.Crashes.{Crashes}
 use Rattle.desk_base.specs.Streams.{AppendsFront, Rose}
 use Rattle.law_register.specs.Desk.States.{DeskState, Found}
-use Rattle.law_http.specs.Hearing.{AreHeard, IsFirstHeard}
+use Rattle.law_http.specs.Cutting.{after_empty_lines}
+use Rattle.law_http.specs.Hearing.{AreHeard, HoldsNoRequest, IsFirstHeard}
 use Rattle.law_http.specs.Refusals.{message_reply}
 use Rattle.law_http.specs.Responses.{reply_bytes, response_bytes}
 use Rattle.law_http.specs.Serving.{Serves, serving_cost}
@@ -69,22 +70,37 @@ abbrev pub HearsFirst : Option (List ℕ) → List Request → List Response →
 HearsFirst None requests closing = ⊤
 HearsFirst (Some bytes) requests closing = AreHeardFirst bytes requests closing
 
+-- these requests are heard first of a stream of these bytes, and none closes it; of what is behind them a front was read,
+-- which holds no whole request, and the rest is left. Empty lines where a request would begin don't count
+abbrev pub BreaksOff : List ℕ → List Request → List ℕ → Type 0
+BreaksOff bytes [] left =
+    (part : List ℕ) × HoldsNoRequest part × (after_empty_lines (part ++ left) ≡ after_empty_lines bytes)
+BreaksOff bytes (request ∷ requests) left = (rest : List ℕ)
+    × IsFirstHeard bytes (heard.Request request) rest × IsFalse request.last × BreaksOff rest requests left
+
+-- the same where the link told the bytes, and what it has left
+abbrev pub HearsUntil : Option (List ℕ) → List Request → Option (List ℕ) → Type 0
+HearsUntil None requests over = ⊤
+HearsUntil (Some bytes) requests None = ⊥
+HearsUntil (Some bytes) requests (Some left) = BreaksOff bytes requests left
+
 -- the response where no request can be read; the stream is closed
 abbrev pub refused : MessageRefusal → Response
 refused refusal = Made (reply_bytes (message_reply refusal)) true
 
 -- how much is heard, and what is said behind the responses to it, by how a stream ends: at its end nothing, and at what
--- is no request that refusal; before its end nothing, or that there was not enough memory
-abbrev pub EndsAs : StreamEnd → Option (List ℕ) → List Request → List Response → Type 0
-EndsAs ends.End left requests closing = HearsAll left requests [] × (closing ≡ [])
-EndsAs (ends.Refused refusal) left requests closing =
+-- is no request that refusal; before its end nothing, or that there was not enough memory. Where a read failed, each
+-- request that was read whole is among them
+abbrev pub EndsAs : StreamEnd → Option (List ℕ) → Option (List ℕ) → List Request → List Response → Type 0
+EndsAs ends.End left over requests closing = HearsAll left requests [] × (closing ≡ [])
+EndsAs (ends.Refused refusal) left over requests closing =
     HearsAll left requests (heard.Refused refusal ∷ []) × (closing ≡ refused refusal ∷ [])
-EndsAs ends.ReadFault left requests closing = HearsFirst left requests closing × (closing ≡ [])
-EndsAs ends.WriteFault left requests closing =
+EndsAs ends.ReadFault left over requests closing = HearsUntil left requests over × (closing ≡ [])
+EndsAs ends.WriteFault left over requests closing =
     (HearsFirst left requests closing × ((closing ≡ []) ⊎ (closing ≡ MemoryFault ∷ [])))
     ⊎ ((refusal : MessageRefusal) × HearsAll left requests (heard.Refused refusal ∷ [])
     × (closing ≡ refused refusal ∷ []))
-EndsAs ends.Memory left requests closing =
+EndsAs ends.Memory left over requests closing =
     HearsFirst left requests closing × ((closing ≡ []) ⊎ (closing ≡ MemoryFault ∷ []))
 
 -- the bytes are written behind those before, where the link tells what is written
@@ -146,16 +162,16 @@ module _ {D : Type 0} (state : D → DeskState) (crashes : D → Crashes Found) 
   serving_costs (e ∷ es) old new served =
       serving_cost (state old).entries e.request + serving_costs es served.0 new served.2
 
-  -- what is served of a stream that had these bytes left and wrote behind these, where its link tells them, and how many
-  -- steps were taken before and after
-  pub record IsStreamed (left before now : Option (List ℕ)) (old new : D) (steps later : ℕ) (served : Served)
+  -- what is served of a stream that had these bytes left, and has these over, and wrote behind these, where its link
+  -- tells them, and how many steps were taken before and after
+  pub record IsStreamed (left over before now : Option (List ℕ)) (old new : D) (steps later : ℕ) (served : Served)
       : Type 0 where
     -- the requests that were heard, with the responses to them
     pub exchanges : List Exchange
     -- what was said behind the last
     pub closing : List Response
     pub answered : AreServed exchanges old new
-    pub ends : EndsAs served.end left (requests_of exchanges) closing
+    pub ends : EndsAs served.end left over (requests_of exchanges) closing
     pub puts : ArePut served.end before now (responses_of exchanges ++ closing)
     pub faulted : IsTrue served.faulted ↔ (faults_told exchanges ≢ 0)
     pub faults : RoseBy (faults_told exchanges) (state old).faults (state new).faults

@@ -88,18 +88,18 @@ module _ {D : Type 0} (state : D → DeskState) (crashes : D → Crashes Found) 
     pub faulted : IsTrue told ↔ (fault_told response ≢ 0)
     pub cost : later ≤ steps + serving_cost (state old).entries request
 
-  -- a turn is taken
-  abbrev pub IsTurn : Option (List ℕ) → Option (List ℕ) → Option (List ℕ) → Option (List ℕ) → D → D → ℕ → ℕ
-      → Bool → Option StreamEnd → Type 0
-  IsTurn left rest before now old new steps later told None =
+  -- a turn is taken, behind which the link has these bytes over
+  abbrev pub IsTurn : Option (List ℕ) → Option (List ℕ) → Option (List ℕ) → Option (List ℕ) → Option (List ℕ) → D → D
+      → ℕ → ℕ → Bool → Option StreamEnd → Type 0
+  IsTurn left rest over before now old new steps later told None =
       IsExchanged left rest before now old new steps later told
-  IsTurn left rest before now old new steps later told (Some end) =
-      IsStreamed state crashes left before now old new steps later (record { end = end; faulted = told })
+  IsTurn left rest over before now old new steps later told (Some end) =
+      IsStreamed state crashes left over before now old new steps later (record { end = end; faulted = told })
 
   -- whatever is streamed from here on is streamed from the start
   abbrev pub GoesOn : Option (List ℕ) → Option (List ℕ) → Option (List ℕ) → Option (List ℕ) → D → D → ℕ → ℕ → Bool
       → Type 0
   GoesOn left here before written old desk steps later told =
-      (now : Option (List ℕ)) (new : D) (last : ℕ) (served : Served)
-      → IsStreamed state crashes here written now desk new later last served
-      → IsStreamed state crashes left before now old new steps last (with_fault told served)
+      (over now : Option (List ℕ)) (new : D) (last : ℕ) (served : Served)
+      → IsStreamed state crashes here over written now desk new later last served
+      → IsStreamed state crashes left over before now old new steps last (with_fault told served)

@@ -111,6 +111,7 @@ impl Buffer {
         ensures end { IfOk result (λ n. n ≡ 0 → IsAtEnd (L.left link.new)) }
         ensures grown { IfOk result (λ n. (n ≤ most) × (length self.new ≡ length self.old + n)) }
         ensures unread { OnErr result (self.new ≡ self.old) }
+        ensures front { take (length self.old) self.new ≡ self.old }
         ensures room { LowersRoom (L.room link.old) (L.room link.new) result }
         ensures cause { spec.HasHearCause (L.read_faults link.old) (L.read_faults link.new) result }
         ensures written { L.written link.new ≡ L.written link.old }

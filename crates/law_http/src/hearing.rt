@@ -1,6 +1,7 @@
 //! Hearing the next request of a stream.
 
-ghost use Rattle.std.specs.Prelude.{◌≡◌, ◌≤◌, ◌<◌, ◌+◌, ◌^◌, max, length, drop, IfOk, OnErr};
+ghost use Rattle.std.specs.Prelude.{◌≡◌, ◌≤◌, ◌<◌, ◌+◌, ◌^◌, max, length, drop, Ok, IfOk, OnErr};
+ghost use Rattle.law_http.specs.Cutting.{after_empty_lines, head_length};
 ghost use Rattle.law_http.specs.Hearing as spec;
 ghost use Rattle.law_http.specs.Streams.{HasHearCause, KeepsBytes, KeepsStream};
 
@@ -52,8 +53,11 @@ fn hear_body<L: Link>(
     requires some { 0 < head }
     requires within { head ≤ length bytes.old }
     requires limit { head ≤ MAX_HEAD }
+    requires begins { after_empty_lines bytes.old ≡ bytes.old }
+    requires found { head_length bytes.old ≡ Ok head }
     ensures heard { IfOk result
         (spec.HearsBody head bytes.old (L.left link.old) bytes.new (L.left link.new)) }
+    ensures unheard { spec.HeldNoRequest result bytes.new }
     ensures kept { OnErr result (KeepsBytes bytes.old (L.left link.old) bytes.new (L.left link.new)) }
     ensures spent { IfOk result
         (spec.Spends (length bytes.old + L.room link.old) (length bytes.new + L.room link.new)) }
@@ -75,6 +79,7 @@ fn hear_body<L: Link>(
 // What is heard of bytes that were read, and of those that a link has left.
 fn hear<L: Link>(alloc: Global, link: &mut L, bytes: &mut Buffer) -> Result<Heard, HearFault>
     ensures heard { IfOk result (spec.Hears bytes.old (L.left link.old) bytes.new (L.left link.new)) }
+    ensures unheard { spec.HeldNoRequest result bytes.new }
     ensures kept { OnErr result (KeepsStream bytes.old (L.left link.old) bytes.new (L.left link.new)) }
     ensures spent { IfOk result
         (spec.Spends (length bytes.old + L.room link.old) (length bytes.new + L.room link.new)) }
@@ -100,13 +105,14 @@ fn hear<L: Link>(alloc: Global, link: &mut L, bytes: &mut Buffer) -> Result<Hear
 /// read behind a request stays in `rest`.
 ///
 /// After a refusal the stream is as it was but for empty lines. So it is after an error: `ReadFault` where a read
-/// failed, and `Memory`.
+/// failed before a whole request had come, and `Memory`.
 pub fn read_request<L: Link>(
     alloc: Global,
     link: &mut L,
     rest: &mut Rest,
 ) -> Result<Heard, HearFault>
     ensures heard { IfOk result (spec.Hears rest.old (L.left link.old) rest.new (L.left link.new)) }
+    ensures unheard { spec.HeldNoRequest result rest.new }
     ensures kept { OnErr result (KeepsStream rest.old (L.left link.old) rest.new (L.left link.new)) }
 
     // A request takes a byte at least, so a loop over requests ends.

@@ -1,21 +1,38 @@
 //! Laws of what is heard, what is put and what is served, each as the contract of a function with an empty body.
 
-ghost use Rattle.std.specs.Prelude.{◌≡◌, ◌≤◌, ◌<◌, ◌^◌, ℕ, List, Option, None, Some, length};
+ghost use Rattle.std.specs.Prelude.{◌≡◌, ◌≢◌, ◌≤◌, ◌<◌, ◌^◌, ℕ, List, Option, None, Some, length};
 ghost use Rattle.law_register.specs.Desk.States.{Found};
 ghost use Rattle.law_register.specs.Register.Entering.{entered};
 ghost use Rattle.law_register.specs.Register.Verdicts.{request_of};
 ghost use Rattle.law_register.specs.declared.law.command.Command.{Command};
 ghost use Rattle.law_register.specs.declared.register.entry.Entry.{Entry};
 ghost use Rattle.law_register.specs.declared.register.verdict.Reply.{Reply as Outcome};
-ghost use Rattle.law_http.specs.Faultless.{IsDetermined, IsFaultless};
+ghost use Rattle.law_http.specs.Apart.{AreAlike, AsksOwn};
+ghost use Rattle.law_http.specs.Asking.{asking_of};
+ghost use Rattle.law_http.specs.Faultless.{IsDetermined, IsFaultless, reply_on};
 ghost use Rattle.law_http.specs.Hearing.{AreHeard, IsFirstHeard};
 ghost use Rattle.law_http.specs.Lasting as lasting;
-ghost use Rattle.law_http.specs.Responses.{ReadsBack, Reply};
+ghost use Rattle.law_http.specs.Responses.{ReadsBack, Reply, reply_bytes, response_bytes};
+ghost use Rattle.law_http.specs.Serving.{Serves};
 ghost use Rattle.law_http.specs.Streaming.{AreServed, Exchange, IsStreamed, RoseBy, faults_told};
+ghost use Rattle.law_http.specs.declared.cutting.TheConstants.{MAX_HEAD};
+ghost use Rattle.law_http.specs.declared.framing.TheConstants.{MAX_BODY, MAX_DIGITS};
+ghost use Rattle.law_http.specs.declared.head.TheConstants.{MAX_FIELDS};
 ghost use Rattle.law_http.specs.declared.heard.Heard.{Heard};
+ghost use Rattle.law_http.specs.declared.heard.Request.{Request};
+ghost use Rattle.law_http.specs.declared.response.Response.{Response};
+ghost use Rattle.law_http.specs.declared.response.Response.TheVariants.{MemoryFault};
 ghost use Rattle.law_http.specs.declared.streaming.Served.{Served};
 
 use law_register::Desk;
+
+/// A head has 16,384 bytes at most, 64 fields, and a length of 19 digits; a body has 8,388,608 bytes at most.
+pub fn limits_of_requests()
+    ensures head { MAX_HEAD ≡ 16384 }
+    ensures fields { MAX_FIELDS ≡ 64 }
+    ensures digits { MAX_DIGITS ≡ 19 }
+    ensures body { MAX_BODY ≡ 8388608 }
+{}
 
 /// The bytes of a stream determine what is heard first, and what bytes are left behind it.
 pub fn first_heard_is_determined()
@@ -102,8 +119,8 @@ pub fn repeat_changes_nothing()
 /// which these determine, and of the days that the clock gives, one for each command with a good form. Then nothing is
 /// pending.
 pub fn served_without_fault_is_determined<D: Desk>()
-    ensures { (left before now : Option (List ℕ)) (old new : D) (steps later : ℕ) (served : Served)
-        → IsStreamed D.state D.crashes left before now old new steps later served
+    ensures { (left over before now : Option (List ℕ)) (old new : D) (steps later : ℕ) (served : Served)
+        → IsStreamed D.state D.crashes left over before now old new steps later served
         → (D.state old).pending ≡ None → IsFaultless served
         → IsDetermined left before now (D.state old).entries (D.state old).days (D.state new).entries
         × ((D.state new).pending ≡ None) }
@@ -116,4 +133,23 @@ pub fn same_stream_is_served_alike()
         (later others : List Entry) → IsDetermined (Some bytes) (Some before) now entries (Some told) later
         → IsDetermined (Some bytes) (Some before) other entries (Some told) others
         → (now ≡ other) × (later ≡ others) }
+{}
+
+/// Drafters are apart, byte by byte: where two lists of entries have the same law and the same entries of a drafter, the
+/// bytes that he is answered are the same in both, of the front, of a text, of his previews and of his draft. What others
+/// have in their drafts does not show, nor does the day.
+pub fn drafters_are_apart()
+    ensures { (drafter : List ℕ) (one other : List Entry) (day later : ℕ) (request : Request)
+        → AreAlike drafter one other → AsksOwn drafter (asking_of request)
+        → reply_bytes (reply_on one day request.last (asking_of request))
+        ≡ reply_bytes (reply_on other later request.last (asking_of request)) }
+{}
+
+/// The same of two desks, of whatever kind, whose entries are alike for a drafter: where there was memory for it, both
+/// respond to him by the same bytes.
+pub fn responses_are_apart<D: Desk, E: Desk>()
+    ensures { (drafter : List ℕ) (request : Request) (one next : D) (other after : E) (response answer : Response)
+        → AreAlike drafter (D.state one).entries (E.state other).entries → AsksOwn drafter (asking_of request)
+        → Serves D.state D.crashes request one next response → Serves E.state E.crashes request other after answer
+        → response ≢ MemoryFault → answer ≢ MemoryFault → response_bytes response ≡ response_bytes answer }
 {}

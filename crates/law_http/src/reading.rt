@@ -1,10 +1,11 @@
 //! Reading a link until a head has come, or a body.
 
-ghost use Rattle.std.specs.Prelude.{◌≡◌, ◌≤◌, ◌<◌, ◌+◌, max, length, IfOk, OnOk, OnErr};
+ghost use Rattle.std.specs.Prelude.{◌≡◌, ◌≤◌, ◌<◌, ◌+◌, max, length, take, IfOk, OnOk, OnErr};
 ghost use Rattle.std.specs.Io.KnownBytes.{IsAtEnd};
 ghost use Rattle.std.specs.Vec.{vec_len};
 ghost use Rattle.desk_base.specs.Streams.{LowersRoom};
 ghost use Rattle.law_http.specs.Cutting.{IsHeadOf, after_empty_lines};
+ghost use Rattle.law_http.specs.Hearing.{HeldNoRequest};
 ghost use Rattle.law_http.specs.Streams as spec;
 
 use crate::buffer::Buffer;
@@ -18,6 +19,7 @@ fn read_on<L: Link>(link: &mut L, bytes: &mut Buffer) -> Result<usize, HearFault
     requires { length bytes.old < MAX_HEAD }
     ensures stream { spec.KeepsStream bytes.old (L.left link.old) bytes.new (L.left link.new) }
     ensures begins { OnOk result (after_empty_lines bytes.new ≡ bytes.new) }
+    ensures unread { OnErr result (bytes.new ≡ bytes.old) }
     ensures end { IfOk result (λ n. n ≡ 0 → IsAtEnd (L.left link.new)) }
     ensures taken { length bytes.new + L.room link.new ≤ length bytes.old + L.room link.old }
     ensures held { length bytes.new ≤ MAX_HEAD }
@@ -40,6 +42,8 @@ pub(crate) fn await_head<L: Link>(
 ) -> Result<Result<usize, MessageRefusal>, HearFault>
     ensures stream { spec.KeepsStream bytes.old (L.left link.old) bytes.new (L.left link.new) }
     ensures ready { OnOk result (spec.IsReady bytes.new (L.left link.new)) }
+    ensures begins { OnOk result (after_empty_lines bytes.new ≡ bytes.new) }
+    ensures unheard { HeldNoRequest result bytes.new }
     ensures head { IfOk result (λ head. IsHeadOf bytes.new head) }
     ensures taken { length bytes.new + L.room link.new ≤ length bytes.old + L.room link.old }
     ensures held { length bytes.new ≤ max (length bytes.old) MAX_HEAD }
@@ -61,6 +65,7 @@ pub(crate) fn await_head<L: Link>(
 }
 
 /// Reads until so many bytes have come, or the stream has ended.
+#[tactic(auto, using(crate::proofs::Pieces::front_of_more))]
 pub(crate) fn await_bytes<L: Link>(
     link: &mut L,
     bytes: &mut Buffer,
@@ -68,6 +73,8 @@ pub(crate) fn await_bytes<L: Link>(
 ) -> Result<(), HearFault>
     ensures stream { spec.KeepsBytes bytes.old (L.left link.old) bytes.new (L.left link.new) }
     ensures end { OnOk result (length bytes.new < wanted → IsAtEnd (L.left link.new)) }
+    ensures wanting { OnErr result (length bytes.new < wanted) }
+    ensures front { take (length bytes.old) bytes.new ≡ bytes.old }
     ensures grown { length bytes.old ≤ length bytes.new }
     ensures room { length bytes.new + L.room link.new ≡ length bytes.old + L.room link.old }
     ensures held { length bytes.new ≤ max (length bytes.old) wanted }

@@ -1,4 +1,4 @@
-//! Streaming: a stream is served to its end, each request before the next is read.
+//! Streaming: a stream is served to its end, each request before more is read.
 
 ghost use Rattle.std.specs.Prelude.{◌≡◌, ◌≢◌, ◌↔◌, ◌||◌, ◌≤◌, ◌+◌, ℕ, List, Option, length, IsTrue};
 ghost use Rattle.std.specs.Bool.{then_some};
@@ -106,8 +106,8 @@ fn answer<K: Link, D: Desk, L: Ledger>(
     request: &Request,
     steps: &mut Steps<L>,
 ) -> Turn
-    ensures turn { (left rest : Option (List ℕ)) → IsHeardOf left rest (Heard.Request request.now)
-        → spec.IsTurn D.state D.crashes left rest (K.written link.old) (K.written link.new) desk.old desk.new
+    ensures turn { (left rest over : Option (List ℕ)) → IsHeardOf left rest (Heard.Request request.now)
+        → spec.IsTurn D.state D.crashes left rest over (K.written link.old) (K.written link.new) desk.old desk.new
         steps.old steps.new result.faulted result.end }
     ensures reads { spec.HasTurnCause stream.HasReadCause result.end
         (K.read_faults link.old) (K.read_faults link.new) }
@@ -157,8 +157,8 @@ fn act_on<K: Link, D: Desk, L: Ledger>(
     heard: &Heard,
     steps: &mut Steps<L>,
 ) -> Turn
-    ensures turn { (left rest : Option (List ℕ)) → IsHeardOf left rest heard.now
-        → spec.IsTurn D.state D.crashes left rest (K.written link.old) (K.written link.new) desk.old desk.new
+    ensures turn { (left rest over : Option (List ℕ)) → IsHeardOf left rest heard.now
+        → spec.IsTurn D.state D.crashes left rest over (K.written link.old) (K.written link.new) desk.old desk.new
         steps.old steps.new result.faulted result.end }
     ensures spent { (before now : ℕ) → Spends before now heard.now → spec.SpendsTurn result.end before now }
     ensures reads { spec.HasTurnCause stream.HasReadCause result.end
@@ -190,7 +190,7 @@ fn take_turn<K: Link, D: Desk, L: Ledger>(
     steps: &mut Steps<L>,
 ) -> Turn
     ensures turn { spec.IsTurn D.state D.crashes
-        (prepend_known rest.old (K.left link.old)) (prepend_known rest.new (K.left link.new))
+        (prepend_known rest.old (K.left link.old)) (prepend_known rest.new (K.left link.new)) (K.left link.new)
         (K.written link.old) (K.written link.new) desk.old desk.new steps.old steps.new result.faulted result.end }
     ensures spent { spec.SpendsTurn result.end
         (length rest.old + K.room link.old) (length rest.new + K.room link.new) }
@@ -215,16 +215,17 @@ fn either(a: bool, b: bool) -> bool
     a || b
 }
 
-/// Reads requests from a link and answers each before the next is read, to the end of the stream, to the first request
-/// that closes it, to what is no request, to a failure, or until there is not enough memory, which the fixed 500 says.
+/// Reads requests from a link and answers each before more is read, to the end of the stream, to the first request that
+/// closes it, to what is no request, to a failure, or until there is not enough memory, which the fixed 500 says. Where a
+/// read fails, each request that had come whole has been answered.
 pub fn serve_stream<K: Link, D: Desk, L: Ledger>(
     alloc: Global,
     link: &mut K,
     desk: &mut D,
     steps: &mut Steps<L>,
 ) -> Served
-    ensures served { stream.IsStreamed D.state D.crashes (K.left link.old) (K.written link.old) (K.written link.new)
-        desk.old desk.new steps.old steps.new result }
+    ensures served { stream.IsStreamed D.state D.crashes (K.left link.old) (K.left link.new)
+        (K.written link.old) (K.written link.new) desk.old desk.new steps.old steps.new result }
     ensures reads { stream.HasReadCause result.end (K.read_faults link.old) (K.read_faults link.new) }
     ensures writes { stream.HasWriteCause result.end (K.write_faults link.old) (K.write_faults link.new) }
     ensures room { K.room link.new ≤ K.room link.old }

@@ -202,7 +202,7 @@ module _ {S W K C : Type 0} (left : S → Option (List ℕ)) (read_faults : S �
       → Keeps (holding keeper) (holding opened)
       → LeavesOldOrSame (holding keeper) (holding opened)
       → keeper_faults opened ≡ keeper_faults keeper
-      → ServesOver left written holding keeper_faults days source sink sink_new opened keeper_new clock clock_new steps later entries served
+      → ServesOver left written holding keeper_faults days source source_new sink sink_new opened keeper_new clock clock_new steps later entries served
       → HasReadCause served.end (read_faults source) (read_faults source_new)
       → HasWriteCause served.end (write_faults sink) (write_faults sink_new)
       → status ≡ stream_status served.end served.faulted
@@ -214,7 +214,7 @@ module _ {S W K C : Type 0} (left : S → Option (List ℕ)) (read_faults : S �
       let ended : keeper_faults keeper_new ≡ keeper_faults (serves.closed).keeper = ap keeper_faults serves.kept in
       let at_low = λ (low : (status ≡ 0) ⊎ (status ≡ 1)).
       determined (desk_of keeper_faults days) (λ (o : OfficeState K C). crashes_of (holding o.keeper))
-      (left source) (written sink) (written sink_new) serves.office serves.closed steps later served serves.streamed
+      (left source) (left source_new) (written sink) (written sink_new) serves.office serves.closed steps later served serves.streamed
       (serves.is_new).none_pending (low_is_faultless served status is low) in
       record {
         status_is = subst IsBatchStatus (sym is) (stream_status_is served.end served.faulted);
@@ -223,7 +223,7 @@ module _ {S W K C : Type 0} (left : S → Option (List ℕ)) (read_faults : S �
           entries = entries;
           stand_for = stand_for;
           same = same;
-          crash = since_began left written holding keeper_faults days source sink sink_new keeper opened keeper_new
+          crash = since_began left written holding keeper_faults days source source_new sink sink_new keeper opened keeper_new
               clock clock_new steps later entries served stand_for same crash serves;
           faults = faults;
           served = served;

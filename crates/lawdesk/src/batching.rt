@@ -73,8 +73,8 @@ fn serve_desk<S: Source, W: Sink, D: Desk, L: Ledger>(
     desk: &mut D,
     steps: &mut Steps<L>,
 ) -> Served
-    ensures served { IsStreamed D.state D.crashes (S.left source.old) (W.written sink.old) (W.written sink.new)
-        desk.old desk.new steps.old steps.new result }
+    ensures served { IsStreamed D.state D.crashes (S.left source.old) (S.left source.new)
+        (W.written sink.old) (W.written sink.new) desk.old desk.new steps.old steps.new result }
     ensures reads { HasReadCause result.end (S.faults source.old) (S.faults source.new) }
     ensures writes { HasWriteCause result.end (W.faults sink.old) (W.faults sink.new) }
     ensures origin { (D.state desk.new).origin ≡ (D.state desk.old).origin }
@@ -97,7 +97,7 @@ fn serve_book<S: Source, W: Sink, K: Keeper, C: Clock, L: Ledger>(
     requires held { HoldsBook (K.holding keeper.old) (K.readiness keeper.old) book }
     requires none_pending { book.pending ≡ None }
     requires no_marks { book.marks.items ≡ [] }
-    ensures served { ServesOver S.left W.written K.holding K.faults C.days source.old sink.old sink.new
+    ensures served { ServesOver S.left W.written K.holding K.faults C.days source.old source.new sink.old sink.new
         keeper.old keeper.new clock.old clock.new steps.old steps.new book.register.entries result }
     ensures reads { HasReadCause result.end (S.faults source.old) (S.faults source.new) }
     ensures writes { HasWriteCause result.end (W.faults sink.old) (W.faults sink.new) }

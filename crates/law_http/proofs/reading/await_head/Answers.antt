@@ -1,7 +1,9 @@
 use Rattle.std.proofs.Common.{rules, List, ℕ, subst, sym, ap, ◌∙◌, arith, length}
 use Rattle.std.specs.Io.KnownBytes.{prepend_known}
 use Rattle.law_http.specs.Cutting.{after_empty_lines}
+use Rattle.law_http.specs.Hearing.{HoldsNoRequest}
 use Rattle.law_http.specs.Streams.{KeepsRequest}
+use Rattle.law_http.proofs.CutShort.{before_head, held}
 use Rattle.law_http.proofs.EmptyLines.{after_after, after_short}
 use Rattle.law_http.proofs.Kept.{keeps_skipped, request_then, ready_found, ready_full, ready_ended, head_of, found_where}
 use Rattle.law_http.proofs.reading.await_head.Goals as goal
@@ -38,6 +40,13 @@ loop-head-preserved g c = record {
 
 pub returns-in_err-count-clause-stream : goal.returns-in_err-count-clause-stream
 returns-in_err-count-clause-stream g c = request_then _ _ _ c.loop-head.invariant.stream c.in_err-count.ensures.stream
+
+pub returns-in_err-count-clause-unheard : goal.returns-in_err-count-clause-unheard
+returns-in_err-count-clause-unheard g c =
+    held c.from_residual.result c.read_on.new.bytes
+    (subst HoldsNoRequest (sym c.in_err-count.ensures.unread)
+    (before_head c.loop-head.bytes c.loop-head.head c.loop-head.invariant.begins c.loop-head.invariant.head
+    (sym c.is_err.ensures.value ∙ c.if-is_err.true) (search rules)))
 
 pub returns-else-is_err-clause-stream : goal.returns-else-is_err-clause-stream
 returns-else-is_err-clause-stream g c = c.loop-head.invariant.stream

@@ -2,8 +2,8 @@ use Rattle.law_http.proofs.Turning.{answered_by, reads_by, writes_by}
 use Rattle.law_http.proofs.streaming.answer.Goals as goal
 
 pub returns-clause-turn : goal.returns-clause-turn
-returns-clause-turn g c = λ left rest first.
-    answered_by g.D.Desk.state g.D.Desk.crashes left rest _ _ _ _ _ _ _ _ _ c.args.request.now c.respond-response.result _ _ first c.respond-response.ensures.served
+returns-clause-turn g c = λ left rest over first.
+    answered_by g.D.Desk.state g.D.Desk.crashes left rest over _ _ _ _ _ _ _ _ _ c.args.request.now c.respond-response.result _ _ first c.respond-response.ensures.served
     c.put_before-end.ensures.puts c.end_where.ensures c.is_fault-faulted.ensures c.respond-response.ensures.steps
 
 pub returns-clause-reads : goal.returns-clause-reads

@@ -23,7 +23,7 @@ returns-clause-served g c =
       none_pending = c.new-office.ensures.pending ∙ ap pending_of c.requires.none_pending;
       no_marks = c.new-office.ensures.marks ∙ c.requires.no_marks;
     })
-    _ _ _ _ _ _ _ closed c.serve_desk-served.ensures.served (kept ∙ c.close-keeper.ensures.keeper)
+    _ _ _ _ _ _ _ _ closed c.serve_desk-served.ensures.served (kept ∙ c.close-keeper.ensures.keeper)
     (subst (λ (k : g.row.K.Denot). (g.K.Keeper.holding k).tells
     → Spells closed.entries closed.pending (g.K.Keeper.holding k).list) (sym kept) c.close-keeper.ensures.list)
     (subst (λ (k : g.row.K.Denot). (g.K.Keeper.holding k).tells

@@ -1,0 +1,5 @@
+use Rattle.law_http.proofs.Apart.{same_response}
+use Rattle.law_http.proofs.laws.responses_are_apart.Goals as goal
+
+pub returns : goal.returns
+returns g c = same_response g.D.Desk.state g.D.Desk.crashes g.E.Desk.state g.E.Desk.crashes
