@@ -10,9 +10,9 @@ ghost use Rattle.dossier_text.specs.Reports.{told, told_answer, told_on, told_ru
 ghost use Rattle.dossier_text.specs.Views.{report_view};
 
 use crate::entering::register_of;
-use crate::text_job::TextJob;
 use crate::lines::line;
 use crate::report::Report;
+use crate::text_job::TextJob;
 use akn_json::{
     Dossier, FormFault, ReadFail, put_answer, put_form_fault, put_query_rule, put_rule,
     read_dossier,

@@ -7,9 +7,9 @@ ghost use Rattle.dossier_text.specs.Runs.{IsTextStatus, IsDone, IsTold, IsCut, R
 ghost use Rattle.dossier_text.specs.declared.text_job.TextJob.{TextJob as Job};
 
 use crate::input::read_input;
-use crate::text_job::TextJob;
 use crate::reporting::report;
 use crate::stop::Stop;
+use crate::text_job::TextJob;
 use akn_json::MAX_DOSSIER_BYTES;
 use desk_base::{Sink, Source, Steps};
 use replay_core::FromEnacted;
