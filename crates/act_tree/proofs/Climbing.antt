@@ -154,15 +154,6 @@ module _ (at : ℕ → Option Laid) (number : List ℕ → Option ℕ) where
         | inr beneath ↦ climbs_all (branches_below size at (below_in (at 0))) (branch_from size at 0) w 0 0 i (below_in (at 0)) 1 size s (omega arith) s.1.1 refl (omega arith) beneath leads
       ]
 
--- one step of the way up, from a number that is not the root and was not taken off
-pub climbs_on : (f : ℕ) (at : ℕ → Option Laid) (i : ℕ) (x : Laid) → 0 < f → at i ≡ Some x → (i ≡ 0 → ⊥) → (x.above ≡ i → ⊥) → climbs (f - 1) at x.above ≡ climbs f at i
-climbs_on f at i x some here below other =
-    sym (
-    climbs_step f at i some
-    ∙ ap (λ b. b || (hangs_on i (at i) && climbs (f - 1) at (above_in (at i)))) (ne_eqb i 0 below)
-    ∙ ap (λ b. b && climbs (f - 1) at (above_in (at i))) (hangs_there i (at i) x here other)
-    ∙ ap (λ o. climbs (f - 1) at (above_in o)) here)
-
 -- past the root, each way up is as it is
 pub past_root : (f : ℕ) (at : ℕ → Option Laid) (i : ℕ) → climbs_past f at 0 i ≡ climbs f at i
 past_root zero at i = refl

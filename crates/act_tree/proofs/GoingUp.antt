@@ -23,16 +23,6 @@ climbs_from f at i climbed other =
       | inr on ↦ and_parts _ _ on
     ]
 
-hangs_laid : (i : ℕ) (o : Option Laid) → hangs_on i o ≡ true → (x : Laid) × (o ≡ Some x)
-hangs_laid i None hangs = absurd cc
-hangs_laid i (Some x) hangs = (x, refl)
-
--- who climbs and is not the root has a slot
-pub climbs_within : (arena : Arena) (f i : ℕ) → climbs f (at arena) i ≡ true → (i ≡ 0 → ⊥) → i < size arena
-climbs_within arena f i climbed other =
-    let here : (x : Laid) × (at arena i ≡ Some x) = hangs_laid i (at arena i) (climbs_from f (at arena) i climbed other).0 in
-    laid_within arena.slots.items i here.0 here.1
-
 -- the eId of a number that is not the root is below that of the number above
 pub eid_step : (f : ℕ) (n : Numbering) (at : ℕ → Option Laid) (i : ℕ) → 0 < f → (i ≡ 0 → ⊥)
     → eid_up f n at i ≡ Some (eid_below n (eid_up (f - 1) n at (above_in (at i))) (provision_in (at i)).own.element (provision_in (at i)).own.num)

@@ -33,21 +33,6 @@ module _ (n : Numbering) (at : ℕ → Option Laid) (size : ℕ) (x : List ℕ) 
   some_past_root zero = refl
   some_past_root (suc m) = ap (λ t. t || begins_past n at size 0 x m) (some_past_root m) ∙ ap (λ t. begins_before n at size x m || t) (by_past_root m)
 
-  pub past_before_has : (gone m i : ℕ) → i < m → begins_past n at size gone x i ≡ true → some_past n at size gone x m ≡ true
-  past_before_has gone zero i low held = absurd (omega arith)
-  past_before_has gone (suc m) i low held = elim (cases_eq i m) [
-    | inl last ↦ or_second (some_past n at size gone x m) _ (ap (begins_past n at size gone x) (sym last) ∙ held)
-    | inr other ↦ or_first _ _ (past_before_has gone m i (omega arith) held)
-  ]
-    where
-      or_first : (s t : Bool) → s ≡ true → (s || t) ≡ true
-      or_first true t told = refl
-      or_first false t told = absurd cc
-
-      or_second : (s t : Bool) → t ≡ true → (s || t) ≡ true
-      or_second true t told = refl
-      or_second false t told = told
-
 -- what is laid down once a number was taken off
 abbrev pub taken : (ℕ → Option Laid) → ℕ → ℕ → Option Laid
 taken at gone k =

@@ -33,7 +33,6 @@ pub mod GraftedTrees
 pub mod Places
 pub mod InsteadOf
 pub mod ReplacedNodes
-pub mod ChildCounts
 pub mod PartedNodes
 pub mod EidTexts
 pub mod Building

@@ -66,9 +66,6 @@ put_in_kept place new below one two = joined_kept (first place below) (joined ne
 pub among_children_keeps : (place : ℕ) (new : Branches Provision) → are_numbered new ≡ true → KeepsNums (among_children place new)
 among_children_keeps place new kept (branch p below) rest one others = both _ _ (both _ _ (and_parts _ _ one).0 (put_in_kept place new below kept (and_parts _ _ one).1)) others
 
-pub with_content_keeps : (content : List ℕ) → KeepsNums (with_content content)
-with_content_keeps content (branch p below) rest one others = both _ _ one others
-
 pub parted_keeps : (place : ℕ) (head : List ℕ) (second : Provision) → is_num second.own.num ≡ true → KeepsNums (parted place head second)
 parted_keeps place head second num (branch p below) rest one others =
     both _ _ (both _ _ (and_parts _ _ one).0 (first_kept place below (and_parts _ _ one).1)) (both _ _ (both _ _ num (behind_kept place below (and_parts _ _ one).1)) others)

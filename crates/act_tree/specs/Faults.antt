@@ -12,7 +12,7 @@ use Rattle.act_tree.specs.Provisions.{Own, Provision}
 use Rattle.act_tree.specs.Eids.{eid_below}
 use Rattle.act_tree.specs.Trees.{TreeValue}
 use Rattle.act_tree.specs.Wids.{one_twice}
-use Rattle.act_tree.specs.declared.limits.TheConstants.{MAX_TEXT_BYTES}
+use Rattle.act_tree.specs.declared.limits.TheConstants.{MAX_DEPTH, MAX_NODES, MAX_TEXT_BYTES}
 
 -- the number of a fault
 abbrev pub fault_number : BuildFault → ℕ
@@ -73,8 +73,8 @@ abbrev mutual
 abbrev pub first_fault : Numbering → Branches Own → Option BuildFault
 first_fault numbering body =
     if one_twice (all_eids numbering None body) then Some EidTwice
-    else (if nat_lt 12 (heights body) then Some TooDeep
-    else (if nat_lt 4096 (counts body) then Some TooManyNodes
+    else (if nat_lt MAX_DEPTH (heights body) then Some TooDeep
+    else (if nat_lt MAX_NODES (counts body) then Some TooManyNodes
     else (if have_long body then Some TextTooLong else None)))
 
 -- it failed by this fault, or for want of memory

@@ -20,6 +20,11 @@ tree_view t = record {
 unfoldable pub has_node : Tree → ℕ → Bool
 has_node t i = climbs (size t.arena) (at t.arena) i
 
+-- how many numbers were given since the arena of the tree was laid down: to the root, and to each provision that came,
+-- those that were taken away since included
+unfoldable pub laid_down : Tree → ℕ
+laid_down t = size t.arena
+
 -- what the node of a number says
 unfoldable pub provision_at : Tree → ℕ → Provision
 provision_at t i = provision_in (at t.arena i)

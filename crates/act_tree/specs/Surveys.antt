@@ -3,6 +3,7 @@ use Rattle.std.specs.Prelude.{ℕ, ◌+◌, ◌-◌, ◌^◌, ◌++◌, ◌||◌
 use Rattle.act_tree.specs.declared.build_fault.BuildFault.{BuildFault}
 use Rattle.act_tree.specs.declared.build_fault.BuildFault.TheVariants.{EidTwice, TooDeep, TooManyNodes, TextTooLong}
 use Rattle.eid_paths.specs.declared.numbering.Numbering.{Numbering}
+use Rattle.act_tree.specs.declared.limits.TheConstants.{MAX_DEPTH, MAX_NODES}
 use Rattle.act_tree.specs.declared.survey.Survey.{Survey}
 use Rattle.act_tree.specs.Branches.{Branch, Branches, branch, no_branches, more_branches}
 use Rattle.act_tree.specs.Provisions.{Own}
@@ -76,6 +77,6 @@ abbrev mutual
 abbrev pub fault_in : Surveyed → Option BuildFault
 fault_in s =
     if s.twice then Some EidTwice
-    else (if nat_lt 12 s.deepest then Some TooDeep
-    else (if nat_lt 4096 s.count then Some TooManyNodes
+    else (if nat_lt MAX_DEPTH s.deepest then Some TooDeep
+    else (if nat_lt MAX_NODES s.count then Some TooManyNodes
     else (if s.long then Some TextTooLong else None)))

@@ -11,8 +11,27 @@ ghost use Rattle.act_tree.specs.NodesStay.{NodesStay};
 ghost use Rattle.act_tree.specs.Provisions.{Own};
 ghost use Rattle.act_tree.specs.Seen.{tree_view, has_node, provision_at};
 ghost use Rattle.act_tree.specs.Wids.{all_wids, is_among, one_twice};
+ghost use Rattle.act_tree.specs.declared.limits.TheConstants as limit;
+ghost use Rattle.act_tree.specs.declared.surveying.TheConstants.{NONE_THROUGHOUT};
+ghost use Rattle.eid_paths.specs.Elements.{is_throughout};
+ghost use Rattle.eid_paths.specs.declared.element.Element.{Element};
 
 use crate::{NodeId, Nodes, Refs, Tree};
+
+/// The limits that act and edit have to keep, in numbers: how deep a text is and how many provisions it has, the bytes of a
+/// heading, a content or a text of an edit, the bytes of a wId, and the refs of a node.
+pub fn limits_in_numbers()
+    ensures depth { limit.MAX_DEPTH ≡ 12 }
+    ensures nodes { limit.MAX_NODES ≡ 4096 }
+    ensures text_bytes { limit.MAX_TEXT_BYTES ≡ 16384 }
+    ensures wid_bytes { limit.MAX_WID_BYTES ≡ 512 }
+    ensures refs { limit.MAX_REFS ≡ 16 }
+{}
+
+/// The numbering of acts that number nothing throughout is one by which no element is numbered throughout.
+pub fn none_is_throughout()
+    ensures { (element : Element) → is_throughout NONE_THROUGHOUT element ≡ false }
+{}
 
 /// Of a wId that is taken away no provision is left, at any depth.
 pub fn none_is_left(tree: &Tree, wid: &str)

@@ -1,4 +1,4 @@
-//! Limits of what an act or an edit brings.
+//! Limits of a text, and of what an act or an edit brings. `laws::limits_in_numbers` pins them.
 
 ghost use Rattle.std.specs.Prelude.{◌≡◌};
 ghost use Rattle.act_tree.specs.Branches.{branches_of};
@@ -6,6 +6,12 @@ ghost use Rattle.act_tree.specs.Limits as spec;
 ghost use Rattle.act_tree.specs.Specs.{spec_view};
 
 use crate::{NodeSpec, Nodes};
+
+/// The most levels of a text; a child of the root has depth 1.
+pub const MAX_DEPTH: u32 = 12;
+
+/// The most provisions of a text.
+pub const MAX_NODES: u32 = 4_096;
 
 /// The most refs of a node.
 pub const MAX_REFS: usize = 16;

@@ -3,7 +3,7 @@
 ghost use Rattle.std.specs.Prelude.{◌≡◌, ◌<◌, IfOk, OnOk, option_map, length, nat_lt, ◌||◌};
 ghost use Rattle.act_tree.specs.Branches.{branches_of};
 
-use crate::{BuildFault, MAX_TEXT_BYTES, Nodes, eid_below};
+use crate::{BuildFault, MAX_DEPTH, MAX_NODES, MAX_TEXT_BYTES, Nodes, eid_below};
 use desk_base::{Memory, Text};
 use eid_paths::Numbering;
 use indexmap::IndexSet;
@@ -67,9 +67,9 @@ impl Survey {
     {
         if self.twice {
             Some(BuildFault::EidTwice)
-        } else if self.deepest > 12 {
+        } else if self.deepest > MAX_DEPTH {
             Some(BuildFault::TooDeep)
-        } else if self.count > 4096 {
+        } else if self.count > MAX_NODES {
             Some(BuildFault::TooManyNodes)
         } else if self.long {
             Some(BuildFault::TextTooLong)

@@ -115,7 +115,7 @@ impl Tree {
     ghost use Rattle.act_tree.specs.Trees.{unchanged};
     ghost use Rattle.act_tree.specs.NodesStay.{NodesStay};
     ghost use Rattle.act_tree.specs.Wids.{all_wids, is_among, one_twice};
-    ghost use Rattle.act_tree.specs.Seen.{tree_view, has_node, provision_at, children_at, parent_at, branch_at, below_at, with_body, once_changed, changed_at, removed_at, substituted_at, grafted_at, nums_by_wid, next_at};
+    ghost use Rattle.act_tree.specs.Seen.{tree_view, has_node, provision_at, children_at, parent_at, branch_at, below_at, with_body, once_changed, changed_at, removed_at, substituted_at, grafted_at, nums_by_wid, next_at, laid_down};
     ghost use Rattle.std.specs.Prelude.{◌↔◌, [], ◌∷◌, drop};
     ghost use Rattle.act_tree.specs.Changes.{found, root_wid};
 
@@ -350,8 +350,10 @@ impl Tree {
 
     /// How many provisions were laid down, the root and those that were taken away included: each node's number is less.
     /// Nothing is counted for it.
+    #[tactic(auto, unfolding(crate::specs::Seen::laid_down))]
     pub fn laid_down(&self) -> usize
-        ensures { (k : ℕ) → has_node self.now k ≡ true → k < result }
+        ensures count { result ≡ laid_down self.now }
+        ensures past { (k : ℕ) → has_node self.now k ≡ true → k < result }
     {
         self.arena.slots.len()
     }

@@ -1,6 +1,6 @@
 -- How a loop over `write` appends the front of a list of bytes, piece by piece.
-use Rattle.std.proofs.Common.{◌≡◌, ℕ, ◌+◌, ◌-◌, ◌≤◌, List, ◌++◌, length, take, drop, sym, ap, ◌∙◌, append_assoc, arith, length-drop, Option, Some, None, Ok, Err}
-use Rattle.std.proofs.lemmas.List.{append-nil, take_all, take-append-drop}
+use Rattle.std.proofs.Common.{◌≡◌, ℕ, ◌+◌, ◌-◌, ◌≤◌, List, ◌++◌, length, take, drop, sym, ap, ◌∙◌, append_assoc, arith, length-drop, Option, Some, None, Err}
+use Rattle.std.proofs.lemmas.List.{take_all, take-append-drop}
 use Rattle.std.proofs.Math.Seq.{take-add}
 use Rattle.std.specs.Io.KnownBytes.{Appends, Keeps}
 use Rattle.desk_base.specs.Streams.{Appended}
@@ -9,10 +9,6 @@ use Rattle.desk_base.specs.Streams.{Appended}
 abbrev pub HasWritten : Option (List ℕ) → Option (List ℕ) → List ℕ → ℕ → Type 0
 HasWritten None now bytes at = Unit {0}
 HasWritten (Some before) now bytes at = now ≡ Some (before ++ take at bytes)
-
-pub none_yet : (begun : Option (List ℕ)) (bytes : List ℕ) → HasWritten begun begun bytes 0
-none_yet None bytes = tt
-none_yet (Some before) bytes = ap Some (sym (append-nil before))
 
 -- the piece that is handed to `write` is all that is left
 piece_is : (bytes : List ℕ) (at : ℕ) → take (length bytes - at) (drop at bytes) ≡ drop at bytes
@@ -32,10 +28,6 @@ kept None mid now bytes at had keeps = tt
 kept (Some before) None now bytes at had keeps = cc
 kept (Some before) (Some xs) None bytes at had keeps = absurd keeps
 kept (Some before) (Some xs) (Some ys) bytes at had keeps = ap Some keeps ∙ had
-
-pub all_written : (E : Type 0) (begun now : Option (List ℕ)) (bytes : List ℕ) (at : ℕ) (done : Unit {0}) → length bytes ≤ at → HasWritten begun now bytes at → Appended {E = E} begun now bytes (Ok done)
-all_written E None now bytes at done all had = tt
-all_written E (Some before) now bytes at done all had = had ∙ ap (λ xs. Some (before ++ xs)) (take_all at bytes all)
 
 pub front_written : (E : Type 0) (begun now : Option (List ℕ)) (bytes : List ℕ) (at : ℕ) (fault : E) → HasWritten begun now bytes at → Appended {E = E} begun now bytes (Err fault)
 front_written E None now bytes at fault had = tt

@@ -1,14 +1,18 @@
 -- What the streams of the outside take, give and count.
 use Rattle.std.specs.Prelude.{ℕ, ◌≡◌, ◌+◌, ◌-◌, ◌^◌, ◌≤◌, List, ◌++◌, Option, Some, None, Result, Ok, Err, max, min}
 
+-- a count of faults with one fault more; it stands still at its last value
+abbrev pub risen : ℕ → ℕ
+risen count = max count (min (count + 1) (2 ^ 64 - 1))
+
 -- a count of faults rose, or stands at its last value; it did not fall
 abbrev pub Rose : ℕ → ℕ → Type 0
-Rose before now = max before (min (before + 1) (2 ^ 64 - 1)) ≤ now
+Rose before now = risen before ≤ now
 
--- a call fails only where the count of faults rose in it, and else leaves the count as it was
+-- a call that fails counts one fault, and any other leaves the count as it was
 abbrev pub HasCause : {T E : Type 0} → ℕ → ℕ → Result T E → Type 0
 HasCause before now (Ok value) = now ≡ before
-HasCause before now (Err fault) = Rose before now
+HasCause before now (Err fault) = now ≡ risen before
 
 -- a read lowers the room of its source by the bytes that it gives
 abbrev pub LowersRoom : {E : Type 0} → ℕ → ℕ → Result ℕ E → Type 0

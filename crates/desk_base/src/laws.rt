@@ -1,4 +1,4 @@
-//! Laws of days, of decimals and of equality, each as the contract of a function with an empty body.
+//! Laws of days, of sizes, of decimals and of equality, each as the contract of a function with an empty body.
 
 ghost use Rattle.std.specs.Prelude.{◌≡◌, ◌≤◌, ◌↔◌, ℕ, List, IsTrue, Some};
 ghost use Rattle.std.specs.Fmt.{decimal};
@@ -6,6 +6,7 @@ ghost use Rattle.desk_base.specs.Decimals.{decimal_up_to};
 ghost use Rattle.desk_base.specs.Days.{IsDay, number_of, day_of, day_text};
 ghost use Rattle.desk_base.specs.declared.id.Id.{Id as IdValue};
 ghost use Rattle.desk_base.specs.declared.period.Period.{Period as PeriodValue};
+ghost use Rattle.desk_base.specs.declared.sizes.TheConstants.{DAY_SIZE, ID_SIZE, PERIOD_SIZE};
 
 use crate::{Day, Id, Period, Text};
 
@@ -34,6 +35,13 @@ pub fn days_are_counted_from_first()
     ensures first { number_of 1 1 1 ≡ 1 }
     ensures epoch { number_of 1970 1 1 ≡ 719163 }
     ensures last { number_of 9999 12 31 ≡ 3652059 }
+{}
+
+/// Where an entry is kept, a day takes four bytes, an id six, and a period eight.
+pub fn sizes_are_these()
+    ensures day { DAY_SIZE ≡ 4 }
+    ensures id { ID_SIZE ≡ 6 }
+    ensures period { PERIOD_SIZE ≡ 8 }
 {}
 
 /// What a number spells in decimal is read as that number, within every limit that it keeps.

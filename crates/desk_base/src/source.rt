@@ -3,16 +3,16 @@
 ghost use Rattle.std.specs.Prelude.{◌≡◌, ℕ, ◌+◌, ◌-◌, ◌^◌, min, List, Option, length};
 ghost use Rattle.std.specs.Io.{ReadsAtMost};
 ghost use Rattle.std.specs.Io.KnownBytes.{ReadConsumes};
-ghost use Rattle.desk_base.specs.Streams.{HasCause, LowersRoom, Rose};
+ghost use Rattle.desk_base.specs.Streams.{HasCause, LowersRoom, risen};
 
-/// A device failed. The count of its faults rose in that call.
+/// A device failed. The count of its faults rose by one in that call.
 #[derive(Clone, Copy, Debug, PartialEq, Eq)]
 pub struct Failed;
 
 /// Counts one fault, and gives the failure that a call answers for it.
 pub fn count_fault(faults: &mut u64) -> Failed
     ensures one_more { faults.new ≡ min (faults.old + 1) (2 ^ 64 - 1) }
-    ensures rose { Rose faults.old faults.new }
+    ensures risen { faults.new ≡ risen faults.old }
 {
     *faults = faults.saturating_add(1);
     Failed

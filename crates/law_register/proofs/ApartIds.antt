@@ -1,5 +1,5 @@
 -- Ids that differ.
-use Rattle.std.proofs.Common.{◌≡◌, ◌∙◌, sym, ap, refl, Bool, true, false, ◌||◌, List, [], ◌∷◌, ◌++◌, arith}
+use Rattle.std.proofs.Common.{◌≡◌, refl, Bool, true, false, ◌||◌, List, [], ◌∷◌, ◌++◌, arith}
 use Rattle.std.proofs.lemmas.Bool.Decides.{nat_tests}
 use Rattle.std.specs.List.{list_any}
 use Rattle.desk_base.specs.declared.id.Id.{Id}
@@ -12,9 +12,6 @@ same_sym a b false h = grind (arith, nat_tests)
 
 pub same_self : (a : Id) → is_same_id a a ≡ true
 same_self a = grind (arith, nat_tests)
-
-pub other_id : (a b : Id) → is_same_id a b ≡ false → a ≡ b → ⊥
-other_id a b h same = let is : is_same_id a b ≡ true = ap (λ i. is_same_id i b) same ∙ same_self b in let wrong : false ≡ true = sym h ∙ is in cc
 
 pub none_left : (a b : Bool) → (a || b) ≡ false → a ≡ false
 none_left true b h = absurd (let wrong : true ≡ false = h in cc)

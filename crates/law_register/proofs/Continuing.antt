@@ -1,27 +1,20 @@
 -- What one modification more makes of a version.
-use Rattle.std.proofs.Common.{◌≡◌, ◌∙◌, sym, ap, refl, subst, ℕ, ◌+◌, ◌-◌, ◌^◌, ◌<◌, min, Bool, true, false, ◌||◌, List, [], ◌∷◌, ◌++◌, append_assoc, cond, length, length-append, Option, Some, None, Ok, Err, Result, arith}
-use Rattle.std.specs.List.{All, AllByRecursion, find, list_any}
+use Rattle.std.proofs.Common.{◌≡◌, ◌∙◌, sym, ap, refl, subst, ◌+◌, ◌-◌, Bool, true, false, List, [], ◌∷◌, ◌++◌, append_assoc, cond, Option, Some, None, Ok, Err, Result}
+use Rattle.std.specs.List.{All, AllByRecursion, find}
 use Rattle.std.proofs.lemmas.List.Elements.{All-head, All-tail}
 use Rattle.desk_base.specs.declared.id.Id.{Id}
 use Rattle.act_tree.specs.declared.cause.Cause.{Cause}
 use Rattle.act_tree.specs.Branches.{Branches, branches_of}
-use Rattle.act_tree.specs.Brought.{has_brought}
-use Rattle.act_tree.specs.Faults.{first_cause, first_fault}
+use Rattle.act_tree.specs.Faults.{first_fault}
 use Rattle.act_tree.specs.Provisions.{Provision}
 use Rattle.textual_mods.proofs.Starting.{enacted_brings_none, enacted_fits}
 use Rattle.textual_mods.specs.Edits as edits
 use Rattle.textual_mods.specs.declared.edit.TextualMod.{TextualMod}
 use Rattle.law_register.specs.declared.law.act.Act.{Act}
 use Rattle.law_register.specs.declared.register.known.KnownMod.{KnownMod}
-use Rattle.law_register.specs.Answer.Counted.{is_same_id}
 use Rattle.law_register.specs.Answer.Replay.{VersionValue, as_enacted, taken, edit_of, edited_by, replayed}
 use Rattle.law_register.specs.Answer.Soundness.{IsReplayed, IsSoundBody, id_twice}
-use Rattle.law_register.proofs.ApartIds.{none_left, none_before, one_less, other_id}
-
--- other modifications have no wId in the new text that had none in the old one
-abbrev pub KeepsOthers : Id → Branches Provision → Branches Provision → Type 0
-KeepsOthers id old new =
-    (other : Id) → other.law < 2 ^ 32 → other.item < 2 ^ 16 → (other ≡ id → ⊥) → has_brought other old ≡ false → has_brought other new ≡ false
+use Rattle.law_register.proofs.ApartIds.{one_less}
 
 -- the act as enacted is as replay makes a version
 pub enacted_replayed : (act : Act) → first_fault act.numbering (branches_of act.body) ≡ None → (v : VersionValue) → v ≡ as_enacted act → IsReplayed v
@@ -30,29 +23,6 @@ enacted_replayed act sound v is = subst IsReplayed (sym is) (record {
   fresh = λ other law item none. enacted_brings_none act.numbering (branches_of act.body) other;
   changes = refl;
 })
-
-one_more : (n : ℕ) → min (min n (2 ^ 64 - 1) + 1) (2 ^ 64 - 1) ≡ min (n + 1) (2 ^ 64 - 1)
-one_more n = omega arith
-
-last_apart : (xs : List Id) (id other : Id) → list_any (is_same_id other) (xs ++ id ∷ []) ≡ false → is_same_id other id ≡ false
-last_apart [] id other h = none_left (is_same_id other id) false h
-last_apart (x ∷ xs) id other h = last_apart xs id other (right (is_same_id other x) (list_any (is_same_id other) (xs ++ id ∷ [])) h)
-  where
-    right : (a b : Bool) → (a || b) ≡ false → b ≡ false
-    right a b h = grind (arith)
-
--- a version with one modification more tried on its text is as replay makes it
-pub taken_replayed : (v : VersionValue) (id : Id) (r : Result (Branches Provision) Cause) → IsReplayed v → first_cause (taken v id r).tree ≡ None
-    → KeepsOthers id v.tree.body (taken v id r).tree.body → IsReplayed (taken v id r)
-taken_replayed v id (Err cause) is fits others = record { fits = fits; fresh = is.fresh; changes = is.changes }
-taken_replayed v id (Ok body) is fits others = record {
-  fits = fits;
-  fresh = λ other law item none.
-      others other law item (other_id other id (last_apart v.applied id other none)) (is.fresh other law item (none_before other v.applied (id ∷ []) none));
-  changes =
-      ap (λ n. min (n + 1) (2 ^ 64 - 1)) is.changes ∙ one_more (length v.applied)
-      ∙ ap (λ n. min n (2 ^ 64 - 1)) (sym (length-append v.applied (id ∷ [])));
-}
 
 -- those to come still differ from each other and from those applied
 pub edited_apart : (v : VersionValue) (id : Id) (edit : Option TextualMod) (ids : List Id) → id_twice (v.applied ++ id ∷ ids) ≡ false

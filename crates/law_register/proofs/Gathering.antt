@@ -1,6 +1,5 @@
 -- The law entries of a work, noted one after another, oldest first.
-use Rattle.std.proofs.Common.{◌≡◌, ◌∙◌, sym, ap, subst, ℕ, suc, ◌+◌, ◌-◌, ◌≤◌, ◌<◌, List, [], ◌∷◌, ◌++◌, length, take, Option, Some, None, slice_get, refl, arith}
-use Rattle.std.proofs.lemmas.List.{append-nil}
+use Rattle.std.proofs.Common.{◌≡◌, ◌∙◌, sym, ap, subst, ℕ, suc, ◌+◌, ◌-◌, ◌≤◌, ◌<◌, List, [], ◌∷◌, ◌++◌, length, take, Option, Some, slice_get, refl, arith}
 use Rattle.desk_base.specs.declared.id.Id.{Id}
 use Rattle.law_register.specs.declared.law.command.Command.{Command}
 use Rattle.law_register.specs.declared.register.entry.Entry.{Entry}
@@ -47,18 +46,6 @@ pub record IsNotedTo (es : List Entry) (w : List ℕ) (v : ℕ) (numbers : List 
   pub rest : numbers ++ numbers_on w (take reached (laws es)) ≡ numbers_on w (take v (laws es))
   pub marks : (i : Id) → IdStands es (mark i) (own_facts w (facts_of i (take reached (laws es))))
   pub ids : listed ≡ ids_of w (take reached (laws es))
-
-pub none_noted : (es : List Entry) (w : List ℕ) (v : ℕ) (numbers : List ℕ) (mark : Id → Option IdMark) → numbers ≡ numbers_on w (take v (laws es))
-    → ((i : Id) → mark i ≡ None) → IsNotedTo es w v numbers mark []
-none_noted es w v numbers mark is none = record {
-  reached = 0;
-  last = refl;
-  rest = append-nil numbers ∙ is;
-  marks = λ i.
-      let P : Option IdMark → Type 0 = λ m. IdStands es m None in
-      subst P (sym (none i)) tt;
-  ids = refl;
-}
 
 pub noted_turn : (es : List Entry) (w : List ℕ) (v number : ℕ) (numbers : List ℕ) (mark : Id → Option IdMark) (ids : List Id)
     → (noted : IsNotedTo es w v (numbers ++ number ∷ []) mark ids) → IsTurn w (laws es) number noted.reached

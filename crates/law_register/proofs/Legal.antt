@@ -1,5 +1,5 @@
 -- What is so of a legal register, and of a command that is accepted behind it.
-use Rattle.std.proofs.Common.{◌≡◌, sym, ap, subst, ℕ, ◌+◌, ◌≤◌, nat_le, nat_lt, Bool, true, false, cond, ◌&&◌, ◌||◌, List, [], ◌∷◌, ◌++◌, length, Option, Some, None, refl, append_assoc, arith}
+use Rattle.std.proofs.Common.{◌≡◌, sym, ap, subst, ℕ, ◌+◌, ◌≤◌, nat_le, nat_lt, Bool, true, false, cond, ◌||◌, List, [], ◌∷◌, ◌++◌, length, Option, Some, None, refl, append_assoc, arith}
 use Rattle.std.proofs.lemmas.List.{append-nil, length-append}
 use Rattle.std.proofs.lemmas.Bool.Decides.{nat_tests}
 use Rattle.std.specs.Option.{option_map_or, option_or}
@@ -111,10 +111,6 @@ not_above m n h = grind (arith, nat_tests)
 neither : (a b : Bool) → a || b ≡ false → b ≡ false
 neither true b h = absurd (let no : true ≡ false = h in cc)
 neither false b h = h
-
-not_both : (a b : Bool) → a ≡ true → a && b ≡ false → b ≡ false
-not_both true b h i = i
-not_both false b h i = absurd (let no : false ≡ true = h in cc)
 
 abbrev SizeFits : List Entry → Type 0
 SizeFits es = entries_size es ≤ MOST_REGISTER_BYTES

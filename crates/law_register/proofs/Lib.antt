@@ -12,7 +12,6 @@ pub mod Marking
 pub mod IdSteps
 pub mod Limits
 pub mod Pushing
-pub mod Reserving
 pub mod Once
 pub mod Past
 pub mod Chains

@@ -1,28 +1,21 @@
 -- What look-ups in the indexes tell, by what the marks stand for.
-use Rattle.std.proofs.Common.{◌≡◌, ◌∙◌, ap, ℕ, ◌==◌, Bool, true, false, cond, ◌||◌, List, [], ◌∷◌, ◌++◌, length, filter, Option, Some, None, option_map, slice_get, suc, refl}
+use Rattle.std.proofs.Common.{◌≡◌, ◌∙◌, ap, ℕ, ◌==◌, Bool, true, false, cond, ◌||◌, List, [], ◌∷◌, ◌++◌, length, filter, Option, Some, None, option_map, suc, refl}
 use Rattle.std.specs.List.{list_any}
 use Rattle.std.specs.Str.{bytes_eq}
 use Rattle.law_register.specs.declared.law.act.Act.{Act}
 use Rattle.law_register.specs.declared.register.draft.DraftItem.{DraftItem}
 use Rattle.law_register.specs.declared.register.entry.Entry.{Entry}
 use Rattle.law_register.specs.declared.register.indexes.EnactedMark.{EnactedMark}
-use Rattle.law_register.specs.declared.register.indexes.IdMark.{IdMark}
 use Rattle.law_register.specs.declared.register.indexes.ItemMark.{ItemMark}
 use Rattle.law_register.specs.declared.register.indexes.RequestMark.{RequestMark}
 use Rattle.law_register.specs.declared.register.verdict.Reply.{Reply}
 use Rattle.law_register.specs.Register.Drafts.{items_of}
-use Rattle.law_register.specs.Register.Indexes.{told_at, work_named, act_of, body_of, marks_work, RequestStands, ItemsStand, EnactedStands, IdStands}
+use Rattle.law_register.specs.Register.Indexes.{told_at, work_named, act_of, body_of, marks_work, RequestStands, ItemsStand, EnactedStands}
 use Rattle.law_register.specs.Register.Concerns.{is_named}
-use Rattle.law_register.specs.Register.KnownIds.{IdFacts}
 use Rattle.law_register.specs.Register.Listing.{item_told, items_marked}
 use Rattle.law_register.specs.declared.law.modification.Modification.{Modification}
 use Rattle.law_register.specs.Register.Verdicts.{again, has_item}
 use Rattle.law_register.specs.declared.law.command.Command.{Command}
-
--- a value that a mark leads to, if there is a mark
-abbrev pub led : {M X : Type 0} → (M → Option X) → Option M → Option X
-led to None = None
-led to (Some m) = to m
 
 -- a draft's marks are as many as its items, with their numbers and works
 pub items_length : (es : List Entry) (ms : List ItemMark) (items : List DraftItem) → ItemsStand es ms items → length ms ≡ length items
@@ -63,44 +56,6 @@ items_filed w es ms items h = items_filter (marks_work es w) (λ i. bytes_eq i.w
 pub items_counted : (w : List ℕ) (es : List Entry) (ms : List ItemMark) (items : List DraftItem) → ItemsStand es ms items
     → length (filter (marks_work es w) ms) ≡ length (items_of w items)
 items_counted w es ms items h = items_length es (filter (marks_work es w) ms) (items_of w items) (items_filed w es ms items h)
-
--- the number of the law entry that enacts
-pub enacted_number : (es : List Entry) (m : Option EnactedMark) (found : Option (ℕ × Act)) → EnactedStands es m found
-    → option_map (λ (k : EnactedMark). k.number) m ≡ option_map (λ (f : ℕ × Act). f.0) found
-enacted_number es None None h = refl
-enacted_number es (Some m) (Some found) h = ap Some h.0
-enacted_number es None (Some found) h = absurd h
-enacted_number es (Some m) None h = absurd h
-
--- what is known of an id
-pub id_work : (es : List Entry) (m : Option IdMark) (f : Option IdFacts) → IdStands es m f
-    → led (λ k. told_at es k.recorded work_named) m ≡ option_map (λ (x : IdFacts). x.work) f
-id_work es None None h = refl
-id_work es (Some m) (Some f) h = h.0
-id_work es None (Some f) h = absurd h
-id_work es (Some m) None h = absurd h
-
-pub id_body : (es : List Entry) (m : Option IdMark) (f : Option IdFacts) → IdStands es m f
-    → led (λ k. told_at es k.entry (body_of k.place)) m ≡ option_map (λ (x : IdFacts). x.body) f
-id_body es None None h = refl
-id_body es (Some m) (Some f) h = h.1
-id_body es None (Some f) h = absurd h
-id_body es (Some m) None h = absurd h
-
-pub id_standing : (es : List Entry) (m : Option IdMark) (f : Option IdFacts) → IdStands es m f
-    → option_map (λ (k : IdMark). k.standing) m ≡ option_map (λ (x : IdFacts). x.standing) f
-id_standing es None None h = refl
-id_standing es (Some m) (Some f) h = ap Some h.2
-id_standing es None (Some f) h = absurd h
-id_standing es (Some m) None h = absurd h
-
--- a request's entry and its reply
-pub request_entry : (es : List Entry) (m : Option RequestMark) (found : Option (Entry × Reply)) → RequestStands es m found
-    → led (λ k. slice_get es k.entry) m ≡ option_map (λ (p : Entry × Reply). p.0) found
-request_entry es None None h = refl
-request_entry es (Some m) (Some found) h = h.0
-request_entry es None (Some found) h = absurd h
-request_entry es (Some m) None h = absurd h
 
 pub request_reply : (es : List Entry) (m : Option RequestMark) (found : Option (Entry × Reply)) → RequestStands es m found
     → option_map (λ (k : RequestMark). k.reply) m ≡ option_map (λ (p : Entry × Reply). p.1) found

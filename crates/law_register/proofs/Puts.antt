@@ -39,12 +39,6 @@ module _ {K X : Type 0} (eq : K → K → Bool) (test : K → Bool) (key : K) (v
   put tells [] = refl
   put tells (e ∷ es) = put_front tells e es (eq key e.0) refl (put tells es)
 
--- look-ups by tests that agree
-pub looked_up : {K X : Type 0} (f g : K → Bool) → ((k : K) → f k ≡ g k) → (es : List (K × X)) → lookup f es ≡ lookup g es
-looked_up f g agree [] = refl
-looked_up f g agree (e ∷ es) =
-    ap (λ b. cond b (Some e.1) (lookup f es)) (agree e.0) ∙ ap (λ o. cond (g e.0) (Some e.1) o) (looked_up f g agree es)
-
 -- two texts are compared either way
 pub bytes_same : (a b : List ℕ) → bytes_eq a b ≡ true → a ≡ b
 bytes_same a b h = (bytes_eq-Decides a b).0 h

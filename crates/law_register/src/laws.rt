@@ -1,8 +1,9 @@
 //! What holds of commands and of registers. Each law is a function that does nothing, whose clause is the law.
 
-ghost use Rattle.std.specs.Prelude.{◌≡◌, ◌≤◌, ◌↔◌, ℕ, IsTrue, true, length, slice_get, Some};
+ghost use Rattle.std.specs.Prelude.{◌≡◌, ◌≤◌, ◌↔◌, ◌++◌, ◌∷◌, [], ◌&&◌, ℕ, List, IsTrue, true, length, slice_get, Some};
 ghost use Rattle.law_register.specs.declared.law.command.Command.{Command as CommandValue};
 ghost use Rattle.law_register.specs.declared.register.entry.Entry.{Entry};
+ghost use Rattle.law_register.specs.declared.register.limits.TheConstants as limits;
 ghost use Rattle.law_register.specs.Register.Drafters.{is_drafter};
 ghost use Rattle.law_register.specs.Register.KnownIds.{ids_of};
 ghost use Rattle.law_register.specs.Register.LawList.{laws, front, law_numbers, first_numbers};
@@ -11,16 +12,48 @@ ghost use Rattle.law_register.specs.Law.Sizes.{entry_size};
 ghost use Rattle.law_register.specs.Law.Spellable.{can_all_be_spelled, can_be_spelled};
 ghost use Rattle.law_register.specs.Law.Spelling.{is_well_spelled};
 ghost use Rattle.law_register.specs.Register.Registers.{are_well_spelled};
-ghost use Rattle.law_register.specs.Register.Verdicts.{is_accepted, verdict};
+ghost use Rattle.law_register.specs.Register.Verdicts.{is_accepted, is_legal, verdict};
 
 use crate::{Command, Drafter, Entry, Register};
 use frbr_names::WorkName;
+
+/// The limits of the register, which the definitions of its rules cite.
+pub fn limits_are_these()
+    ensures drafters { limits.MOST_DRAFTERS ≡ 256 }
+    ensures draft_items { limits.MOST_DRAFT_ITEMS ≡ 64 }
+    ensures ids { limits.MOST_IDS ≡ 512 }
+    ensures laws { limits.MOST_LAWS ≡ 65535 }
+    ensures entry_bytes { limits.MOST_ENTRY_BYTES ≡ 16777216 }
+    ensures register_bytes { limits.MOST_REGISTER_BYTES ≡ 536870912 }
+{}
 
 /// `==` holds of commands exactly where they are equal, and so does what verdicts ask of a repeat.
 #[tactic(auto, using(crate::proofs::Equality::commands_decide), unfolding(crate::specs::Law::Same::same_command))]
 pub fn equality_is_decided()
     ensures commands { (a b : CommandValue) → IsTrue (⟦<Command as PartialEq>⟧.eq a b) ↔ (a ≡ b) }
     ensures repeats { (a b : CommandValue) → IsTrue (same_command a b) ↔ (a ≡ b) }
+{}
+
+/// The entries of a register are legal.
+pub fn entries_are_legal(register: &Register)
+    ensures { is_legal register.now.entries ≡ true }
+{
+    let _ = &register.entries;
+}
+
+/// Legal entries grow one by one: none are legal, and one more behind others is exactly where the others are and it is accepted
+/// behind them with its law number.
+pub fn legal_entries_grow()
+    ensures none { is_legal [] ≡ true }
+    ensures more { (entries : List Entry) (entry : Entry) → is_legal (entries ++ entry ∷ [])
+        ≡ (is_legal entries && is_accepted entry.law (verdict entries entry.drafter entry.request entry.command)) }
+{}
+
+/// Among legal entries each request of a drafter stands once: two of one drafter and one request are one, at one index.
+pub fn legal_requests_are_once()
+    ensures { (entries : List Entry) → is_legal entries ≡ true → (i j : ℕ) (a b : Entry)
+        → slice_get entries i ≡ Some a → slice_get entries j ≡ Some b
+        → a.drafter ≡ b.drafter → a.request ≡ b.request → i ≡ j }
 {}
 
 /// Each entry of a register is well spelled.

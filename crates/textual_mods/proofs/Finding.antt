@@ -1,5 +1,5 @@
 -- A text parted at an occurrence of another.
-use Rattle.std.proofs.Common.{◌≡◌, ◌≢◌, ◌∙◌, sym, ap, subst, refl, ℕ, zero, suc, ◌+◌, ◌-◌, ◌<◌, ◌≤◌, true, false, cond, List, [], ◌∷◌, ◌++◌, append_assoc, length, take, drop, nat_eq, Option, Some, None, inl, inr, arith}
+use Rattle.std.proofs.Common.{◌≡◌, ◌≢◌, ◌∙◌, sym, ap, subst, refl, ℕ, suc, ◌+◌, ◌-◌, ◌<◌, ◌≤◌, true, false, cond, List, [], ◌∷◌, ◌++◌, length, take, drop, nat_eq, Option, Some, None, inl, inr, arith}
 use Rattle.std.specs.Prelude.{option_map, MatchOption}
 use Rattle.std.specs.List.{starts_with}
 use Rattle.std.specs.Str.Pattern.{FindsText}
@@ -9,7 +9,7 @@ use Rattle.std.proofs.lemmas.List.{take-append-drop}
 use Rattle.std.proofs.lemmas.Slice.Eq.{starts_is}
 use Rattle.std.proofs.Math.Seq.{drop-append_seam}
 use denote.Ref.{Bor}
-use Rattle.textual_mods.specs.Occurrences.{parted_at_first, behind_front, parted_behind, parted_after}
+use Rattle.textual_mods.specs.Occurrences.{parted_at_first}
 
 starts : (old text rest : List ℕ) → text ≡ old ++ rest → starts_with nat_eq text old ≡ true
 starts old text rest is = (starts_is Decides-eqb text old _ refl).1 rest is
@@ -66,20 +66,3 @@ pub parted_is : (old text : List ℕ) (r : Option (Bor (List ℕ) × Bor (List �
     → option_map (λ parts. (parts.0.now, parts.1.now)) r ≡ parted_at_first old text
 parted_is old text None cut = sym (none_found old text (λ i below. cut i (omega arith)))
 parted_is old text (Some (before, behind)) cut = found_at old text before.now behind.now cut.0 cut.1 cut.2.0 cut.2.1.split cut.3 cut.4 cut.6
-
--- behind one occurrence there is one less to pass
-pub one_passed : (old text : List ℕ) (others : ℕ) → 0 < others → parted_after old others text ≡ parted_behind old (parted_after old (others - 1)) (parted_at_first old text)
-one_passed old text zero some = absurd (omega arith)
-one_passed old text (suc n) some =
-    let same : n ≡ suc n - 1 = omega arith in ap (λ m. parted_behind old (parted_after old m) (parted_at_first old text)) same
-
--- what stood before moves behind what stood before that
-pub front_grows : (front before old : List ℕ) (parts : Option (List ℕ × List ℕ))
-    → option_map (behind_front front) (option_map (behind_front (before ++ old)) parts) ≡ option_map (behind_front ((front ++ before) ++ old)) parts
-front_grows front before old None = refl
-front_grows front before old (Some parts) =
-    ap (λ t. Some (t, parts.1)) (ap (λ t. front ++ t) (append_assoc before old parts.0) ∙ sym (append_assoc front before (old ++ parts.0)) ∙ sym (append_assoc (front ++ before) old parts.0))
-
-pub no_front : (parts : Option (List ℕ × List ℕ)) → option_map (behind_front []) parts ≡ parts
-no_front None = refl
-no_front (Some parts) = refl

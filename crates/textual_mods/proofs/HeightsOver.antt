@@ -3,6 +3,7 @@ use Rattle.std.proofs.Common.{◌≡◌, ◌∙◌, sym, ap, refl, subst, ℕ, �
 use Rattle.std.specs.Str.{bytes_eq}
 use Rattle.std.proofs.lemmas.Bool.{cases_Bool, cond_both, cases_eq, eq-eqb, or_cases, cases_lt, lt-ltb, le-ltb}
 use Rattle.eid_paths.specs.declared.numbering.Numbering.{Numbering}
+use Rattle.act_tree.specs.declared.limits.TheConstants.{MAX_DEPTH}
 use Rattle.act_tree.specs.declared.surveying.TheConstants.{NONE_THROUGHOUT}
 use Rattle.act_tree.specs.declared.tree.Tree.{Tree}
 use Rattle.act_tree.specs.Arena.{Laid, below_in, StandAll, IsWhole}
@@ -77,7 +78,7 @@ reached t gone parent high node =
 pub deep_told : (t : Tree) (gone : Option ℕ) (parent depth high told : ℕ) (new : Branches Own) → first_cause (tree_view t) ≡ None → first_fault NONE_THROUGHOUT new ≡ None
     → has_node t parent ≡ true → is_in (provision_at t parent).wid (text_left t gone) ≡ true
     → depth ≡ depth_of (provision_at t parent).wid (tree_view t).body → high ≡ min (heights new) 4294967295 → told ≡ min (depth + high) 4294967295
-    → nat_lt 12 told ≡ nat_lt 12 (height_with (provision_at t parent).wid (heights new) (text_left t gone))
+    → nat_lt MAX_DEPTH told ≡ nat_lt MAX_DEPTH (height_with (provision_at t parent).wid (heights new) (text_left t gone))
 deep_told t gone parent depth high told new fits sound node stays is_deep is_high is =
     let w : List ℕ = (provision_at t parent).wid in
     let text : Branches Provision = text_left t gone in

@@ -14,10 +14,9 @@ use Rattle.act_tree.proofs.Frames.{none_left, none_right, neither}
 use Rattle.act_tree.proofs.LevelsDiffer.{levels_decide}
 use Rattle.act_tree.proofs.Nums.{changed_kept, merged_keeps}
 use Rattle.act_tree.proofs.Texts.{same_text, equal_text}
-use Rattle.textual_mods.proofs.JoinChange.{IsFirst, is_first, head_at, only_first}
+use Rattle.textual_mods.proofs.RightBehind.{IsFirst, is_first, head_at, only_first, next_past, next_none}
 use Rattle.textual_mods.proofs.Limits.{IsPlaced, is_placed, is_short, fault_by}
 use Rattle.textual_mods.proofs.OnePlace.{first_of, beneath_it, behind_it, found_past, AreDistinct, are_distinct, not_changed, elsewhere, at_place}
-use Rattle.textual_mods.proofs.Readers.{next_past, next_none}
 
 abbrev pub one_if : Bool → ℕ
 one_if true = 1

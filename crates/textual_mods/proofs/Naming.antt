@@ -1,6 +1,6 @@
 -- The provisions that a wId names.
 use Rattle.std.proofs.Common.{◌≡◌, ◌∙◌, sym, ap, refl, ℕ, Bool, true, false, cond, ◌||◌, List, length, map, Some, None, inl, inr}
-use Rattle.std.specs.Prelude.{◌↔◌, is_some}
+use Rattle.std.specs.Prelude.{◌↔◌}
 use Rattle.std.specs.Str.{bytes_eq}
 use Rattle.std.proofs.lemmas.List.{length-map}
 use Rattle.act_tree.proofs.Texts.{text_cases, equal_text, other_text}
@@ -10,9 +10,7 @@ use Rattle.act_tree.specs.Branches.{Branch, Branches, branch, no_branches, more_
 use Rattle.act_tree.specs.Changes.{holds, any_holds, is_in, found, sought, or_else, root_wid}
 use Rattle.act_tree.specs.Provisions.{Provision}
 use Rattle.act_tree.specs.Seen.{tree_view, branch_at, below_at}
-use Rattle.textual_mods.specs.StructureEdits.{is_anchor}
 use Rattle.textual_mods.specs.Targets.{provision_named, below, children_named}
-use Rattle.textual_mods.specs.declared.edit.Pos.{Pos}
 use Rattle.textual_mods.specs.declared.edit.Pos.TheVariants as stands
 
 neither : (s t : Bool) → (s || t) ≡ false → (s ≡ false) × (t ≡ false)
@@ -37,13 +35,6 @@ none_named w bs none =
     let t = neither (bytes_eq w root_wid) (any_holds w bs) none in
     ap (λ told. cond told None (found w bs)) t.0 ∙ none_found w bs t.1
 
--- nothing stands beside or in a wId that is not there
-pub no_anchor : (pos : Pos) (w : List ℕ) (bs : Branches Provision) → is_in w bs ≡ false → is_anchor pos w bs ≡ false
-no_anchor stands.Before w bs none = ap is_some (none_named w bs none)
-no_anchor stands.After w bs none = ap is_some (none_named w bs none)
-no_anchor stands.Start w bs none = none
-no_anchor stands.End w bs none = none
-
 -- the children that a tree lists at a node are those that its text has at the node's wId
 pub children_counted : (t : Tree) (id : ℕ) (w : List ℕ) (ids : List ℕ) → (id ≡ 0) ↔ (w ≡ root_wid)
     → ((id ≡ 0 → ⊥) → found w (tree_view t).body ≡ Some (branch_at t id)) → branches_of (map (branch_at t) ids) ≡ below_at t id → children_named w (tree_view t).body ≡ length ids
@@ -62,10 +53,6 @@ children_counted t id w ids root branch_there under =
           ∙ counted
     ]
 
--- a wId that is there and is not the root's is a provision's
-pub held : (w : List ℕ) (bs : Branches Provision) → is_in w bs ≡ true → (w ≡ root_wid → ⊥) → any_holds w bs ≡ true
-held w bs there other = ap (λ told. told || any_holds w bs) (sym (other_text w root_wid other)) ∙ there
-
--- and it names what is found there
+-- a wId that is not the root's names what is found there
 pub is_named : (w : List ℕ) (bs : Branches Provision) (b : Branch Provision) → (w ≡ root_wid → ⊥) → found w bs ≡ Some b → Some b ≡ provision_named w bs
 is_named w bs b other there = sym (ap (λ told. cond told None (found w bs)) (other_text w root_wid other) ∙ there)

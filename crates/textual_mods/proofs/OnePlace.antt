@@ -9,11 +9,7 @@ use Rattle.act_tree.specs.Changes.{Step, has_wid, holds, any_holds, inside_chang
 use Rattle.act_tree.specs.Provisions.{Provision}
 use Rattle.act_tree.specs.Wids.{wids, all_wids, is_among, one_twice}
 use Rattle.act_tree.proofs.Frames.{or_left, none_left, none_right, neither, Apart, twice_apart}
-use Rattle.act_tree.proofs.Texts.{same_text, equal_text, other_text, bytes_eq_sym}
-
--- what stands beneath a provision
-abbrev pub beneath : Branch Provision → Branches Provision
-beneath (branch p below) = below
+use Rattle.act_tree.proofs.Texts.{equal_text, other_text, bytes_eq_sym}
 
 not_it : (w : List ℕ) (b : Branch Provision) → holds w b ≡ false → has_wid w b ≡ false
 not_it w (branch p below) none = none_left (bytes_eq p.wid w) _ none
@@ -114,32 +110,6 @@ not_before p below bs d w held =
       | inr none ↦ none
     ])
 
--- a provision of a wId is this one, and the wId stands neither beneath it nor behind it
-pub record IsOnly (w : List ℕ) (it b : Branch Provision) (rest : Branches Provision) : Type 0 where
-  pub is : b ≡ it
-  pub beneath : any_holds w (beneath b) ≡ false
-  pub behind : any_holds w rest ≡ false
-
--- a wId stands at this one provision, if at any
-abbrev mutual
-  pub AloneInside : List ℕ → Branch Provision → Branch Provision → Type 0
-  AloneInside w it (branch p below) = Alone w it below
-
-  pub Alone : List ℕ → Branch Provision → Branches Provision → Type 0
-  Alone w it no_branches = Unit {0}
-  Alone w it (more_branches b bs) = (has_wid w b ≡ true → IsOnly w it b bs) × (AloneInside w it b × Alone w it bs)
-
-mutual
-  none_alone_inside : (w : List ℕ) (it b : Branch Provision) → holds w b ≡ false → AloneInside w it b
-  none_alone_inside w it (branch p below) none = none_alone w it below (none_right (bytes_eq p.wid w) _ none)
-
-  none_alone : (w : List ℕ) (it : Branch Provision) (bs : Branches Provision) → any_holds w bs ≡ false → Alone w it bs
-  none_alone w it no_branches none = tt
-  none_alone w it (more_branches (branch p below) bs) none = (
-    λ of_it. absurd (let never : true ≡ false = sym of_it ∙ none_left (bytes_eq p.wid w) _ (none_left (holds w (branch p below)) _ none) in cc),
-    (none_alone_inside w it (branch p below) (none_left (holds w (branch p below)) _ none), none_alone w it bs (none_right (holds w (branch p below)) _ none)),
-  )
-
 -- the branch that is found first
 pub first_found : (w : List ℕ) (p : Provision) (below bs : Branches Provision) → bytes_eq p.wid w ≡ true → found w (more_branches (branch p below) bs) ≡ Some (branch p below)
 first_found w p below bs it = ap (λ t. or_else (cond t (Some (branch p below)) (found w below)) (found w bs)) it
@@ -159,26 +129,3 @@ first_of w it below bs is = by (found w below) refl
     by None none = behind_it (sym (held_found w below) ∙ ap is_some none) (sym (ap (λ o. or_else o (found w bs)) none) ∙ is)
     by (Some b) some =
         beneath_it (some ∙ (sym (ap (λ o. or_else o (found w bs)) some) ∙ is)) (sym (held_found w below) ∙ ap is_some some)
-
--- where wIds are distinct, what is found stands alone
-pub one_place : (w : List ℕ) (it : Branch Provision) (bs : Branches Provision) → one_twice (all_wids bs) ≡ false → found w bs ≡ Some it → Alone w it bs
-one_place w it no_branches once is = tt
-one_place w it (more_branches (branch p below) bs) once is =
-    elim (cases_Bool (bytes_eq p.wid w)) [
-      | inl it_is ↦
-          let same : p.wid ≡ w = same_text p.wid w it_is in
-          let not_beneath : any_holds w below ≡ false = sym (ap (λ v. any_holds v below) same) ∙ d.not_beneath in
-          let not_behind : any_holds w bs ≡ false = sym (ap (λ v. any_holds v bs) same) ∙ d.not_behind in
-          let one : Some (branch p below) ≡ Some it = sym (first_found w p below bs it_is) ∙ is in
-          (λ _. record { is = (cc); beneath = not_beneath; behind = not_behind }, (none_alone w it below not_beneath, none_alone w it bs not_behind))
-      | inr other ↦ (
-        λ of_it. absurd (let never : true ≡ false = sym of_it ∙ other in cc),
-        elim (first_of w it below bs (sym (found_past w p below bs other) ∙ is)) [
-          | beneath_it here there ↦ (one_place w it below d.beneath_once here, none_alone w it bs (d.apart w there))
-          | behind_it none later ↦ (none_alone w it below none, one_place w it bs d.behind_once later)
-        ],
-      )
-    ]
-  where
-    d : AreDistinct p below bs
-    d = are_distinct p below bs once

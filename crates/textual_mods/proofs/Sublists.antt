@@ -9,10 +9,6 @@ pub data IsPart : List (List ℕ) → List (List ℕ) → Type 0 where
   with : (x : List ℕ) (xs ys : List (List ℕ)) → IsPart xs ys → IsPart (x ∷ xs) (x ∷ ys)
   less : (y : List ℕ) (xs ys : List (List ℕ)) → IsPart xs ys → IsPart xs (y ∷ ys)
 
-pub part_of_itself : (xs : List (List ℕ)) → IsPart xs xs
-part_of_itself [] = no_texts
-part_of_itself (x ∷ xs) = with x xs xs (part_of_itself xs)
-
 pub part-append : (xs ys cs ds : List (List ℕ)) → IsPart xs ys → IsPart cs ds → IsPart (xs ++ cs) (ys ++ ds)
 part-append xs ys cs ds no_texts more = more
 part-append xs ys cs ds (with x xs0 ys0 part) more = with x (xs0 ++ cs) (ys0 ++ ds) (part-append xs0 ys0 cs ds part more)

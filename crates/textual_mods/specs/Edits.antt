@@ -51,6 +51,10 @@ abbrev pub tree_after : TreeValue → Result (Branches Provision) Cause → Tree
 tree_after tree (Ok body) = changed_once tree body
 tree_after tree (Err cause) = tree
 
+-- a tree after the edit of a modification of this id, whether it was made or held back
+abbrev pub tree_with : TreeValue → Id → TextualMod → TreeValue
+tree_with tree by edit = tree_after tree (applied tree by edit)
+
 -- what is answered
 abbrev pub outcome_of : Result (Branches Provision) Cause → Outcome
 outcome_of (Ok body) = Done

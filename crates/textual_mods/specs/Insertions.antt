@@ -10,6 +10,7 @@ use Rattle.eid_paths.specs.Levels.{level_text}
 use Rattle.eid_paths.specs.Nums.{is_num}
 use Rattle.act_tree.specs.declared.build_fault.BuildFault.{BuildFault}
 use Rattle.act_tree.specs.declared.build_fault.BuildFault.TheVariants.{EidTwice, TooDeep, TooManyNodes, TextTooLong}
+use Rattle.act_tree.specs.declared.limits.TheConstants.{MAX_DEPTH, MAX_NODES}
 use Rattle.act_tree.specs.declared.tree.Tree.{Tree}
 use Rattle.act_tree.specs.Branches.{Branch, Branches, branch, no_branches, more_branches, heights, counts}
 use Rattle.act_tree.specs.Changes.{root_wid}
@@ -87,8 +88,8 @@ height_with wid high body = if bytes_eq wid root_wid then max (heights body) hig
 abbrev pub fault_among : Numbering → Branches Provision → List ℕ → Branches Provision → Branches Own → Option BuildFault
 fault_among numbering body wid siblings new =
     if taken_among numbering (bytes_eq wid root_wid) new (all_owns body) (all_owns siblings) then Some EidTwice
-    else (if nat_lt 12 (height_with wid (heights new) body) then Some TooDeep
-    else (if nat_lt 4096 (counts body + counts new) then Some TooManyNodes else None))
+    else (if nat_lt MAX_DEPTH (height_with wid (heights new) body) then Some TooDeep
+    else (if nat_lt MAX_NODES (counts body + counts new) then Some TooManyNodes else None))
 
 -- the first fault of a tree with provisions that are brought among the children of a node
 abbrev pub insertion_fault : Tree → ℕ → Branches Own → Option BuildFault
@@ -112,5 +113,5 @@ one_alone element num =
 abbrev pub split_fault : Tree → ℕ → Element → List ℕ → Bool → Option BuildFault
 split_fault t parent element num long =
     if number_taken t parent (one_alone element num) then Some EidTwice
-    else (if nat_lt 4096 (counts (tree_view t).body + 1) then Some TooManyNodes
+    else (if nat_lt MAX_NODES (counts (tree_view t).body + 1) then Some TooManyNodes
     else (if long then Some TextTooLong else None))

@@ -4,8 +4,7 @@ ghost use Rattle.std.specs.Prelude.{◌≡◌, ◌+◌, ◌<◌, ◌^◌, None, 
 ghost use Rattle.act_tree.specs.Brought.{has_brought};
 ghost use Rattle.act_tree.specs.Faults.{first_cause};
 ghost use Rattle.act_tree.specs.Seen.{tree_view};
-ghost use Rattle.textual_mods.specs.Edits.{IsSound, applied, outcome_of};
-ghost use Rattle.textual_mods.specs.Laws.{tree_with};
+ghost use Rattle.textual_mods.specs.Edits.{IsSound, applied, outcome_of, tree_with};
 
 use crate::joining::join;
 use crate::renumbering::renumber;

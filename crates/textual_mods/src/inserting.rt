@@ -18,7 +18,7 @@ use crate::Outcome;
 use crate::brought::{begin_again, count_of_all, go_on_again, height_of_all, nums_are_kept};
 use crate::held_back::{held_back, or_step};
 use crate::staying::are_too_many;
-use act_tree::{BuildFault, NodeId, Nodes, Tree, fault_of};
+use act_tree::{BuildFault, MAX_DEPTH, NodeId, Nodes, Tree, fault_of};
 use desk_base::{Id, Memory, Steps};
 use eid_paths::{Element, Num};
 use std::alloc::Global;
@@ -31,11 +31,11 @@ fn is_too_deep(tree: &Tree, gone: &Option<NodeId>, parent: NodeId, new: &Nodes) 
     requires node { has_node tree.now parent ≡ true }
     requires left { is_in (provision_at tree.now parent).wid (text_left tree.now gone.now) ≡ true }
     requires payload { first_fault NONE_THROUGHOUT (branches_of new.now) ≡ None }
-    ensures { result ≡ nat_lt 12 (spec.height_with (provision_at tree.now parent).wid
+    ensures { result ≡ nat_lt MAX_DEPTH (spec.height_with (provision_at tree.now parent).wid
         (heights (branches_of new.now)) (text_left tree.now gone.now)) }
 {
     let _ = gone;
-    tree.depth(parent).saturating_add(height_of_all(new)) > 12
+    tree.depth(parent).saturating_add(height_of_all(new)) > MAX_DEPTH
 }
 
 // Whether two nodes would have one eId right below the root of the tree.

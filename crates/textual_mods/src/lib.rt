@@ -27,3 +27,4 @@ pub use edit::{Pos, SplitAt, Spot, TextPos, TextualMod};
 pub use fitting::MAX_ITEMS;
 pub use outcome::Outcome;
 pub use pairs::Pairs;
+pub use splitting::Cut;

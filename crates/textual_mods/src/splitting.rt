@@ -25,12 +25,15 @@ use eid_paths::Num;
 use std::alloc::Global;
 use std::sync::ledger::Ledger;
 
-// How a provision is split: how many of its children stay, and both contents.
+/// How a provision is split, as definitions name it; no public call takes or gives one.
 #[derive(Drop)]
-struct Cut {
-    children: usize,
-    head: Text,
-    tail: Text,
+pub struct Cut {
+    /// How many of its children stay.
+    pub children: usize,
+    /// The content that stays.
+    pub head: Text,
+    /// The content of the second part.
+    pub tail: Text,
 }
 
 /// Splits the target: a new provision with the num and the heading stands right behind it.

@@ -14,7 +14,7 @@ ghost use Rattle.eid_paths.specs.Levels.{level_text};
 ghost use Rattle.textual_mods.specs.Substitutions.{goes, left, left_below, text_left, wid_of};
 
 use crate::num_changes::is_level;
-use act_tree::{NodeId, Tree};
+use act_tree::{MAX_NODES, NodeId, Tree};
 use eid_paths::{Element, Num};
 
 // Whether a node is the one that goes.
@@ -156,14 +156,14 @@ fn count_left(tree: &Tree, gone: &Option<NodeId>) -> u32
     }
 }
 
-/// Whether those that are left and so many others are more than 4,096 nodes. They are counted only where so many were
-/// laid down that they might be.
+/// Whether those that are left and so many others are more nodes than a text may have. They are counted only where so
+/// many were laid down that they might be.
 pub fn are_too_many(tree: &Tree, gone: &Option<NodeId>, others: u32) -> bool
     requires { IfSome gone.now (λ other. has_node tree.now other ≡ true) }
-    ensures { result ≡ nat_lt 4096 (counts (text_left tree.now gone.now) + others) }
+    ensures { result ≡ nat_lt MAX_NODES (counts (text_left tree.now gone.now) + others) }
 {
-    if tree.laid_down().saturating_add(others as usize) <= 4096 {
+    if tree.laid_down().saturating_add(others as usize) <= MAX_NODES as usize {
         return false;
     }
-    count_left(tree, gone).saturating_add(others) > 4096
+    count_left(tree, gone).saturating_add(others) > MAX_NODES
 }

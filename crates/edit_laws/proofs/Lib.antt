@@ -1,0 +1,15 @@
+pub mod AtOnePlace
+pub mod EditsRestated
+pub mod EitherOrder
+pub mod Held
+pub mod JoinChange
+pub mod OldOrBrought
+pub mod OneChange
+pub mod OneRestating
+pub mod Readers
+pub mod RenumberedBack
+pub mod Restating
+pub mod SplitJoined
+pub mod Swapping
+pub mod TreesAfter
+pub mod WidsLeft

@@ -1,6 +1,0 @@
-use Rattle.act_tree.specs.Seen.{tree_view}
-use Rattle.textual_mods.proofs.TreesAfter.{held_back}
-use Rattle.textual_mods.proofs.laws.held_back_leaves_the_tree.Goals as goal
-
-pub returns : goal.returns
-returns c = held_back (tree_view c.args.tree.now) c.args.by c.args.edit.now c.args.cause c.requires

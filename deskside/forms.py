@@ -1,0 +1,58 @@
+"""The desk's forms that the companion needs: names of elements, nums, eIds, IRIs and limits (docs/FORMS.md says the rules)."""
+import re
+
+NAMESPACE = "http://docs.oasis-open.org/legaldocml/ns/akn/3.0"
+# (drafts of the standard named it so; a document in one of these is read as one of 3.0, and the report says it)
+DRAFTS = re.compile(re.escape(NAMESPACE) + r"/CSD\d\d")
+OURS = "https://lawdesk.example/ns/deskside"
+
+# The elements of the desk, with the word that an eId has for each.
+WORDS = {
+    "article": "art", "section": "sec", "chapter": "chp", "paragraph": "para", "subparagraph": "subpara", "subsection": "subsec",
+    "clause": "cl", "subclause": "subcl", "alinea": "al", "part": "part", "title": "title", "book": "book", "point": "point", "indent": "indent",
+}
+ELEMENTS = {word: name for name, word in WORDS.items()}
+
+# Elements of Akoma Ntoso that the desk has not, and the nearest that it has. What is written back has the name that was read.
+NEAREST = {
+    "hcontainer": "paragraph", "tome": "book", "subtitle": "title", "subpart": "part", "subchapter": "chapter", "division": "chapter",
+    "subdivision": "chapter", "rule": "article", "subrule": "paragraph", "proviso": "alinea", "transitional": "paragraph",
+    "level": "paragraph", "sublist": "paragraph", "crossHeading": "paragraph", "item": "point", "wrapUp": "alinea", "listWrapUp": "alinea",
+}
+
+NUM = re.compile(r"[A-Za-z0-9-]{1,16}\Z")
+DAY = re.compile(r"[0-9]{4}-[0-9]{2}-[0-9]{2}\Z")
+WORK = re.compile(
+    r"/akn/[a-z]{2}(-[a-z0-9]{1,8})?/act/([A-Za-z][A-Za-z0-9._-]{0,31}/){0,2}[0-9]{4}(-[0-9]{2}-[0-9]{2})?/[A-Za-z0-9._-]{1,64}\Z"
+)
+EXPRESSION = re.compile(WORK.pattern[:-2] + r"/[a-z]{3}@([0-9]{4}-[0-9]{2}-[0-9]{2})?(/!main)?((/|(?<=/!main))~[A-Za-z0-9_-]{1,512})?\Z")
+
+LANGUAGES = {
+    "en": "eng", "it": "ita", "fr": "fra", "de": "deu", "es": "spa", "pt": "por", "nl": "nld", "pl": "pol", "rm": "roh", "sv": "swe",
+    "da": "dan", "fi": "fin", "el": "ell", "cs": "ces", "hu": "hun", "ro": "ron", "bg": "bul", "hr": "hrv", "sk": "slk", "sl": "slv",
+    "et": "est", "lv": "lav", "lt": "lit", "mt": "mlt", "ga": "gle", "af": "afr", "zu": "zul", "xh": "xho", "sw": "swa", "cy": "cym",
+}
+
+MOST_NODES, MOST_DEPTH, MOST_TEXT, MOST_REFS, MOST_SIDE, MOST_MODIFICATIONS = 4096, 12, 16384, 16, 64, 512
+
+CAUSES = {
+    "TargetMissing": "the provision that it aims at is not in the text of that day",
+    "AnchorMissing": "the provision beside which it is to stand is not in the text of that day",
+    "OldTextMissing": "the words that it replaces do not stand there",
+    "KindsDiffer": "the two provisions that it joins are of different kinds",
+    "NumberTaken": "another provision has that number already",
+    "TooDeep": "the text would nest too deep",
+    "TooManyNodes": "the text would have too many provisions",
+    "TextTooLong": "a text would be too long",
+}
+
+
+def level(element, num):
+    """The level of an eId for a provision with this element and num."""
+    return f"{WORDS[element]}_{num}"
+
+
+def eid(parent, element, num, numbering):
+    """The eId of a provision beneath a parent's eId ('' for the body)."""
+    own = level(element, num)
+    return own if not parent or element in numbering else f"{parent}__{own}"

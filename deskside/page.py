@@ -1,0 +1,185 @@
+"""An answer of the desk as one static page: accessible, printable, with anchors by eId, and without a script."""
+import os
+
+import jinja2
+from lxml import etree
+from markupsafe import Markup
+
+import akn
+import folding
+import forms
+import writing
+from reading import HEADS
+
+TEMPLATES = os.path.join(os.path.dirname(os.path.abspath(__file__)), "templates")
+INLINE = {"b": "strong", "i": "em", "u": "u", "sup": "sup", "sub": "sub", "ins": "ins", "del": "del", "code": "code", "q": "q", "abbr": "abbr"}
+BLOCKS = {"p": "p", "table": "table", "tr": "tr", "td": "td", "th": "th", "caption": "caption", "ul": "ul", "ol": "ol", "li": "li"}
+MARK = "[Not in force or without effect on this day]"
+GROUPS = {"content", "intro", "list", "blockList", "tblock", "blockContainer", "wrapUp", "listWrapUp"}
+
+
+def templates():
+    return jinja2.Environment(loader=jinja2.FileSystemLoader(TEMPLATES), autoescape=True, undefined=jinja2.StrictUndefined, trim_blocks=True, lstrip_blocks=True)
+
+
+def style():
+    with open(os.path.join(TEMPLATES, "style.css"), encoding="utf-8") as it:
+        return Markup(it.read())
+
+
+def render(name, **shown):
+    return templates().get_template(name).render(style=style(), line=writing.LINE, **shown)
+
+
+class Page:
+    """The body of a document as HTML. Notes go to the end."""
+
+    def __init__(self):
+        self.notes = []
+
+    def provision(self, element, depth):
+        """A provision: a section with its heading, its words, and what stands beneath it."""
+        eid = element.get("eId", "")
+        found = etree.Element("section")
+        if eid:
+            found.set("id", eid)
+        found.set("class", f"provision {akn.name_of(element)}")
+        title = etree.SubElement(found, f"h{min(depth, 6)}")
+        for name in HEADS:
+            it = akn.first(element, name)
+            if it is not None:
+                self.inside(it, etree.SubElement(title, "span", {"class": name}))
+                title[-1].tail = " "
+        if not len(title):
+            found.remove(title)
+        if element.get(akn.ours("bears")) == "false":
+            etree.SubElement(found, "p", {"class": "mark"}).text = MARK
+        self.children(element, found, depth)
+        return found
+
+    def children(self, element, to, depth):
+        for it in element:
+            name = akn.name_of(it)
+            if name in HEADS or not name:
+                continue
+            if name in forms.WORDS or name in forms.NEAREST and name not in ("wrapUp", "listWrapUp", "item"):
+                to.append(self.provision(it, depth + 1))
+            elif name in GROUPS or name == "item" and not akn.name_of(element) in ("ul", "ol"):
+                holder = etree.SubElement(to, "div", {"class": name})
+                if name == "item":
+                    if it.get("eId"):
+                        holder.set("id", it.get("eId"))
+                    num = akn.first(it, "num")
+                    if num is not None:
+                        self.inside(num, etree.SubElement(holder, "span", {"class": "num"}))
+                        holder[-1].tail = " "
+                if it.get(akn.ours("bears")) == "false":
+                    etree.SubElement(holder, "p", {"class": "mark"}).text = MARK
+                self.loose(it, holder)
+                self.children(it, holder, depth)
+            else:
+                self.put(it, to)
+
+    def loose(self, element, to):
+        """Words that stand in no block of their own."""
+        if (element.text or "").strip():
+            etree.SubElement(to, "p").text = element.text
+
+    def put(self, element, to):
+        """Puts an element of the text, with what it has inside, behind what stands there."""
+        name = akn.name_of(element)
+        if not name or name in ("remark", "noteRef"):
+            return
+        if name == "authorialNote":
+            self.notes.append(element)
+            number = str(len(self.notes))
+            sup = etree.SubElement(to, "sup")
+            etree.SubElement(sup, "a", {"href": f"#note-{number}", "id": f"note-mark-{number}"}).text = number
+        elif name in ("eol", "br"):
+            etree.SubElement(to, "br")
+        elif name in ("img", "formula"):
+            etree.SubElement(to, "span", {"class": name}).text = f"[{element.get('alt') or element.get('title') or ('picture' if name == 'img' else 'formula')}]"
+        elif name in ("ref", "rref", "mref", "a"):
+            href = element.get("href", "")
+            is_here = href.startswith(("#", "/akn/"))
+            self.inside(element, etree.SubElement(to, "a", {"href": href}) if is_here else etree.SubElement(to, "span", {"class": "ref"}))
+        else:
+            made = etree.SubElement(to, BLOCKS.get(name) or INLINE.get(name) or "span")
+            if name not in BLOCKS and name not in INLINE:
+                made.set("class", name)
+            for key in ("colspan", "rowspan"):
+                if name in ("td", "th") and element.get(key, "").isdigit():
+                    made.set(key, element.get(key))
+            self.inside(element, made)
+
+    def inside(self, element, to):
+        to.text = element.text
+        for it in element:
+            before = len(to)
+            self.put(it, to)
+            if it.tail:
+                if len(to) > before or len(to):
+                    to[-1].tail = (to[-1].tail or "") + it.tail
+                else:
+                    to.text = (to.text or "") + it.tail
+
+    def noted(self):
+        found = []
+        for number, it in enumerate(self.notes, 1):
+            item = etree.Element("li", id=f"note-{number}")
+            self.children(it, item, 6)
+            if not len(item):
+                item.text = folding.fold([it])
+            etree.SubElement(item, "a", href=f"#note-mark-{number}").text = "back to the text"
+            found.append(item)
+        return found
+
+
+def html_of(element):
+    return Markup(etree.tostring(element, method="html", encoding="unicode", with_tail=False))
+
+
+def title_of(document):
+    for name in ("docTitle", "shortTitle"):
+        found = next(document.iter(akn.tag(name)), None)
+        if found is not None and folding.fold([found]):
+            return folding.fold([found])
+    return ""
+
+
+def unapplied_of(modifications, answer):
+    """What could not be applied, each with its cause in words."""
+    found = []
+    for it in answer["unapplied"]:
+        modification = writing.inner(modifications[it["id"]])
+        found.append({"id": it["id"], "cause": it["cause"], "words": forms.CAUSES.get(it["cause"], it["cause"]), "type": modification["type"],
+                      "source": modification["source"]["href"], "target": writing.target(modification)})
+    return found
+
+
+def parts(dressed, modifications, answer, day):
+    """What a page shows of a document."""
+    page = Page()
+    body = etree.Element("div")
+    page.children(dressed.body, body, 1)
+    front = etree.Element("div")
+    for name in ("preface", "preamble"):
+        it = akn.first(dressed.document, name)
+        if it is not None:
+            page.children(it, etree.SubElement(front, "div", {"class": name}), 6)
+    back = etree.Element("div")
+    for name in ("conclusions", "attachments"):
+        it = akn.first(dressed.document, name)
+        if it is not None:
+            page.children(it, etree.SubElement(back, "div", {"class": name}), 2)
+    return {
+        "title": title_of(dressed.document) or dressed.dressing["work"], "language": dressed.dressing["language"], "work": dressed.dressing["work"],
+        "expression": answer["expression"], "day": day, "reading": answer["reading"], "bears": answer["bears"], "viewpoint": answer["viewpoint"],
+        "front": html_of(front), "body": html_of(body), "back": html_of(back), "notes": [html_of(it) for it in page.noted()], "unapplied": unapplied_of(modifications, answer),
+        "lost": dressed.dressing["lost"], "plain": dressed.plain,
+    }
+
+
+def text(dressing, modifications, answer, answered, day):
+    dressed = writing.document(dressing, modifications, answer, answered, day)
+    return render("text.html", **parts(dressed, modifications, answer, day))

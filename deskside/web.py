@@ -1,0 +1,279 @@
+"""Pages over a desk: the works, an act's days, the text of a day, two days side by side, a draft against the law, what was not applied.
+
+The addresses of pages are the desk's IRIs. One `lawdesk batch` in the folder has the register; it is asked for every word, and started again where it
+ended. The journal is read beside it for names and days alone. Only this machine is served, and no page has a script."""
+import base64
+import glob
+import hashlib
+import json
+import os
+import re
+import subprocess
+import threading
+from urllib.parse import quote, urlencode
+
+import flask
+
+import compare
+import desk
+import dressing
+import faults
+import journal
+import page
+import writing
+
+TYPES = {"xml": "application/akn+xml", "json": "application/json", "html": "text/html"}
+EXPRESSION = re.compile(r"(?P<work>/akn/.+?)/(?P<language>[a-z]{3})@(?P<day>[0-9-]*)(\.(?P<form>xml|json|html))?\Z")
+
+
+class Batch:
+    """A desk that runs in a folder. A command that got no response is sent again with its number, so that it acts once."""
+
+    def __init__(self, folder):
+        self.folder, self.turn, self.ran = folder, threading.Lock(), None
+
+    def start(self):
+        self.ran = subprocess.Popen([desk.PROGRAM, "batch"], cwd=self.folder, stdin=subprocess.PIPE, stdout=subprocess.PIPE, stderr=subprocess.DEVNULL)
+
+    def ask(self, method, target, body=b""):
+        """The status and the body of a response."""
+        head = f"{method} {target} HTTP/1.1\r\nHost: desk\r\n" + (f"Content-Length: {len(body)}\r\n" if body else "")
+        with self.turn:
+            for _ in range(3):
+                if self.ran is None or self.ran.poll() is not None:
+                    self.start()
+                try:
+                    self.ran.stdin.write(head.encode() + b"\r\n" + body)
+                    self.ran.stdin.flush()
+                    return self.response()
+                except (OSError, EOFError, ValueError):
+                    self.end()
+        raise desk.Failed(5, "the desk ended, and could not be started again")
+
+    def response(self):
+        lines = []
+        while True:
+            line = self.ran.stdout.readline()
+            if not line.endswith(b"\r\n"):
+                raise EOFError
+            if line == b"\r\n":
+                break
+            lines.append(line)
+        status = int(lines[0].split(b" ")[1])
+        length = next((int(it.partition(b":")[2]) for it in lines if it.lower().startswith(b"content-length:")), 0)
+        body = self.ran.stdout.read(length)
+        if len(body) < length:
+            raise EOFError
+        return status, body
+
+    def end(self):
+        if self.ran is not None:
+            self.ran.kill()
+            self.ran.wait()
+            self.ran = None
+
+
+class Folder:
+    """The works of a folder, with their dressings."""
+
+    def __init__(self, path):
+        self.path, self.batch, self.seen, self.works = path, Batch(path), None, None
+
+    def read(self):
+        """What the journal says of works, read again where it grew."""
+        file = os.path.join(self.path, "lawdesk.jnl")
+        now = os.stat(file).st_size if os.path.exists(file) else 0
+        if self.works is None or now != self.seen:
+            self.seen, self.works = now, journal.Works(journal.entries(file))
+        return self.works
+
+    def dressing(self, work):
+        """The dressing of a work; of what a modification brings only where the register has that very modification."""
+        for path in sorted(glob.glob(os.path.join(glob.escape(self.path), "*.dressing.json"))):
+            found = dressing.load(path)
+            if found["work"] == work:
+                break
+        else:
+            return dressing.plain(self.read().acts[work][0])
+        known, source = self.read().modifications.get(work, {}), path[: -len("dressing.json")] + "dossier.json"
+        given = {}
+        if os.path.exists(source):
+            with open(source, encoding="utf-8") as it:
+                given = writing.numbered(json.load(it))
+        same = {number for number, it in known.items() if number in given and spelled(it) == spelled(given[number])}
+        found["shells"] = {wid: it for wid, it in found["shells"].items() if not (at := re.match(r"m([0-9]+)-([0-9]+)__", wid)) or f"{at[1]}.{at[2]}" in same}
+        found["sources"] = {number: it for number, it in found["sources"].items() if number in same}
+        return found
+
+    def text(self, work, language, day, reading="force", viewpoint=""):
+        """The desk's answer, and its bytes."""
+        query = {"expression": f"{work}/{language}@{day}", "reading": reading, **({"viewpoint": viewpoint} if viewpoint else {})}
+        return self.answer("/text?" + urlencode(query, quote_via=quote, safe=""))
+
+    def answer(self, target):
+        status, body = self.batch.ask("GET", target)
+        if status != 200:
+            raise Refused(status, body)
+        return json.loads(body), body
+
+
+class Refused(Exception):
+    def __init__(self, status, body):
+        super().__init__(body.decode(errors="replace"))
+        self.status = status
+
+
+def spelled(modification):
+    """What a modification says, whether or not it says what is left out otherwise."""
+    def full(it):
+        if isinstance(it, dict):
+            return {key: full(value) for key, value in it.items() if not (key in ("heading", "content", "separator") and value == "" or key in ("refs", "children") and value == [] or key == "occurrence" and value == 1)}
+        return [full(each) for each in it] if isinstance(it, list) else it
+    return full(modification)
+
+
+def made(path, port):
+    """The application over a folder."""
+    app, folder = flask.Flask(__name__, template_folder=page.TEMPLATES, static_folder=None), Folder(path)
+    hosts = {f"{name}:{port}" for name in ("localhost", "127.0.0.1", "[::1]")}
+    origins = {f"http://{it}" for it in hosts}
+    sum = base64.b64encode(hashlib.sha256(str(page.style()).encode()).digest()).decode()
+
+    @app.before_request
+    def only_here():
+        asked = flask.request
+        if asked.host not in hosts:
+            return "this desk serves its own machine alone", 421
+        if asked.method == "POST" and asked.headers.get("Origin", next(iter(origins))) not in origins:
+            return "a command comes from a page of this desk, or from no page", 403
+        return None
+
+    @app.after_request
+    def without_scripts(response):
+        response.headers["Content-Security-Policy"] = f"default-src 'none'; style-src 'sha256-{sum}'; form-action 'self'; frame-ancestors 'none'; base-uri 'none'"
+        response.headers["X-Content-Type-Options"] = "nosniff"
+        response.headers["Referrer-Policy"] = "no-referrer"
+        return response
+
+    @app.errorhandler(Refused)
+    def refused(error):
+        return page.render("refused.html", title="Refused", language="eng", day="", why=str(error)), error.status
+
+    @app.errorhandler(desk.Failed)
+    def failed(error):
+        return page.render("refused.html", title="No answer", language="eng", day="", why=str(error)), 503
+
+    @app.get("/")
+    def works():
+        found = folder.read()
+        shown = [{"work": work, "law": law, "language": act["FRBRlanguage"], "date": act["FRBRdate"], "title": titled(folder, work)} for work, (act, law) in sorted(found.acts.items())]
+        return page.render("works.html", title="The works of this desk", language="eng", day="", works=shown, drafters=sorted(found.drafts))
+
+    @app.post("/commands")
+    def command():
+        status, body = folder.batch.ask("POST", "/commands", flask.request.get_data(cache=False))
+        return flask.Response(body, status, mimetype="application/json")
+
+    @app.get("/unapplied")
+    def unapplied():
+        day, found = flask.request.args.get("day", ""), []
+        if not faults.is_day(day):
+            return "say a day as ?day=2011-01-01", 400
+        for work, (act, _) in sorted(folder.read().acts.items()):
+            if act["FRBRdate"] <= day:
+                answer, _ = folder.text(work, act["FRBRlanguage"], day)
+                found.append((work, page.unapplied_of(folder.read().modifications[work], answer)))
+        return page.render("unapplied.html", title="What could not be applied", language="eng", day=day, works=found)
+
+    @app.get("/drafts/<drafter>")
+    def draft(drafter):
+        status, body = folder.batch.ask("GET", "/draft?" + urlencode({"drafter": drafter}))
+        if status != 200:
+            raise Refused(status, body)
+        return drafted(folder, drafter, json.loads(body)["draft"], flask.request.args)
+
+    @app.get("/akn/<path:rest>")
+    def akn_page(rest):
+        iri, asked = f"/akn/{rest}", flask.request.args
+        found = EXPRESSION.match(iri)
+        work = found["work"] if found else iri
+        if work not in folder.read().acts:
+            return page.render("refused.html", title="Not known", language="eng", day="", why=f"no act {work} is known here"), 404
+        if not found:
+            return timeline(folder, work)
+        against = asked.get("against")
+        if against:
+            return side_by_side(folder, work, found["language"], against, found["day"], asked.get("reading", "force"))
+        return text_page(folder, work, found["language"], found["day"], found["form"] or "html", asked)
+
+    app.desk = folder
+    return app
+
+
+def titled(folder, work):
+    root = dressing.akn.of_text(folder.dressing(work)["shells"]["body"]["shell"])
+    return page.title_of(root) or work
+
+
+def timeline(folder, work):
+    """An act's days, each with what begins or ends on it."""
+    works = folder.read()
+    act, law = works.acts[work]
+    events = {}
+    for number, it in works.standing(work).items():
+        inner = writing.inner(it)
+        for key, day in {**inner.get("force", {}), **{key: inner[key] for key in ("on", "date") if key in inner}}.items():
+            words = {"from": "begins", "until": "ends", "on": "counts from here", "date": "sets this day"}[key]
+            events.setdefault(day, []).append(f"{inner['type']} {number} by {inner['source']['href']} {words}")
+    days = [{"day": day, "events": events.get(day, [])} for day in works.days(work)]
+    return page.render("timeline.html", title=titled(folder, work), language=act["FRBRlanguage"], day="", work=work, act=act, law=law, days=days,
+                       early=sorted(day for day in events if day < act["FRBRdate"]), withdrawn=sorted(it for it in works.withdrawn if works.of.get(it) == work))
+
+
+def text_page(folder, work, language, day, form, asked):
+    answer, answered = folder.text(work, language, day, asked.get("reading", "force"), asked.get("viewpoint", ""))
+    if form == "json":
+        return flask.Response(answered, mimetype=TYPES["json"])
+    known = folder.read().modifications[work]
+    shown = day or answer["expression"].rpartition("@")[2] or folder.read().acts[work][0]["FRBRdate"]
+    if form == "xml":
+        return flask.Response(writing.spelled(writing.document(folder.dressing(work), known, answer, answered, shown).root), mimetype=TYPES["xml"])
+    return page.text(folder.dressing(work), known, answer, answered, shown)
+
+
+def side_by_side(folder, work, language, first, second, reading):
+    """Two days of an act. A provision keeps its wId, so the answers tell which is which."""
+    answers = [folder.text(work, language, day, reading)[0] for day in (first, second)]
+    by_wid = [{wid: node["eId"] for node, wid, _ in desk.provisions(it)} for it in answers]
+    table = [{"wId": wid, "first": by_wid[0].get(wid, ""), "second": by_wid[1].get(wid, "")} for wid in dict.fromkeys([*by_wid[0], *by_wid[1]])]
+    return page.render("compare.html", title=titled(folder, work), language=language, day="", first=first, second=second, rows=compare.joined(table, answers),
+                       expressions=[it["expression"] for it in answers])
+
+
+def drafted(folder, drafter, items, asked):
+    """A draft, and for a work of it and a day the law with it beside the law without it."""
+    works = sorted({it["work"] for it in items})
+    work, day = asked.get("work", works[0] if works else ""), asked.get("day", "")
+    rows, unapplied = [], []
+    if work in folder.read().acts and faults.is_day(day):
+        act, _ = folder.read().acts[work]
+        query = {"drafter": drafter, "expression": f"{work}/{act['FRBRlanguage']}@{day}"}
+        after, _ = folder.answer("/preview?" + urlencode(query, quote_via=quote, safe=""))
+        before, _ = folder.text(work, act["FRBRlanguage"], day)
+        by_wid = [{wid: node["eId"] for node, wid, _ in desk.provisions(it)} for it in (before, after)]
+        table = [{"wId": wid, "first": by_wid[0].get(wid, ""), "second": by_wid[1].get(wid, "")} for wid in dict.fromkeys([*by_wid[0], *by_wid[1]])]
+        rows, unapplied = compare.joined(table, (before, after)), after["unapplied"]
+    return page.render("draft.html", title=f"The draft of {drafter}", language="eng", day="", drafter=drafter, items=items, works=works, work=work, asked=day,
+                       rows=[it for it in rows if it["state"]], is_asked=bool(rows), unapplied=unapplied)
+
+
+def served(path, port="8790"):
+    """Serves a folder until it is stopped."""
+    import waitress
+
+    if not os.path.isdir(path) or not re.fullmatch(r"[1-9][0-9]{0,4}", port):
+        raise ValueError(f"{path} is no folder, or {port} no port")
+    app = made(path, int(port))
+    print(f"deskside: http://localhost:{port}/ over {path}; {writing.LINE}", flush=True)
+    waitress.serve(app, listen=f"127.0.0.1:{port}", threads=4, ident=None)
+    return 0

@@ -1,0 +1,123 @@
+"""An answer of the desk as Akoma Ntoso 3.0, and as the bytes of a file."""
+import hashlib
+
+from lxml import etree
+
+import akn
+import forms
+from dressing import Dressed
+
+LINE = "The words are proved, their dress is tested."
+
+
+def inner(modification):
+    return next(iter(modification.values()))
+
+
+def numbered(dossier):
+    """The modifications of a dossier by their ids."""
+    return {f"{at}.1": it for at, it in enumerate(dossier["modifications"], 2)}
+
+
+def document(dressing, modifications, answer, answered, day):
+    """The document of a day. modifications: those known, by their ids; answered: the bytes of the answer, whose sum it carries."""
+    dressed = Dressed(dressing, answer)
+    meta = akn.first(dressed.document, "meta")
+    identify(meta, dressing, answer, day)
+    if answer["applied"]:
+        amend(meta, modifications, dressing, answer)
+    tell(meta, dressing, modifications, answer, answered, dressed)
+    return dressed
+
+
+def identify(meta, dressing, answer, day):
+    """Names the expression: its IRI, its day, and how many entries of the law are known."""
+    identification = akn.first(meta, "identification")
+    expression = akn.first(identification, "FRBRExpression")
+    iri = answer["expression"]
+    for frame, names in ((expression, {"FRBRthis": f"{iri}/!main", "FRBRuri": iri}), (akn.first(identification, "FRBRManifestation"), {"FRBRthis": f"{iri}/!main.xml", "FRBRuri": f"{iri}.akn"})):
+        for it in frame if frame is not None else ():
+            if akn.name_of(it) in names:
+                it.set("value", names[akn.name_of(it)])
+            elif akn.name_of(it) == "FRBRdate":
+                it.set("date", day)
+    number = akn.first(expression, "FRBRversionNumber")
+    if number is None:
+        number = etree.SubElement(expression, akn.tag("FRBRversionNumber"))
+    number.set("value", str(answer["viewpoint"]))
+
+
+def part(meta, name, before, source="#lawdesk"):
+    """The part of the metadata of this name, made before those named where there is none."""
+    found = akn.first(meta, name)
+    if found is None:
+        found = etree.Element(akn.tag(name), source=source)
+        after = next((it for it in meta if akn.name_of(it) in before), None)
+        if after is not None:
+            after.addprevious(found)
+        else:
+            meta.append(found)
+    return found
+
+
+def amend(meta, modifications, dressing, answer):
+    """Lists what was applied: an event, a group of days and a passive modification for each."""
+    order = ("references", "notes", "proprietary", "presentation")
+    lifecycle = part(meta, "lifecycle", ("analysis", "temporalData", *order))
+    analysis = part(meta, "analysis", ("temporalData", *order))
+    passive = akn.first(analysis, "passiveModifications")
+    if passive is None:
+        passive = etree.Element(akn.tag("passiveModifications"))
+        active = akn.first(analysis, "activeModifications")
+        if active is not None:
+            active.addnext(passive)
+        else:
+            analysis.insert(0, passive)
+    days = part(meta, "temporalData", order)
+    for number in answer["applied"]:
+        modification = inner(modifications[number])
+        name = number.replace(".", "-")
+        period = modification["force"]
+        source = dressing["sources"].get(number, {"work": modification["source"]["href"], "eId": ""})
+        etree.SubElement(lifecycle, akn.tag("eventRef"), eId=f"desk_evn_{name}", date=period["from"], source=source["work"], type="amendment")
+        if "until" in period:
+            etree.SubElement(lifecycle, akn.tag("eventRef"), eId=f"desk_evn_{name}_end", date=period["until"], source=source["work"], type="amendment")
+        group = etree.SubElement(days, akn.tag("temporalGroup"), eId=f"desk_tmpg_{name}")
+        interval = etree.SubElement(group, akn.tag("timeInterval"), refersTo="#force", start=f"#desk_evn_{name}")
+        if "until" in period:
+            interval.set("end", f"#desk_evn_{name}_end")
+        mod = etree.SubElement(passive, akn.tag("textualMod"), type=modification["type"], eId=f"desk_pmod_{name}")
+        etree.SubElement(mod, akn.tag("source"), href=source["work"] + (f"/!main#{source['eId']}" if source["eId"] else ""))
+        etree.SubElement(mod, akn.tag("destination"), href=f"#{target(modification)}")
+        etree.SubElement(mod, akn.tag("force"), period=f"#desk_tmpg_{name}")
+
+
+def target(modification):
+    if "destination" in modification:
+        return modification["destination"]["wId"]
+    return modification["renumber"][0]["wId"]
+
+
+def tell(meta, dressing, modifications, answer, answered, dressed):
+    """What no element of the standard says stands in a part of our own: what could not be applied and why, what is not due, what was lost."""
+    found = part(meta, "proprietary", ("presentation",))
+    own = etree.SubElement(found, akn.ours("consolidation"), nsmap={"desk": forms.OURS})
+    own.set("sum", "sha256:" + hashlib.sha256(answered).hexdigest())
+    own.set("reading", answer["reading"])
+    own.set("bears", str(answer["bears"]).lower())
+    etree.SubElement(own, akn.ours("note")).text = LINE
+    due = {*answer["applied"], *[it["id"] for it in answer["unapplied"]]}
+    for it in answer["unapplied"]:
+        line = etree.SubElement(own, akn.ours("unapplied"), id=it["id"], cause=it["cause"])
+        line.text = forms.CAUSES.get(it["cause"], it["cause"])
+    for number, modification in modifications.items():
+        if "textualMod" in modification and number not in due:
+            etree.SubElement(own, akn.ours("notDue"), {"id": number, "from": modification["textualMod"]["force"]["from"]})
+    for what in dressing["lost"]:
+        etree.SubElement(own, akn.ours("lost")).text = what
+    for what in dressed.plain:
+        etree.SubElement(own, akn.ours("withoutMarkup")).text = what
+
+
+def spelled(root):
+    return b'<?xml version="1.0" encoding="UTF-8"?>\n' + etree.tostring(root, encoding="utf-8") + b"\n"
