@@ -46,7 +46,7 @@ class Fold:
             return
         if not is_root and (name in SILENT or name in self.skip or element.tag == akn.ours("child")):
             return
-        if name in SHAPES:
+        if name in SHAPES and akn.first(element, "p") is None:
             self.say(SHAPES[name])
             return
         if name in ("td", "th"):

@@ -43,7 +43,7 @@ class Page:
         found = etree.Element("section")
         if eid:
             found.set("id", eid)
-        found.set("class", f"provision {akn.name_of(element)}")
+        found.set("class", f"provision {akn.name_of(element)}" + (" bare" if akn.first(element, "heading") is None else ""))
         title = etree.SubElement(found, f"h{min(depth, 6)}")
         for name in HEADS:
             it = akn.first(element, name)
@@ -97,7 +97,7 @@ class Page:
             etree.SubElement(sup, "a", {"href": f"#note-{number}", "id": f"note-mark-{number}"}).text = number
         elif name in ("eol", "br"):
             etree.SubElement(to, "br")
-        elif name in ("img", "formula"):
+        elif name == "img" or name == "formula" and akn.first(element, "p") is None:
             etree.SubElement(to, "span", {"class": name}).text = f"[{element.get('alt') or element.get('title') or ('picture' if name == 'img' else 'formula')}]"
         elif name in ("ref", "rref", "mref", "a"):
             href = element.get("href", "")

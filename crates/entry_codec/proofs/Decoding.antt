@@ -44,6 +44,9 @@ decoded bytes e are h = told_is bytes e are (entry.read bytes) refl h
 pub decoded_spelling : (bytes : List ℕ) → ((i : ℕ) → get_or bytes i 0 < 256) → (e : Entry) → decoding bytes ≡ Ok e → spelling e ≡ bytes
 decoded_spelling bytes small e h = (decoded bytes e (are_bytes bytes small) h).spelled
 
+pub decoded_bytes : (bytes : List ℕ) → AreBytes bytes → (e : Entry) → decoding bytes ≡ Ok e → spelling e ≡ bytes
+decoded_bytes bytes are e h = (decoded bytes e are h).spelled
+
 pub decoded_keeps : (bytes : List ℕ) → ((i : ℕ) → get_or bytes i 0 < 256) → (e : Entry) → decoding bytes ≡ Ok e → keeps_rules e ≡ true
 decoded_keeps bytes small e h = (decoded bytes e (are_bytes bytes small) h).kept
 

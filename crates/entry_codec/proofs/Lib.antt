@@ -9,3 +9,4 @@ pub mod Decoding
 pub mod Rules
 pub mod TypedParts
 pub mod KeptRules
+pub mod EachEntry

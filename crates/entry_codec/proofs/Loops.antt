@@ -1,9 +1,7 @@
 -- Values that are read one behind the other, as a loop does.
 use Rattle.std.proofs.Common.{◌≡◌, ℕ, suc, ◌-◌, ◌+◌, ◌≤◌, ◌<◌, List, [], ◌∷◌, ◌++◌, Ok, Err, refl, sym, ap, ◌∙◌, append_assoc, arith}
 use Rattle.std.proofs.lemmas.List.{append-nil}
-use Rattle.entry_codec.specs.declared.reading.reader.Stop.{Stop}
-use Rattle.entry_codec.specs.declared.reading.reader.Stop.TheVariants as stops
-use Rattle.entry_codec.specs.Reads.{Read, ◌>>=◌, Stops}
+use Rattle.entry_codec.specs.Reads.{Read, ◌>>=◌}
 use Rattle.entry_codec.specs.Fields.{each_read}
 
 -- what was read before, and what is still read
@@ -33,15 +31,6 @@ goes_on read front count i bytes v after now total lt first longer so_far =
     ∙ regroup front v (each_read read (count - (i + 1)) after)
     )
     ∙ so_far
-
-pub ends : {V : Type 0} (stop : Stop) (read : List ℕ → Read V) (front : List V) (count i : ℕ) (bytes : List ℕ)
-    (total : Read (List V)) → i < count → Stops stop (read bytes)
-    → with_front front (each_read read (count - i) bytes) ≡ total → Stops stop total
-ends stops.Memory read front count i bytes total lt first so_far = tt
-ends (stops.Broken left) read front count i bytes total lt first so_far =
-    sym so_far
-    ∙ ap (λ k. with_front front (each_read read k bytes)) (one_less count i lt)
-    ∙ ap (λ r. with_front front (then_more read (count - (i + 1)) r)) first
 
 no_more : (count i : ℕ) → count ≤ i → count - i ≡ 0
 no_more count i le = omega arith

@@ -4,7 +4,7 @@ use Rattle.std.specs.Prelude.{All}
 use Rattle.std.specs.List.{flat_map}
 use Rattle.std.specs.Str.{IsUtf8}
 use Rattle.std.proofs.lemmas.Str.{is_utf8-from_IsUtf8}
-use Rattle.std.proofs.lemmas.List.{take_more, append-nil}
+use Rattle.std.proofs.lemmas.List.{take_all, take_more, append-nil}
 use Rattle.std.proofs.lemmas.List.Concat.{flat_map-append}
 use Rattle.std.proofs.lemmas.List.Elements.{All-head, All-tail, All-more}
 use Rattle.frbr_names.specs.declared.date.IriDate.{IriDate}
@@ -15,7 +15,7 @@ use Rattle.act_tree.specs.Provisions.{Own}
 use Rattle.act_tree.specs.Specs.{spec_view, specs_view}
 use Rattle.act_tree.specs.declared.node_spec.NodeSpec.{NodeSpec}
 use Rattle.entry_codec.specs.Values.{is_work}
-use Rattle.entry_codec.specs.Typed.{IsText, IsWorkText, AreNodes, IsNodeTo, AreNodesTo}
+use Rattle.entry_codec.specs.Typed.{IsText, IsWorkText, IsNode, AreNodes, IsNodeTo, AreNodesTo}
 use Rattle.entry_codec.proofs.Exact.{are_bytes}
 
 pub text_typed : (t : List ℕ) → IsUtf8 t → ((i : ℕ) → get_or t i 0 < 256) → IsText t
@@ -71,6 +71,19 @@ more_nodes spell ns i n old mid new low at before last =
 pub more_typed : {V : Type 0} (P : V → Type 0) (xs : List V) (i : ℕ) (x : V) → i < length xs → x ≡ get_or xs i x → All P (take i xs) → P x
     → All P (take (i + 1) xs)
 more_typed P xs i x low at all last = All-more P xs i x low all (subst P at last)
+
+-- nodes side by side, once all are looked at
+all_nodes : (ns : List NodeSpec) → All (λ n. IsNode (spec_view n)) ns → AreNodes (branches_of (specs_view ns))
+all_nodes [] all = tt
+all_nodes (n ∷ ns) all =
+    let P = λ (m : NodeSpec). IsNode (spec_view m) in
+    (All-head P n ns all, all_nodes ns (All-tail P n ns all))
+
+pub nodes_typed : (nodes : List (Branch Own)) (specs slice : List NodeSpec) (i : ℕ) → specs_view specs ≡ nodes → slice ≡ specs → length slice ≤ i
+    → All (λ n. IsNode (spec_view n)) (take i slice) → AreNodes (branches_of nodes)
+nodes_typed nodes specs slice i view same done all =
+    let P = λ (m : NodeSpec). IsNode (spec_view m) in
+    subst (λ (ns : List (Branch Own)). AreNodes (branches_of ns)) (ap specs_view same ∙ view) (all_nodes slice (subst (All P) (take_all i slice done) all))
 
 -- nodes none of which nests too deep
 each_typed : (depth : ℕ) (ns : List NodeSpec) → All (λ n. IsNodeTo depth (spec_view n)) ns

@@ -4,6 +4,7 @@
 mod fault;
 pub mod laws;
 mod reading;
+mod typed;
 mod writing;
 
 pub use fault::{CodecFault, DecodeFail};

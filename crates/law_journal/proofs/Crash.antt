@@ -98,13 +98,6 @@ behind_idle o m n is only idle run t =
     let first = idles_on P o o m (started P o is t (λ c left. ap list_of (only c left))) idle in
     then_runs P o m n first (weaker (IsSameList m.seen) P m n (λ c same. same ∙ ap list_of idle.seen) (run first.tells))
 
--- a run behind a sync
-pub behind_sync : (o m n : Outlook) → IsOutlook o → Idles o m → (m.tells → LeavesOnly (IsSameList m.seen) m n) → o.tells → LeavesOnly (IsOldOrSame o) o n
-behind_sync o m n is idle run t =
-    let P = IsOldOrSame o in
-    let first = idles_on P o o m (started P o is t (λ c left. inl left)) idle in
-    then_runs P o m n first (weaker (IsSameList m.seen) P m n (λ c same. inr (same ∙ ap list_of idle.seen)) (run first.tells))
-
 both_true : (a b : Bool) → (a && b) ≡ true → (a ≡ true) × (b ≡ true)
 both_true true b is = (refl, is)
 both_true false b is = absurd (cc is)

@@ -7,7 +7,6 @@ mod Appending
 pub mod Lists
 pub mod Resting
 mod Alone
-mod Frames
 mod MemorySteps
 mod Painting
 mod Histories

@@ -1,6 +1,6 @@
 -- How a run of device calls goes on.
-use Rattle.std.proofs.Common.{inl, inr, ⊎_elim, ℕ, List, refl, sym, ◌∙◌, subst, arith}
-use Rattle.law_journal.specs.Disks.{Outlook, IsOutlook, Only, Elapses, Idles, Changes, LeavesOnly}
+use Rattle.std.proofs.Common.{inl, inr, ⊎_elim, ℕ, List, refl, ◌∙◌, arith}
+use Rattle.law_journal.specs.Disks.{Outlook, IsOutlook, Elapses, Idles, LeavesOnly}
 
 module _ (P : List ℕ → Type 0) where
   -- before the first call
@@ -65,12 +65,3 @@ idle_both o m n is first second = record {
     keeps = λ t c le left. second.time.keeps t c (omega (arith, le, first.time.later)) (first.time.keeps t c le left);
   };
 }
-
--- what a crash leaves of a change of a file that is on the disk
-pub changed : (step : List ℕ → List ℕ → Type 0) (o m : Outlook) → IsOutlook o → step o.seen o.seen → o.tells → Only o.seen o.may_leave → Changes step o m → LeavesOnly (step o.seen) o m
-changed step o m is none tells only change =
-    goes_on (step o.seen) o o m
-    (started (step o.seen) o is tells (λ c left. subst (step o.seen) (sym (only c left)) none))
-    change.time
-    (change.tells.0 tells)
-    (λ c left. let from = change.crash tells c left in subst (λ d. step d c) (only from.0 from.1) from.2)

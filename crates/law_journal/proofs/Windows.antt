@@ -43,13 +43,6 @@ joined seen front rest place m n long before behind =
           ∙ ap (λ (l : List ℕ). take m (drop place seen) ++ l) rest_is ∙ sym (take-add m n (drop place seen));
     }
 
--- a window stays one while the disk idles
-pub idle_window : (o n : Outlook) (w : Window) → Idles o n → IsWindow o w → IsWindow n w
-idle_window o n w idle is = record {
-  within = is.within;
-  same = λ t. is.same (idle.tells.1 t) ∙ ap (λ (l : List ℕ). take w.held (drop w.start l)) (sym idle.seen);
-}
-
 -- what a read gives is still there after it
 pub still_there : (o n : Outlook) (place held : ℕ) (bytes : List ℕ) → Idles o n → (o.tells → Gives o.seen place held bytes) → n.tells → take held bytes ≡ take held (drop place n.seen)
 still_there o n place held bytes idle gives t = (gives (idle.tells.1 t)).bytes ∙ ap (λ (l : List ℕ). take held (drop place l)) (sym idle.seen)

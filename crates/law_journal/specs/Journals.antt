@@ -1,6 +1,6 @@
 -- The state of a journal, and what its calls promise.
 use Rattle.std.specs.Prelude.{ℕ, suc, ◌≡◌, ◌≢◌, ◌⊎◌, ◌+◌, ◌^◌, ◌<◌, ◌≤◌, Bool, true, false, not, ◌&&◌, ◌==◌, is_none, get_or, List, [], ◌∷◌, ◌++◌, length, take, drop, All, slice_get, Option, Some, None, Result, Ok, Err, IsTrue}
-use Rattle.desk_base.specs.Streams.{Rose}
+use Rattle.desk_base.specs.Streams.{risen}
 use Rattle.law_journal.specs.Disks.{Outlook, Only, LeavesOnly}
 use Rattle.law_journal.specs.Grammar.{Step, ends, holds, breaks, Listing, magic, is_size, records_size, gate_number, gate_in, step_at, step_list, list_from, with_first, with_last, magic_fault, list_of, frame_of, payload_of}
 use Rattle.desk_base.specs.declared.load_fault.LoadFault.{LoadFault}
@@ -66,10 +66,10 @@ IsBeforeOrAfter old payload file = (list_of file ≡ list_of old) ⊎ (list_of f
 abbrev pub IsOldOrSame : Outlook → List ℕ → Type 0
 IsOldOrSame old file = old.may_leave file ⊎ (list_of file ≡ list_of old.seen)
 
--- a fault of the disk is told only where the count of faults rose; else the count is as it was
+-- where a fault of the disk is told, one was counted; else the count is as it was
 abbrev pub HasLoadCause : {T : Type 0} → ℕ → ℕ → Result T LoadFault → Type 0
 HasLoadCause before now (Ok value) = now ≡ before
-HasLoadCause before now (Err Failed) = Rose before now
+HasLoadCause before now (Err Failed) = now ≡ risen before
 HasLoadCause before now (Err (Damaged place byte)) = now ≡ before
 HasLoadCause before now (Err Memory) = now ≡ before
 

@@ -1,6 +1,6 @@
 -- The states of a journal.
 use Rattle.std.specs.Prelude.{ℕ, ◌≡◌, ◌+◌, ◌^◌, ◌<◌, ◌≤◌, ◌==◌, false, get_or, List, length, take, Some}
-use Rattle.desk_base.specs.Streams.{Rose}
+use Rattle.desk_base.specs.Streams.{risen}
 use Rattle.law_journal.specs.Disks.{Outlook, Only, Idles}
 use Rattle.law_journal.specs.Grammar.{magic, list_of, end_of}
 use Rattle.law_journal.specs.Windows.{IsWindow}
@@ -31,8 +31,8 @@ pub record IsKnown (o : Outlook) (window : Window) (gate : ℕ) : Type 0 where
   pub ends : o.tells → EndsAt o.seen gate
   pub durable : o.tells → Only o.seen o.may_leave
 
--- a fault of the disk is told only where the count of faults rose; else the count is as it was
+-- where a fault of the disk is told, one was counted; else the count is as it was
 abbrev pub HasFault : ℕ → ℕ → LoadFault → Type 0
-HasFault before now Failed = Rose before now
+HasFault before now Failed = now ≡ risen before
 HasFault before now (Damaged place byte) = now ≡ before
 HasFault before now Memory = now ≡ before

@@ -6,6 +6,7 @@ mod file_disk;
 mod handle;
 mod history;
 mod journal;
+pub mod laws;
 mod memory_disk;
 mod named_file;
 mod reading;

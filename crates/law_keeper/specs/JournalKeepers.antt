@@ -1,6 +1,6 @@
 -- Keepers over a journal.
 use Rattle.std.specs.Prelude.{ℕ, ◌≡◌, ◌+◌, Bool, true, false, List, Option, Result, Ok, Err, refl}
-use Rattle.desk_base.specs.Streams.{Rose}
+use Rattle.desk_base.specs.Streams.{risen}
 use Rattle.desk_base.specs.declared.load_fault.LoadFault.{LoadFault}
 use Rattle.desk_base.specs.declared.load_fault.LoadFault.TheVariants.{Failed, Damaged, Memory}
 use Rattle.law_journal.specs.Disks.{Outlook, IsOutlook}
@@ -54,9 +54,9 @@ readiness_of false ready = Unopened
 readiness_of true true = Ready
 readiness_of true false = Stopped
 
--- damage that is found once a keeper has been opened is counted
+-- damage that is found once a keeper has been opened is counted as one fault
 abbrev pub HasDamage : Bool → ℕ → ℕ → Type 0
-HasDamage true before now = Rose before now
+HasDamage true before now = now ≡ risen before
 HasDamage false before now = now ≡ before
 
 -- and nothing else is

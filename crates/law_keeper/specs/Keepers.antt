@@ -1,7 +1,7 @@
 -- What is known of a keeper, and what its calls do to it.
 use Rattle.std.specs.Prelude.{ℕ, ◌≡◌, ◌≢◌, ◌⊎◌, ◌↔◌, ◌+◌, ◌<◌, ◌≤◌, List, [], ◌∷◌, ◌++◌, length, map, All, slice_get, Option, Some, None, Result, Ok, Err, IsOk, IfOk, IfErr, IsTrue, Vec}
 use Rattle.std.specs.declared.alloc.Global.{Global}
-use Rattle.desk_base.specs.Streams.{Rose}
+use Rattle.desk_base.specs.Streams.{risen}
 use Rattle.desk_base.specs.declared.load_fault.LoadFault.{LoadFault}
 use Rattle.desk_base.specs.declared.load_fault.LoadFault.TheVariants as fault
 use Rattle.law_journal.specs.Grammar.{Listing, is_size, with_last}
@@ -143,22 +143,22 @@ abbrev pub Finds : Readiness → Holding → Result Unit LoadFault → Type 0
 Finds readiness old result = old.tells
     → IfErr result (λ refusal. Tells old.list refusal × (readiness ≢ Unopened → IsNoDamage refusal))
 
--- damage that an opening finds before any has succeeded is no fault; later damage is one that was counted
+-- damage that an opening finds before any has succeeded is no fault; later damage is one, which was counted
 abbrev pub HasDamageCause : Readiness → ℕ → ℕ → Type 0
 HasDamageCause Unopened before now = now ≡ before
-HasDamageCause Ready before now = Rose before now
-HasDamageCause Stopped before now = Rose before now
+HasDamageCause Ready before now = now ≡ risen before
+HasDamageCause Stopped before now = now ≡ risen before
 
--- a failure is answered only where the count of faults rose, and so is later damage; else the count is as it was
+-- a failure that is answered is one fault more, and so is later damage; else the count is as it was
 abbrev pub HasReadCause : {T : Type 0} → Readiness → ℕ → ℕ → Result T LoadFault → Type 0
 HasReadCause readiness before now (Ok value) = now ≡ before
-HasReadCause readiness before now (Err fault.Failed) = Rose before now
+HasReadCause readiness before now (Err fault.Failed) = now ≡ risen before
 HasReadCause readiness before now (Err (fault.Damaged place byte)) = HasDamageCause readiness before now
 HasReadCause readiness before now (Err fault.Memory) = now ≡ before
 
 abbrev pub HasAppendCause : ℕ → ℕ → Result ℕ KeepFault → Type 0
 HasAppendCause before now (Ok end) = now ≡ before
-HasAppendCause before now (Err keep.Failed) = Rose before now
+HasAppendCause before now (Err keep.Failed) = now ≡ risen before
 HasAppendCause before now (Err keep.Memory) = now ≡ before
 
 -- a list is one that a crash could leave before the call, or the list that the keeper had

@@ -101,14 +101,14 @@ impl<D: Disk> JournalKeeper<D> {
 }
 
 impl<D: Disk> Keeper for JournalKeeper<D> {
-    ghost use Rattle.std.specs.Prelude.{◌+◌};
+    ghost use Rattle.std.specs.Prelude.{◌+◌, ◌-◌, ◌^◌, min};
     ghost use Rattle.law_keeper.specs.JournalKeepers.{holding_of, holding_is, readiness_of};
 
     ghost holding = { λ keeper. holding_of (D.outlook keeper.journal.disk) };
 
     ghost readiness = { λ keeper. readiness_of keeper.opened keeper.journal.ready };
 
-    ghost faults = { λ keeper. D.faults keeper.journal.disk + keeper.damages };
+    ghost faults = { λ keeper. min (D.faults keeper.journal.disk + keeper.damages) (2 ^ 64 - 1) };
 
     fn load(&mut self, cursor: u64, into: &mut Vec<u8>) -> Result<Option<u64>, LoadFault> {
         let loaded = load_at(&mut self.journal, cursor, into);

@@ -2,3 +2,5 @@ mod Opened
 mod Openings
 pub mod Images
 mod Keeping
+mod Ending
+mod Legality

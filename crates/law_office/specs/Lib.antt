@@ -1,4 +1,5 @@
 pub mod Acting
 pub mod Crashing
+pub mod Lists
 pub mod Offices
 pub mod Opening

@@ -1,5 +1,6 @@
 -- Which entries the payloads of a keeper stand for, or what keeps a register from being opened.
-use Rattle.std.specs.Prelude.{ℕ, ◌≡◌, ◌⊎◌, ◌+◌, List, [], ◌∷◌, ◌++◌, length, map, Option, Some, None, Result, Ok, Err, if◌then◌else◌}
+use Rattle.std.specs.Prelude.{ℕ, ◌≡◌, ◌⊎◌, ◌+◌, ◌<◌, List, [], ◌∷◌, ◌++◌, length, map, Option, Some, None, Result, Ok, Err, IfOk, if◌then◌else◌}
+use Rattle.std.specs.List.{AllByRecursion}
 use Rattle.desk_base.specs.Streams.{Rose}
 use Rattle.law_journal.specs.Grammar.{Listing}
 use Rattle.law_register.specs.declared.desk.damage.Damage.{Damage}
@@ -64,6 +65,14 @@ opened payloads = opened_behind [] payloads
 abbrev pub opened_of : Listing → Result (List Entry) Damage
 opened_of (Ok payloads) = opened payloads
 opened_of (Err broken) = Err (damage.Journal broken.place broken.byte)
+
+-- payloads that are lists of bytes
+abbrev pub AreOfBytes : List (List ℕ) → Type 0
+AreOfBytes payloads = AllByRecursion (λ payload. AllByRecursion (λ byte. byte < 256) payload) payloads
+
+-- the same of what a keeper has, where that has payloads
+abbrev pub HasBytes : Listing → Type 0
+HasBytes list = IfOk list AreOfBytes
 
 -- an opening is refused as is told; or the keeper failed, or there was not enough memory
 abbrev pub Refuses : {A : Type 0} → OpenFault → Result A Damage → Type 0

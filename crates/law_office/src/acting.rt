@@ -1,6 +1,7 @@
 //! Acting: a command is done in two steps. What is pending is settled, and the command is judged and acts.
 
-ghost use Rattle.std.specs.Prelude.{◌≡◌, ◌≤◌, ◌∷◌, ◌++◌, [], true, None, IfOk};
+ghost use Rattle.std.specs.Prelude.{◌≡◌, ◌≤◌, ◌↔◌, ◌∷◌, ◌++◌, [], true, None, IfOk};
+ghost use Rattle.law_keeper.specs.Keepers.{Keeps};
 ghost use Rattle.law_register.specs.Desk.Commands.{Ends, HasCommandCause, mark_of, marks_after};
 ghost use Rattle.law_register.specs.Desk.States.{MayFollow};
 ghost use Rattle.law_register.specs.Law.Spelling.{is_well_spelled};
@@ -9,6 +10,7 @@ ghost use Rattle.law_register.specs.declared.register.verdict.Verdict.TheVariant
 ghost use Rattle.entry_codec.specs.Entries.{spelling};
 ghost use Rattle.law_office.specs.Acting.{Acts, Settles};
 ghost use Rattle.law_office.specs.Crashing.{LeavesLists, SpellsBook, SpellsEither};
+ghost use Rattle.law_office.specs.Lists.{EndsOver};
 ghost use Rattle.law_office.specs.Offices.{HoldsBook, IsPendingOn, IsRight, standing_of};
 
 use crate::book::{Book, Pending};
@@ -32,6 +34,9 @@ pub(crate) fn command<K: Keeper, C: Clock>(
     requires spelled { is_well_spelled sent.command ≡ true }
     ensures outcome { Ends sent.drafter sent.request sent.command
         (standing_of book.old (C.days clock.old)) (standing_of book.new (C.days clock.new)) result }
+    ensures over { EndsOver sent.drafter sent.request sent.command
+        (standing_of book.old (C.days clock.old)) (standing_of book.new (C.days clock.new))
+        (K.holding keeper.old) (K.holding keeper.new) result }
     ensures marks { book.new.marks.items ≡ marks_after book.old.marks.items
         (mark_of sent.drafter sent.request book.new.register.entries) result }
     ensures right { IsRight book.new }
@@ -67,6 +72,9 @@ fn settle_and_act<K: Keeper, C: Clock>(
     requires spelled { is_well_spelled sent.command ≡ true }
     ensures outcome { Ends sent.drafter sent.request sent.command
         (standing_of book.old (C.days clock.old)) (standing_of book.new (C.days clock.new)) result }
+    ensures over { EndsOver sent.drafter sent.request sent.command
+        (standing_of book.old (C.days clock.old)) (standing_of book.new (C.days clock.new))
+        (K.holding keeper.old) (K.holding keeper.new) result }
     ensures marks { book.new.marks ≡ book.old.marks }
     ensures right { IsRight book.new }
     ensures held { HoldsBook (K.holding keeper.new) (K.readiness keeper.new) book.new }
@@ -94,6 +102,7 @@ fn settle_pending<K: Keeper>(
     requires right { IsRight book.old }
     requires held { HoldsBook (K.holding keeper.old) (K.readiness keeper.old) book.old }
     ensures settles { Settles book.old book.new result }
+    ensures same { Keeps (K.holding keeper.old) (K.holding keeper.new) }
     ensures marks { book.new.marks ≡ book.old.marks }
     ensures right { IsRight book.new }
     ensures held { HoldsBook (K.holding keeper.new) (K.readiness keeper.new) book.new }
@@ -127,6 +136,7 @@ fn act<K: Keeper>(
     requires held { HoldsBook (K.holding keeper.old) (K.readiness keeper.old) book.old }
     requires spelled { is_well_spelled entry.command ≡ true }
     ensures acts { Acts entry book.old book.new result }
+    ensures tells { (K.holding keeper.old).tells ↔ (K.holding keeper.new).tells }
     ensures marks { book.new.marks ≡ book.old.marks }
     ensures right { IsRight book.new }
     ensures held { HoldsBook (K.holding keeper.new) (K.readiness keeper.new) book.new }
@@ -189,6 +199,7 @@ fn keep<K: Keeper>(
     requires accepted { verdict book.old.register.entries entry.drafter entry.request entry.command
         ≡ Accepted entry.law reply }
     ensures acts { Acts entry book.old book.new result }
+    ensures tells { (K.holding keeper.old).tells ↔ (K.holding keeper.new).tells }
     ensures marks { book.new.marks ≡ book.old.marks }
     ensures right { IsRight book.new }
     ensures held { HoldsBook (K.holding keeper.new) (K.readiness keeper.new) book.new }
@@ -229,6 +240,7 @@ fn append<K: Keeper>(
     requires accepted { verdict book.old.register.entries pending.entry.drafter pending.entry.request
         pending.entry.command ≡ Accepted pending.entry.law reply }
     ensures acts { Acts pending.entry book.old book.new result }
+    ensures tells { (K.holding keeper.old).tells ↔ (K.holding keeper.new).tells }
     ensures marks { book.new.marks ≡ book.old.marks }
     ensures right { IsRight book.new }
     ensures held { HoldsBook (K.holding keeper.new) (K.readiness keeper.new) book.new }

@@ -1,11 +1,19 @@
 //! Office: a desk over a keeper and a clock that it is lent. A clause sees both as they are, its entries, the one
 //! that is pending, its marks, and the names of what it was lent.
 
-ghost use Rattle.std.specs.Prelude.{◌≡◌, ◌≢◌, ◌↔◌, [], None, Ok, IfOk, IfErr, IsTrue};
+ghost use Rattle.std.specs.Prelude.{◌≡◌, ◌≢◌, ◌↔◌, ◌+◌, ◌<◌, ◌≤◌, [], true, None, Ok, IfOk, IfErr, IsTrue};
 ghost use Rattle.law_keeper.specs.Keepers.{Keeps, LeavesOldOrSame};
-ghost use Rattle.law_register.specs.Desk.States.{Found, IsFoundOf};
+ghost use Rattle.law_keeper.specs.declared.readiness.Readiness.TheVariants.{Ready, Unopened};
+ghost use Rattle.law_register.specs.Answer.Answers.{Answers};
+ghost use Rattle.law_register.specs.Answer.Asking.{answer_at};
+ghost use Rattle.law_register.specs.Answer.Costs.{bearing_at};
+ghost use Rattle.law_register.specs.Desk.Commands.{Ends, HasCommandCause, LeavesBetween, LeavesNoMore, mark_of, marks_after};
+ghost use Rattle.law_register.specs.Desk.States.{Found, IsDurable, IsFoundOf, IsSound, standing};
+ghost use Rattle.law_register.specs.Law.Spelling.{is_well_spelled};
+ghost use Rattle.law_register.specs.Register.LawList.{front};
 ghost use Rattle.law_office.specs.Crashing.{crashes_of};
-ghost use Rattle.law_office.specs.Offices.{HoldsBook, IsNamed, IsRight, Spells, names_of, pending_of};
+ghost use Rattle.law_office.specs.Lists.{EndsOver};
+ghost use Rattle.law_office.specs.Offices.{HoldsBook, IsRight, Spells, desk_of, names_of, pending_of};
 ghost use Rattle.law_office.specs.Opening.{HasRefusalCause, Refuses, opened_of};
 
 use crate::acting::command as do_command;
@@ -31,6 +39,15 @@ pub struct OpenRefused<'a, K: Keeper> {
     pub keeper: &'a mut K,
     /// Why.
     pub fault: OpenFault,
+}
+
+/// What an office was lent.
+#[derive(Drop)]
+pub struct Lent<'a, K: Keeper, C: Clock> {
+    /// The keeper.
+    pub keeper: &'a mut K,
+    /// The clock.
+    pub clock: &'a mut C,
 }
 
 /// A desk whose entries a keeper keeps.
@@ -115,26 +132,38 @@ impl<'a, K: Keeper, C: Clock> Office<'a, K, C> {
         }
     }
 
-    /// Gives the keeper back. Its list spells the entries, with the one that is pending behind them or not, and that
-    /// list, and what a crash leaves of it, is opened so.
-    pub fn close(self) -> &'a mut K
-        ensures keeper { result.now ≡ self.entry.keeper }
-        ensures name { IsNamed self.entry.origin result.ghost_name }
-        ensures list { (K.holding result.now).tells → Spells self.entry.entries self.entry.pending
-            (K.holding result.now).list }
-        ensures found { (K.holding result.now).tells → IsFoundOf self.entry.entries self.entry.pending
-            (opened_of (K.holding result.now).list) }
-        ensures durable { let crashes = crashes_of (K.holding result.now) in
+    /// Gives back what it was lent. The keeper's list spells the entries, with the one that is pending behind them or
+    /// not, and that list, and what a crash leaves of it, is opened so. Nothing is asked of the clock.
+    pub fn close(self) -> Lent<'a, K, C>
+        ensures keeper { result.keeper.now ≡ self.entry.keeper }
+        ensures clock { result.clock.now ≡ self.entry.clock }
+        ensures names { self.entry.origin ≡ names_of result.keeper.ghost_name result.clock.ghost_name }
+        ensures list { (K.holding result.keeper.now).tells → Spells self.entry.entries self.entry.pending
+            (K.holding result.keeper.now).list }
+        ensures found { (K.holding result.keeper.now).tells → IsFoundOf self.entry.entries self.entry.pending
+            (opened_of (K.holding result.keeper.now).list) }
+        ensures durable { let crashes = crashes_of (K.holding result.keeper.now) in
             crashes.tells → (found : Found) → crashes.may_leave found
             → IsFoundOf self.entry.entries self.entry.pending found }
     {
         let Office {
             keeper,
-            clock: _,
+            clock,
             book,
         } = self;
         drop(book);
-        keeper
+        Lent { keeper, clock }
+    }
+
+    /// What stands between an office and its keeper at each moment between two calls. The keeper's list spells the
+    /// entries, with the one that is pending behind them or not; the keeper was opened, and is ready where none is.
+    pub fn holds_entries(&self)
+        ensures list { (K.holding self.now.keeper).tells
+            → Spells self.now.entries self.now.pending (K.holding self.now.keeper).list }
+        ensures ready { self.now.pending ≡ None → K.readiness self.now.keeper ≡ Ready }
+        ensures opened { K.readiness self.now.keeper ≢ Unopened }
+    {
+        let _ = &self.book;
     }
 
     /// The marks of the commands that a fault of the keeper answered, in their order. It takes no memory.
@@ -167,7 +196,23 @@ impl<'a, K: Keeper, C: Clock> Desk for Office<'a, K, C> {
         request: u64,
         command: Command,
         steps: &mut Steps<L>,
-    ) -> Result<Reply, CommandFault> {
+    ) -> Result<Reply, CommandFault>
+        requires { is_well_spelled command ≡ true }
+        ensures outcome { let state = desk_of K.faults C.days in
+            Ends drafter.now request command (standing (state self.old)) (standing (state self.new)) result }
+        ensures over { let state = desk_of K.faults C.days in
+            EndsOver drafter.now request command (standing (state self.old)) (standing (state self.new))
+            (K.holding self.old.keeper) (K.holding self.new.keeper) result }
+        ensures marks { self.new.marks ≡ marks_after self.old.marks
+            (mark_of drafter.now request self.new.entries) result }
+        ensures cause { HasCommandCause (K.faults self.old.keeper) (K.faults self.new.keeper) result }
+        ensures crash { let state = desk_of K.faults C.days in LeavesBetween (state self.old) (state self.new)
+            (crashes_of (K.holding self.old.keeper)) (crashes_of (K.holding self.new.keeper)) }
+        ensures sound { IsSound (desk_of K.faults C.days self.new) }
+        ensures durable { IsDurable (desk_of K.faults C.days self.new) (crashes_of (K.holding self.new.keeper)) }
+        ensures origin { self.new.origin ≡ self.old.origin }
+        ensures steps { steps.new ≡ steps.old }
+    {
         let _ = steps;
         match drafter.copy() {
             Ok(drafter) => {
@@ -199,7 +244,14 @@ impl<'a, K: Keeper, C: Clock> Desk for Office<'a, K, C> {
         alloc: Global,
         question: &Question,
         steps: &mut Steps<L>,
-    ) -> Result<Answer, AskFault> {
+    ) -> Result<Answer, AskFault>
+        requires { question.now.viewpoint < front self.old.entries }
+        ensures answer { Answers result (answer_at self.old.entries question.now) }
+        ensures alone { (self.new.keeper ≡ self.old.keeper) × (self.new.clock ≡ self.old.clock) }
+        ensures same { desk_of K.faults C.days self.new ≡ desk_of K.faults C.days self.old }
+        ensures crash { LeavesNoMore (crashes_of (K.holding self.old.keeper)) (crashes_of (K.holding self.new.keeper)) }
+        ensures steps { steps.new ≤ steps.old + bearing_at self.old.entries question.now }
+    {
         self.book
             .past
             .answer_past(alloc, &FromEnacted, &self.book.register, question, steps)

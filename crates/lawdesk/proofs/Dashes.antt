@@ -11,11 +11,12 @@ use Rattle.desk_base.specs.Days.{day_of, has_dashes, pair_of}
 use Rattle.desk_base.specs.Decimals.{decimal_up_to, is_decimal, up_to}
 use Rattle.frbr_names.specs.Works.{front_of, work_of}
 use Rattle.frbr_names.specs.Parts.{after_front}
-use Rattle.lawdesk.specs.Jobs.{generate_with, job_of, plain_job, seeded_job, text_job, text_on}
+use Rattle.dossier_text.specs.Jobs.{text_on}
+use Rattle.lawdesk.specs.Jobs.{generate_with, job_of, plain_job, seeded_job, text_job}
 use Rattle.law_register.specs.Answer.Questions.{reading_named}
 use Rattle.lawdesk.specs.ReportJobs.{correspondence_job, correspondence_on, lifecycle_job, report_job, short_job, unapplied_job, work_named}
 use Rattle.lawdesk.specs.Taking.{begins_with_dash}
-use Rattle.lawdesk.specs.declared.job.Job.TheVariants.{Report}
+use Rattle.lawdesk.specs.declared.job.Job.TheVariants.{Report, Text}
 use Rattle.law_register.specs.declared.answer.question.Reading.TheVariants.{Force}
 use Rattle.lawdesk.specs.declared.report_job.ReportJob.TheVariants.{Lifecycle, Unapplied}
 
@@ -152,14 +153,14 @@ unread None = refl
 unread (Some day) = refl
 
 text_dashed : (date name : List ℕ) → (begins_with_dash date ≡ true) ⊎ (begins_with_dash name ≡ true) → text_job date (reading_named name) ≡ None
-text_dashed date name (inl dash) = ap (λ o. text_on o (reading_named name)) (no_day date dash)
-text_dashed date name (inr dash) = ap (λ o. text_on (day_of date) o) (no_reading name dash) ∙ unread (day_of date)
+text_dashed date name (inl dash) = ap (λ o. option_map (λ job. Text job) (text_on o (reading_named name))) (no_day date dash)
+text_dashed date name (inr dash) = ap (λ o. option_map (λ job. Text job) (text_on (day_of date) o)) (no_reading name dash) ∙ ap (option_map (λ job. Text job)) (unread (day_of date))
 
 plain_dashed : (word : List ℕ) (words : List (List ℕ)) → list_any begins_with_dash words ≡ true → plain_job (word ∷ words) ≡ None
 plain_dashed word [] dash = absurd (true≢false (sym dash))
 plain_dashed word (date ∷ []) dash =
     then_none (bytes_eq word (codes "text")) (text_job date (Some Force))
-    (ap (λ o. text_on o (Some Force)) (no_day date (one_dash (begins_with_dash date) dash)))
+    (ap (λ o. option_map (λ job. Text job) (text_on o (Some Force))) (no_day date (one_dash (begins_with_dash date) dash)))
 plain_dashed word (date ∷ name ∷ []) dash =
     then_none (bytes_eq word (codes "text")) (text_job date (reading_named name))
     (text_dashed date name (two_dash (begins_with_dash date) (begins_with_dash name) dash))

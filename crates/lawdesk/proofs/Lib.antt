@@ -1,14 +1,9 @@
 pub mod InMemory
-pub mod Reading
 pub mod Stepping
 pub mod Outliving
 pub mod Serving
 pub mod Beginning
 pub mod Batches
-pub mod Wholes
-pub mod Telling
-pub mod Statuses
-pub mod WellSpelled
 pub mod Staying
 pub mod WordWalk
 pub mod Dashes

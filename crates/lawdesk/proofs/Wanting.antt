@@ -6,10 +6,10 @@ use Rattle.law_register.specs.declared.desk.open_fault.OpenFault.TheVariants as 
 use Rattle.lawdesk.specs.Batching.{RanBatch}
 use Rattle.lawdesk.specs.Checking.{IsCheckDone, RanCheck}
 use Rattle.lawdesk.specs.Generating.{RanGenerate}
-use Rattle.lawdesk.specs.Runs.{IsDone, RanText}
+use Rattle.dossier_text.specs.Runs.{IsDone, RanText}
 use Rattle.lawdesk.specs.Tabling.{IsReportDone, RanReport}
 use Rattle.lawdesk.specs.declared.job.GenerateJob.{GenerateJob}
-use Rattle.lawdesk.specs.declared.job.TextJob.{TextJob}
+use Rattle.dossier_text.specs.declared.text_job.TextJob.{TextJob}
 use Rattle.lawdesk.specs.declared.report_job.ReportJob.{ReportJob}
 use Rattle.lawdesk.proofs.Batches.{ran_unopened}
 use Rattle.lawdesk.proofs.Staying.{keeps_same}

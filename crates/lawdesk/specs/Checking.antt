@@ -11,9 +11,9 @@ use Rattle.law_register.specs.declared.desk.damage.Damage.{Damage}
 use Rattle.law_register.specs.declared.desk.open_fault.OpenFault.{OpenFault}
 use Rattle.law_register.specs.declared.desk.open_fault.OpenFault.TheVariants as fails
 use Rattle.law_register.specs.declared.register.entry.Entry.{Entry}
-use Rattle.lawdesk.specs.Reports.{Told, line_of}
-use Rattle.lawdesk.specs.Runs.{IsWritten}
-use Rattle.lawdesk.specs.declared.report.Report.{Report}
+use Rattle.dossier_text.specs.Reports.{Told, line_of}
+use Rattle.dossier_text.specs.Runs.{IsWritten}
+use Rattle.dossier_text.specs.declared.report.Report.{Report}
 
 -- how many entries, and how many law entries there are
 abbrev pub told_register : List Entry → Told

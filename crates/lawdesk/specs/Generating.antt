@@ -2,7 +2,7 @@
 use Rattle.std.specs.Prelude.{ℕ, ◌≡◌, ◌≢◌, ◌⊎◌, List, Option}
 use Rattle.desk_base.specs.Streams.{AppendsFront, Rose}
 use Rattle.law_generator.specs.Courses.{generated, line_of}
-use Rattle.lawdesk.specs.Runs.{IsWritten}
+use Rattle.dossier_text.specs.Runs.{IsWritten}
 use Rattle.lawdesk.specs.declared.job.GenerateJob.{GenerateJob}
 
 -- the statuses of `generate`: 0 it is told, 4 for a sink that failed, 7 for want of memory

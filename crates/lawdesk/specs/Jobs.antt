@@ -1,8 +1,8 @@
 -- What the words of the command line ask for.
 use Rattle.std.specs.Prelude.{ℕ, ◌==◌, List, [], ◌∷◌, Option, Some, None, option_map, if◌then◌else◌, codes}
 use Rattle.std.specs.Str.{bytes_eq}
-use Rattle.desk_base.specs.Days.{day_of}
 use Rattle.desk_base.specs.Decimals.{decimal_up_to}
+use Rattle.dossier_text.specs.Jobs.{text_named}
 use Rattle.law_register.specs.Answer.Questions.{reading_named}
 use Rattle.law_register.specs.declared.answer.question.Reading.{Reading}
 use Rattle.law_register.specs.declared.answer.question.Reading.TheVariants.{Force}
@@ -10,15 +10,9 @@ use Rattle.lawdesk.specs.declared.job.Job.{Job}
 use Rattle.lawdesk.specs.declared.job.Job.TheVariants.{Text, Check, Batch, Report, Generate}
 use Rattle.lawdesk.specs.ReportJobs.{report_job}
 
--- the job of the text on a day in a reading, if both were named
-abbrev pub text_on : Option ℕ → Option Reading → Option Job
-text_on None reading = None
-text_on (Some day) None = None
-text_on (Some day) (Some reading) = Some (Text (record { day = day; reading = reading }))
-
--- the job of the text on the day that a word names, if both were named
+-- the job of the text on the day that a word names in a reading, if both were named
 abbrev pub text_job : List ℕ → Option Reading → Option Job
-text_job date reading = text_on (day_of date) reading
+text_job date reading = option_map (λ job. Text job) (text_named date reading)
 
 -- the job of generating a register of a seed and a count, if both were named, and the count is not 0
 abbrev pub generate_with : Option ℕ → Option ℕ → Option Job

@@ -1,16 +1,9 @@
-pub mod Entering
 pub mod Generating
-pub mod Asking
 pub mod Batching
 pub mod Checking
-pub mod Input
 pub mod Jobs
 pub mod Taking
 pub mod Outliving
-pub mod Stops
 pub mod ReportJobs
-pub mod Reports
-pub mod Runs
 pub mod Statuses
-pub mod Views
 pub mod Tabling

@@ -3,7 +3,7 @@ use Rattle.std.specs.Prelude.{ℕ, ◌≡◌, ◌⊎◌, ◌==◌, Bool, List, O
 use Rattle.lawdesk.specs.Batching.{IsBatchStatus}
 use Rattle.lawdesk.specs.Checking.{IsCheckStatus}
 use Rattle.lawdesk.specs.Generating.{IsGenerateStatus}
-use Rattle.lawdesk.specs.Runs.{IsTextStatus}
+use Rattle.dossier_text.specs.Runs.{IsTextStatus}
 use Rattle.lawdesk.specs.Tabling.{IsReportStatus}
 use Rattle.lawdesk.specs.declared.notice.TheConstants.{HELD, UNKEPT, UNREAD, UNWRITTEN, WANTING}
 use Rattle.lawdesk.specs.declared.usage.TheConstants.{USAGE_TEXT}

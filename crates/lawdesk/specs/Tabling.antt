@@ -14,9 +14,9 @@ use Rattle.law_reports.specs.Correspondences.{correspondence}
 use Rattle.law_reports.specs.Lifecycles.{lifecycle}
 use Rattle.law_reports.specs.Unapplied.{IsUnapplied}
 use Rattle.lawdesk.specs.Checking.{told_damage}
-use Rattle.lawdesk.specs.Reports.{Told, line_of}
-use Rattle.lawdesk.specs.Runs.{IsWritten}
-use Rattle.lawdesk.specs.declared.report.Report.{Report}
+use Rattle.dossier_text.specs.Reports.{Told, line_of}
+use Rattle.dossier_text.specs.Runs.{IsWritten}
+use Rattle.dossier_text.specs.declared.report.Report.{Report}
 use Rattle.lawdesk.specs.declared.report_job.ReportJob.{ReportJob}
 use Rattle.lawdesk.specs.declared.report_job.ReportJob.TheVariants.{Lifecycle, Correspondence, Unapplied}
 

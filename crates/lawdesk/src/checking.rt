@@ -7,12 +7,11 @@ ghost use Rattle.law_office.specs.Opening.{HasOpenCause, Opens};
 ghost use Rattle.law_register.specs.declared.desk.damage.Damage.{Damage};
 ghost use Rattle.law_register.specs.declared.register.entry.Entry.{Entry};
 ghost use Rattle.lawdesk.specs.Checking.{HasCheckCause, IsCheckCut, IsCheckDone, IsCheckStatus, IsChecked, checked, told_damage, told_opened, told_register};
-ghost use Rattle.lawdesk.specs.Views.{report_view};
+ghost use Rattle.dossier_text.specs.Views.{report_view};
 
-use crate::line::line;
-use crate::report::Report;
 use akn_json::put_damage;
 use desk_base::{Memory, Sink};
+use dossier_text::{Report, line};
 use law_keeper::Keeper;
 use law_office::Book;
 use law_register::{Damage, OpenFault, Register};

@@ -9,19 +9,11 @@ ghost use Rattle.lawdesk.specs.declared.job.Job.TheVariants as jobs;
 use crate::report_job::ReportJob;
 use crate::taking::{has_dash, take_words};
 use clap::ArgMatches;
-use desk_base::{Day, Memory, decimal_number};
+use desk_base::{Memory, decimal_number};
+use dossier_text::TextJob;
 use law_register::Reading;
 use std::alloc::Global;
 use std::convert::AsStr;
-
-/// A day, and what of the text counts on it.
-#[derive(Clone, Copy, Debug, PartialEq, Eq)]
-pub struct TextJob {
-    /// The day.
-    pub day: Day,
-    /// What is in force, or what has effect.
-    pub reading: Reading,
-}
 
 /// A seed, and how many requests.
 #[derive(Clone, Copy, Debug, PartialEq, Eq)]
@@ -51,10 +43,7 @@ pub enum Job {
 fn text_job(date: &str, reading: Option<Reading>) -> Option<Job>
     ensures { result ≡ text_job date.now reading }
 {
-    Some(Job::Text(TextJob {
-        day: Day::from_text(date)?,
-        reading: reading?,
-    }))
+    Some(Job::Text(TextJob::named(date, reading)?))
 }
 
 // The job of generating a register, where the words name a seed and a count.

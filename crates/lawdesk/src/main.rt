@@ -3,20 +3,14 @@
 
 mod batching;
 mod checking;
-mod entering;
 mod generating;
-mod input;
 mod job;
-mod line;
+mod laws;
 mod notice;
-mod report;
 mod report_job;
-mod reporting;
 mod run;
-mod stop;
 mod tabling;
 mod taking;
-mod texting;
 mod usage;
 
 ghost use Rattle.std.specs.Prelude.{◌≡◌, ◌↔◌, ◌≢◌, None, map, string_bytes};

@@ -9,14 +9,13 @@ ghost use Rattle.law_register.specs.declared.desk.damage.Damage.{Damage};
 ghost use Rattle.law_register.specs.declared.register.entry.Entry.{Entry};
 ghost use Rattle.law_reports.specs.Tables.{Tells};
 ghost use Rattle.lawdesk.specs.Tabling.{HasReportCause, IsReport, IsReportCut, IsReportDone, IsReportOf, IsReportStatus, IsReported, IsTabled, told_table};
-ghost use Rattle.lawdesk.specs.Views.{report_view};
+ghost use Rattle.dossier_text.specs.Views.{report_view};
 
 use crate::checking::report_damage;
-use crate::line::line;
-use crate::report::Report;
 use crate::report_job::ReportJob;
 use akn_json::put_query_rule;
 use desk_base::{Memory, Sink, Steps};
+use dossier_text::{Report, line};
 use law_keeper::Keeper;
 use law_office::Book;
 use law_register::{AskFault, OpenFault, Register};

@@ -5,9 +5,12 @@ use std::alloc::{AllocError, Global};
 /// The most callers of a course.
 pub const MOST_CALLERS: usize = 64;
 
-/// A course, as a line tells it: `SEED TURNS KEPT SHAPE PLACE PLACE ..`, with a place for each caller.
+/// A course, as a line tells it: `SEED TURNS KEPT SHAPE PLACE PLACE ..`, with a place for each caller, and `slow ` before
+/// all that or not.
 #[derive(Drop)]
 pub struct Course {
+    /// Whether each turn lasts long enough for others to fall asleep.
+    pub is_slow: bool,
     pub seed: u64,
     /// How many turns each caller takes.
     pub turns: u32,
@@ -22,6 +25,10 @@ pub struct Course {
 impl Course {
     /// The course of a line, if it is one.
     pub fn from_line(alloc: Global, line: &str) -> Result<Option<Course>, AllocError> {
+        let (is_slow, line) = match line.strip_prefix("slow ") {
+            Some(rest) => (true, rest),
+            None => (false, line),
+        };
         let mut words = line.split(' ');
         let (Some(seed), Some(turns)) = (number(words.next()), number(words.next())) else {
             return Ok(None);
@@ -43,6 +50,7 @@ impl Course {
             return Ok(None);
         }
         Ok(Some(Course {
+            is_slow,
             seed,
             turns: turns as u32,
             is_kept,

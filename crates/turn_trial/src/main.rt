@@ -14,12 +14,13 @@ use std::alloc::Global;
 use std::io::{BufRead, BufReader, Read};
 use std::sync::Wait;
 use std::thread::Threads;
+use std::time::Clock;
 
 /// How many bytes are read at a time.
 const PIECE: usize = 4_096;
 
 // Writes what came of each course of a reader.
-fn run<R: Threads + Wait + Print + Sync, I: Read + Drop>(
+fn run<R: Threads + Wait + Clock + Print + Sync, I: Read + Drop>(
     rt: &R,
     alloc: Global,
     reader: I,

@@ -13,6 +13,7 @@ use std::alloc::{AllocError, Global};
 use std::fmt::{Display, Formatter, Write};
 use std::sync::Wait;
 use std::thread::Threads;
+use std::time::Clock;
 use std::{fmt, thread};
 use turn_lock::{Pass, Turns};
 
@@ -44,7 +45,7 @@ impl Display for Outcome {
 }
 
 /// Runs a course. Its callers are no more than a course may have.
-pub fn run_course<R: Threads + Wait + Sync>(
+pub fn run_course<R: Threads + Wait + Clock + Sync>(
     rt: &R,
     alloc: Global,
     course: &Course,
@@ -151,7 +152,7 @@ fn add_worker(
     ensures { OnOk result (AllOf (id_of turns.now) workers.new.items) }
 {
     let seed = course.seed.wrapping_add(workers.len() as u64);
-    let worker = Worker::new(alloc, pass, seed, kept_marks(course))?;
+    let worker = Worker::new(alloc, pass, seed, kept_marks(course), course.is_slow)?;
     match workers.push(worker) {
         Ok(()) => Ok(()),
         Err(_) => Err(AllocError),
@@ -159,7 +160,7 @@ fn add_worker(
 }
 
 // Each worker takes his turns, all at once.
-fn work_all<R: Threads + Wait + Sync>(
+fn work_all<R: Threads + Wait + Clock + Sync>(
     rt: &R,
     turns: &Turns<Notes>,
     workers: &mut [Worker],

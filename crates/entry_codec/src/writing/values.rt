@@ -1,12 +1,13 @@
 //! The small values of an entry: days, periods, ids, numberings, sources, destinations and occurrences.
 
-ghost use Rattle.std.specs.Prelude.{◌≡◌, ◌≤◌, ◌++◌, OnOk, IfSome, length};
+ghost use Rattle.std.specs.Prelude.{◌≡◌, ◌≤◌, ◌++◌, OnOk, IfSome};
 ghost use Rattle.entry_codec.specs.Values as spec;
 ghost use Rattle.entry_codec.specs.Typed as typed;
 ghost use Rattle.desk_base.specs.Days.{IsDay};
 
 use super::numbers::{put_number16, put_number32};
 use super::texts::{put_text, put_work};
+use crate::typed::numbering_is_typed;
 use desk_base::laws::day_is_numbered;
 use desk_base::{Day, Id, Memory, Period};
 use eid_paths::{Element, Numbering};
@@ -100,17 +101,12 @@ fn numbering_number(n: &Numbering) -> u16
         + bit_of(n, Element::Indent, 8192)
 }
 
-// Each element has its place.
-fn places_are_all(_throughout: &[bool; 14])
-    ensures { length _throughout.now ≡ 14 }
-{}
-
 #[tactic(auto, unfolding(crate::specs::Values::numbering))]
 pub(super) fn put_numbering(out: &mut Vec<u8>, numbering: &Numbering) -> Result<(), Memory>
     ensures bytes { OnOk result (out.new.items ≡ out.old.items ++ spec.numbering.spell numbering.now) }
     ensures typed { OnOk result (typed.IsNumbering numbering.now) }
 {
-    places_are_all(&numbering.throughout);
+    numbering_is_typed(numbering);
     put_number16(out, numbering_number(numbering))
 }
 

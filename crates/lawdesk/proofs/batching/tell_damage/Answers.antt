@@ -1,9 +1,9 @@
 -- A sink that failed has a front part of the line.
 use Rattle.std.proofs.Common.{◌∙◌, ap, subst, refl, inl, inr, ℕ, List}
 use Rattle.desk_base.specs.Streams.{AppendsFront}
-use Rattle.lawdesk.proofs.Telling.{is_front}
+use Rattle.dossier_text.proofs.Telling.{is_front}
 use Rattle.lawdesk.proofs.batching.tell_damage.Goals as goal
-use Rattle.lawdesk.specs.Reports.{Told}
+use Rattle.dossier_text.specs.Reports.{Told}
 
 pub returns-in-Ok-clause-told : goal.returns-in-Ok-clause-told
 returns-in-Ok-clause-told g c =

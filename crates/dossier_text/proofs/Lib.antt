@@ -1,0 +1,5 @@
+pub mod Reading
+pub mod Statuses
+pub mod Telling
+pub mod WellSpelled
+pub mod Wholes

@@ -1,0 +1,8 @@
+-- Those looked at so far are typed.
+use Rattle.std.proofs.Common.{take}
+use Rattle.std.specs.Prelude.{All}
+use Rattle.entry_codec.specs.Typed.{IsModification}
+use Rattle.entry_codec.proofs.typed.each_modification_is_typed.Given as goal
+
+abbrev pub invariant-loop-one : goal.invariant-loop-one
+invariant-loop-one l = All IsModification (take l.one-index l.mods)

@@ -1,0 +1,170 @@
+-- What a command makes of its keeper's list follows of what it makes of the book, and of how the keeper stands to that.
+use Rattle.std.proofs.Common.{◌≡◌, ◌∙◌, sym, ap, subst, refl, inl, inr, ℕ, List, Option, Some, None, Result, Ok, Err}
+use Rattle.std.specs.Prelude.{◌↔◌, IsSome}
+use Rattle.desk_base.specs.Clocks.{GivesDay}
+use Rattle.law_journal.specs.Grammar.{Listing}
+use Rattle.law_keeper.specs.Keepers.{Holding, Keeps, IsWithOrWithout}
+use Rattle.law_keeper.specs.declared.readiness.Readiness.{Readiness}
+use Rattle.law_register.specs.declared.desk.command_fault.CommandFault.{CommandFault}
+use Rattle.law_register.specs.declared.desk.command_fault.CommandFault.TheVariants as fails
+use Rattle.law_register.specs.declared.law.command.Command.{Command}
+use Rattle.law_register.specs.declared.register.entry.Entry.{Entry}
+use Rattle.law_register.specs.declared.register.rules.Rule.{Rule}
+use Rattle.law_register.specs.declared.register.verdict.Reply.{Reply}
+use Rattle.law_register.specs.declared.register.verdict.Verdict.TheVariants.{Accepted}
+use Rattle.law_register.specs.Desk.Commands.{AreSettled, Begins, Waits}
+use Rattle.law_register.specs.Desk.States.{Standing}
+use Rattle.law_register.specs.Register.Entering.{entered, entry_of}
+use Rattle.law_register.specs.Register.Registers.{Contents}
+use Rattle.law_register.specs.Register.Verdicts.{verdict}
+use Rattle.entry_codec.specs.Entries.{spelling}
+use Rattle.law_office.specs.Acting.{Acts, IsLeft, IsStill, Settles}
+use Rattle.law_office.specs.Lists.{EndsOver, EndsWith, SpellsExactly}
+use Rattle.law_office.specs.Offices.{HoldsBook, Spells, pending_of, standing_of}
+use Rattle.law_office.specs.Opening.{spellings}
+use Rattle.law_office.specs.declared.book.Book.{Book}
+use Rattle.law_office.specs.declared.book.Pending.{Pending}
+
+-- the list of a keeper that holds a book in which nothing is pending
+pub spelled_none : (h : Holding) (readiness : Readiness) (book : Book) → HoldsBook h readiness book
+    → pending_of book.pending ≡ None → h.tells → SpellsExactly book.register.entries h.list
+spelled_none h readiness book held none told =
+    subst (λ (p : Option Entry). Spells book.register.entries p h.list) none (held.list told)
+
+both_tell : (A B C : Type 0) → (A ↔ B) → (B ↔ C) → (A ↔ C)
+both_tell A B C first second = (λ a. second.0 (first.0 a), λ c. first.1 (second.1 c))
+
+-- nothing has come of a command
+waits_of : (days : Option (ℕ → ℕ)) (old new : Book) → new ≡ old → Waits (standing_of old days) (standing_of new days)
+waits_of days old new same = record {
+  entries = ap (λ (b : Book). b.register.entries) same;
+  pending = ap (λ (b : Book). pending_of b.pending) same;
+  days = refl;
+}
+
+-- the list stays, and the command ends so over a list that stays
+stays_over : (drafter : List ℕ) (request : ℕ) (command : Command) (old new : Standing) (h k : Holding)
+    (result : Result Reply CommandFault) → Keeps h k → EndsWith drafter request command old new h.list h.list result
+    → EndsOver drafter request command old new h k result
+stays_over drafter request command old new h k result keeps ends = record {
+  tells = keeps.tells;
+  ends = λ told.
+      subst (λ (list : Listing). EndsWith drafter request command old new h.list list result)
+      (sym (keeps.list told)) ends;
+}
+
+-- what was pending could not be settled
+pub stops_over : (drafter : List ℕ) (request : ℕ) (command : Command) (days : Option (ℕ → ℕ)) (old new : Book)
+    (h k : Holding) (fault : CommandFault) → Settles old new (Err fault) → Keeps h k
+    → EndsOver drafter request command (standing_of old days) (standing_of new days) h k (Err fault)
+stops_over drafter request command days old new h k (fails.Rule rule) settles keeps = absurd settles
+stops_over drafter request command days old new h k fails.KeeperFault settles keeps =
+    stays_over drafter request command (standing_of old days) (standing_of new days) h k (Err fails.KeeperFault) keeps
+    (inl ((waits_of days old new settles.0, refl), settles.1))
+stops_over drafter request command days old new h k fails.Memory settles keeps =
+    stays_over drafter request command (standing_of old days) (standing_of new days) h k (Err fails.Memory) keeps
+    (inl (waits_of days old new settles), refl)
+
+-- marks don't matter
+same_standing : (days : Option (ℕ → ℕ)) (a b : Book) → a.register ≡ b.register → a.pending ≡ b.pending
+    → standing_of a days ≡ standing_of b days
+same_standing days a b registers pendings =
+    ap (λ (r : Contents). (let s : Standing = record { entries = r.entries; pending = pending_of a.pending; days = days } in s)) registers
+    ∙ ap (λ (p : Option Pending). (let s : Standing = record { entries = b.register.entries; pending = pending_of p; days = days } in s)) pendings
+
+pub over_marked : (drafter : List ℕ) (request : ℕ) (command : Command) (days later : Option (ℕ → ℕ))
+    (a b x y : Book) (h k : Holding) (result : Result Reply CommandFault)
+    → b.register ≡ a.register → b.pending ≡ a.pending → y.register ≡ x.register → y.pending ≡ x.pending
+    → EndsOver drafter request command (standing_of b days) (standing_of x later) h k result
+    → EndsOver drafter request command (standing_of a days) (standing_of y later) h k result
+over_marked drafter request command days later a b x y h k result first_register first_pending last_register last_pending ends =
+    subst (λ (s : Standing). EndsOver drafter request command s (standing_of y later) h k result)
+    (same_standing days b a first_register first_pending)
+    (subst (λ (s : Standing). EndsOver drafter request command (standing_of b days) s h k result)
+    (sym (same_standing later y x last_register last_pending)) ends)
+
+module _ (drafter : List ℕ) (request : ℕ) (command : Command) (day : ℕ) (days later : Option (ℕ → ℕ))
+    (old mid new : Book) (h m n : Holding) (before after : Readiness)
+    (settles : AreSettled old.register.entries (pending_of old.pending) mid.register.entries)
+    (none : mid.pending ≡ None) (keeps : Keeps h m) (gives : GivesDay days later day)
+    (held : HoldsBook m before mid) (holds : HoldsBook n after new) where
+  -- the entry of the command, whose law number is not known yet
+  abbrev pub e : Entry
+  e = entry_of drafter request day None command
+
+  -- the list spelled the settled entries
+  had : h.tells → SpellsExactly mid.register.entries h.list
+  had told =
+      sym (keeps.list told)
+      ∙ spelled_none m before mid held (ap pending_of none) (keeps.tells.0 told)
+
+  had_same : new.register.entries ≡ mid.register.entries → h.tells → SpellsExactly new.register.entries h.list
+  had_same same told = had told ∙ ap (λ (es : List Entry). Ok (spellings es)) (sym same)
+
+  has : (m.tells → n.tells) → pending_of new.pending ≡ None → h.tells → SpellsExactly new.register.entries n.list
+  has leads settled told = spelled_none n after new holds settled (leads (keeps.tells.0 told))
+
+  begins : new.register.entries ≡ mid.register.entries
+      → Begins (standing_of old days) (standing_of new later) new.register.entries day
+  begins same = record {
+    settles = subst (λ (es : List Entry). AreSettled old.register.entries (pending_of old.pending) es) (sym same) settles;
+    gives = gives;
+  }
+
+  ends_still : (m.tells → n.tells) → (still : IsStill mid new) → h.tells → n.list ≡ h.list
+  ends_still leads still told = has leads (ap pending_of still.pending) told ∙ sym (had_same still.entries told)
+
+  ends_with : (m.tells → n.tells) → (result : Result Reply CommandFault) → Acts e mid new result → h.tells
+      → EndsWith drafter request command (standing_of old days) (standing_of new later) h.list n.list result
+  ends_with leads (Ok reply) acts told = record {
+    replied = record {
+      settled = mid.register.entries;
+      day = day;
+      begins = record { settles = settles; gives = gives };
+      entered = acts.0;
+      pending = ap pending_of acts.1;
+    };
+    found = had told;
+    kept = has leads (ap pending_of acts.1) told;
+    stays = λ same. has leads (ap pending_of acts.1) told ∙ sym (had_same same told);
+  }
+  ends_with leads (Err (fails.Rule rule)) acts told = record {
+    refused = record {
+      day = day;
+      begins = begins (acts.1).entries;
+      refused = subst (λ (es : List Entry). entered es drafter request day command ≡ Err rule) (sym (acts.1).entries) acts.0;
+      pending = ap pending_of (acts.1).pending;
+    };
+    found = had_same (acts.1).entries told;
+    stays = ends_still leads acts.1 told;
+  }
+  ends_with leads (Err fails.KeeperFault) acts told = inr (record {
+    left = record {
+      day = day;
+      begins = begins acts.entries;
+      law = acts.law;
+      reply = acts.reply;
+      accepted = subst (λ (es : List Entry). verdict es drafter request command ≡ Accepted acts.law acts.reply)
+          (sym acts.entries) acts.accepted;
+      pending = acts.pending;
+    };
+    found = had_same acts.entries told;
+    kept = subst (λ (list : Listing). IsWithOrWithout list (spelling (entry_of drafter request day acts.law command)) n.list)
+        (sym (had_same acts.entries told))
+        (subst (λ (p : Option Entry). Spells new.register.entries p n.list) acts.pending
+        (holds.list (leads (keeps.tells.0 told))));
+  })
+  ends_with leads (Err fails.Memory) acts told = (
+    inr (record {
+      idle = record { day = day; begins = begins acts.entries; pending = ap pending_of acts.pending };
+      found = had_same acts.entries told;
+    }),
+    ends_still leads acts told,
+  )
+
+  pub ends_over : (m.tells ↔ n.tells) → (result : Result Reply CommandFault) → Acts e mid new result
+      → EndsOver drafter request command (standing_of old days) (standing_of new later) h n result
+  ends_over tells result acts = record {
+    tells = both_tell h.tells m.tells n.tells keeps.tells tells;
+    ends = ends_with tells.0 result acts;
+  }

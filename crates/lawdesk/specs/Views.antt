@@ -1,7 +1,0 @@
--- A report, as a clause sees it.
-use Rattle.lawdesk.specs.Reports.{Told}
-use Rattle.lawdesk.specs.declared.report.Report.{Report}
-
--- what a report tells
-abbrev pub report_view : Report → Told
-report_view report = record { status = report.status; bytes = report.bytes.items }
