@@ -1,11 +1,9 @@
 //! Laws of keepers, each as the contract of a function with an empty body.
 
-ghost use Rattle.std.specs.Prelude.{◌≡◌, ◌↔◌, ◌+◌, ◌≤◌, Ok, Err, ℕ, IsTrue};
-ghost use Rattle.law_journal.specs.Disks.{Outlook};
-ghost use Rattle.law_journal.specs.Grammar.{Listing, gate_in, is_size, list_of, with_last};
+ghost use Rattle.std.specs.Prelude.{◌≡◌, ◌↔◌, ◌≤◌, Ok, Err, ℕ, IsTrue};
+ghost use Rattle.law_journal.specs.Grammar.{Listing, is_size, with_last};
 ghost use Rattle.law_keeper.specs.declared.keep_fault.KeepFault.TheVariants.{Failed};
 ghost use Rattle.law_keeper.specs.declared.journal_keeper.TheConstants.{FIRST};
-ghost use Rattle.law_keeper.specs.JournalKeepers.{holding_of};
 ghost use Rattle.law_keeper.specs.Keepers.{Appends, IsSettled, IsWithOrWithout, Keeps};
 
 use crate::Keeper;
@@ -34,6 +32,4 @@ pub fn kept_payload_outlives_crash<K: Keeper>(_payload: &[u8])
 pub fn limits_are_these()
     ensures payload { (n : ℕ) → IsTrue (is_size n) ↔ ((1 ≤ n) × (n ≤ 16777216)) }
     ensures first_gate { FIRST ≡ 8 }
-    ensures cursors { (o : Outlook) (cursor : ℕ)
-        → (holding_of o).place_of cursor ≡ gate_in (list_of o.seen) (cursor + 8) }
 {}
