@@ -31,13 +31,3 @@ goes_on read front count i bytes v after now total lt first longer so_far =
     ∙ regroup front v (each_read read (count - (i + 1)) after)
     )
     ∙ so_far
-
-no_more : (count i : ℕ) → count ≤ i → count - i ≡ 0
-no_more count i le = omega arith
-
-pub is_done : {V : Type 0} (read : List ℕ → Read V) (front : List V) (count i : ℕ) (bytes : List ℕ) (total : Read (List V))
-    → count ≤ i → with_front front (each_read read (count - i) bytes) ≡ total → total ≡ Ok (front, bytes)
-is_done read front count i bytes total le so_far =
-    sym so_far
-    ∙ ap (λ k. with_front front (each_read read k bytes)) (no_more count i le)
-    ∙ ap (λ all. Ok (all, bytes)) (append-nil front)

@@ -65,24 +65,6 @@ stops_over drafter request command days old new h k fails.Memory settles keeps =
     stays_over drafter request command (standing_of old days) (standing_of new days) h k (Err fails.Memory) keeps
     (inl (waits_of days old new settles), refl)
 
--- marks don't matter
-same_standing : (days : Option (ℕ → ℕ)) (a b : Book) → a.register ≡ b.register → a.pending ≡ b.pending
-    → standing_of a days ≡ standing_of b days
-same_standing days a b registers pendings =
-    ap (λ (r : Contents). (let s : Standing = record { entries = r.entries; pending = pending_of a.pending; days = days } in s)) registers
-    ∙ ap (λ (p : Option Pending). (let s : Standing = record { entries = b.register.entries; pending = pending_of p; days = days } in s)) pendings
-
-pub over_marked : (drafter : List ℕ) (request : ℕ) (command : Command) (days later : Option (ℕ → ℕ))
-    (a b x y : Book) (h k : Holding) (result : Result Reply CommandFault)
-    → b.register ≡ a.register → b.pending ≡ a.pending → y.register ≡ x.register → y.pending ≡ x.pending
-    → EndsOver drafter request command (standing_of b days) (standing_of x later) h k result
-    → EndsOver drafter request command (standing_of a days) (standing_of y later) h k result
-over_marked drafter request command days later a b x y h k result first_register first_pending last_register last_pending ends =
-    subst (λ (s : Standing). EndsOver drafter request command s (standing_of y later) h k result)
-    (same_standing days b a first_register first_pending)
-    (subst (λ (s : Standing). EndsOver drafter request command (standing_of b days) s h k result)
-    (sym (same_standing later y x last_register last_pending)) ends)
-
 module _ (drafter : List ℕ) (request : ℕ) (command : Command) (day : ℕ) (days later : Option (ℕ → ℕ))
     (old mid new : Book) (h m n : Holding) (before after : Readiness)
     (settles : AreSettled old.register.entries (pending_of old.pending) mid.register.entries)

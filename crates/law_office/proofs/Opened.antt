@@ -50,14 +50,6 @@ drop_all (first ∷ payloads) = drop_all payloads
 pub keeps_self : (h : Holding) → Keeps h h
 keeps_self h = record { tells = (λ t. t, λ t. t); tells_crash = (λ t. t, λ t. t); list = λ t. refl; places = λ t cursor n at. at }
 
--- nothing was asked of a keeper yet, and then it was opened and its payloads loaded
-pub not_asked : (h : Holding) → IsHolding h → LeavesOldOrSame h h
-not_asked h is = λ told. weaker h.may_leave (IsOldOrSame h) h h (λ list may. inl may) (rests h is told)
-
-pub opened_then_loaded : (o m n : Holding) → LeavesOldOrSame o m → LeavesNoMore m n → LeavesOldOrSame o n
-opened_then_loaded o m n first second = λ told.
-    let run = first told in idles_on (IsOldOrSame o) o m n run (second run.tells)
-
 any_ok : (P : List (List ℕ) → Type 0) → ((payloads : List (List ℕ)) → P payloads) → (listing : Listing) → IfOk listing P
 any_ok P all (Ok payloads) = all payloads
 any_ok P all (Err broken) = tt

@@ -74,12 +74,6 @@ finishes front last (word ∷ words) =
     ap (λ w. finished full (fold (walked full []) w words).held) (moves front last word)
     ∙ finishes (front ++ last ∷ []) word words ∙ ap row (append_assoc front (last ∷ []) (word ∷ words))
 
--- no subcommand is met
-stops : (front : List Text) (last : Text) (words : List Text) → (fold (walked full []) (at front last) words).stopped ≡ None
-stops front last [] = refl
-stops front last (word ∷ words) =
-    ap (λ w. (fold (walked full []) w words).stopped) (moves front last word) ∙ stops (front ++ last ∷ []) word words
-
 -- each word behind the first passes
 passes : (front : List Text) (last : Text) (words : List Text) → walk_passes (built app).top [] (at front last) words ≡ true
 unfolding walk_passes

@@ -5,30 +5,11 @@ use Rattle.std.proofs.lemmas.Slice.Eq.{bytes_eq-Decides}
 use Rattle.desk_base.specs.declared.id.Id.{Id}
 use Rattle.law_register.specs.declared.law.modification.Destination.{Destination}
 use Rattle.law_register.specs.declared.law.modification.Destination.TheVariants as to
-use Rattle.law_register.specs.Answer.Counted.{is_same_id, is_same}
+use Rattle.law_register.specs.Answer.Counted.{is_same}
 use Rattle.std.specs.Map.{lookup}
 use Rattle.law_register.specs.contracts.law.modification.DestinationPartialEq.TheImpl.{eq-value}
 use Rattle.replay_core.specs.declared.counted.Group.{Group}
 use Rattle.replay_core.specs.Groups.{forces_of, efficacies_of}
-
-abbrev id_of : ℕ → ℕ → Id
-id_of l i = record { law = l; item = i }
-
-same_parts : (l m i j : ℕ) → l ≡ m → i ≡ j → id_of l i ≡ id_of m j
-same_parts l m i j law item = ap (λ x. id_of x i) law ∙ ap (λ x. id_of m x) item
-
-same_id : (a b : Id) → is_same_id a b ≡ true → a ≡ b
-same_id a b h =
-    let law : a.law ≡ b.law = grind (arith, nat_tests) in
-    let item : a.item ≡ b.item = grind (arith, nat_tests) in
-    same_parts a.law b.law a.item b.item law item
-
--- things that are the same are equal
-pub same_thing : (a b : Destination) → is_same a b ≡ true → a ≡ b
-same_thing (to.Modification a) (to.Modification b) h = ap to.Modification (same_id a b h)
-same_thing (to.Modification a) (to.Node w) h = absurd (let no : false ≡ true = h in cc)
-same_thing (to.Node w) (to.Modification b) h = absurd (let no : false ≡ true = h in cc)
-same_thing (to.Node v) (to.Node w) h = ap to.Node ((bytes_eq-Decides v w).0 h)
 
 -- a choice of groups is one of their force modifications
 pub forces_chosen : (b : Bool) (one other : Option Group) → forces_of (cond b one other) ≡ cond b (forces_of one) (forces_of other)
@@ -39,22 +20,6 @@ forces_chosen false one other = refl
 pub efficacies_chosen : (b : Bool) (one other : Option Group) → efficacies_of (cond b one other) ≡ cond b (efficacies_of one) (efficacies_of other)
 efficacies_chosen true one other = refl
 efficacies_chosen false one other = refl
-
--- a list of one thing that was changed, and is put back
-pub put_back : {X : Type 0} (change : List X → List X) (old mid new : Destination → List X) (group : List X) (thing t : Destination)
-    → group ≡ change (old thing) → mid t ≡ cond (is_same thing t) [] (old t) → new t ≡ cond (is_same thing t) group (mid t)
-    → new t ≡ cond (is_same thing t) (change (old t)) (old t)
-put_back {X} change old mid new group thing t made out back =
-    back ∙ ap (λ m. cond (is_same thing t) group m) out ∙ by (is_same thing t) refl
-  where
-    by : (b : Bool) → is_same thing t ≡ b → cond b group (cond b [] (old t)) ≡ cond b (change (old t)) (old t)
-    by true is = made ∙ ap (λ x. change (old x)) (same_thing thing t is)
-    by false is = refl
-
--- a choice of the same is that
-pub either : {X : Type 0} (b : Bool) (x : X) → cond b x x ≡ x
-either true x = refl
-either false x = refl
 
 -- the comparison of destinations is that of the definition
 pub eq_is : (a b : Destination) → eq-value.it a b ≡ is_same a b
