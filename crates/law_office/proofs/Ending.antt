@@ -1,6 +1,6 @@
 -- What a command makes of its keeper's list follows of what it makes of the book, and of how the keeper stands to that.
-use Rattle.std.proofs.Common.{◌≡◌, ◌∙◌, sym, ap, subst, refl, inl, inr, ℕ, List, Option, Some, None, Result, Ok, Err}
-use Rattle.std.specs.Prelude.{◌↔◌, IsSome}
+use Rattle.std.proofs.Common.{◌≡◌, ◌∙◌, sym, ap, subst, refl, inl, inr, ℕ, List, Option, None, Result, Ok, Err}
+use Rattle.std.specs.Prelude.{◌↔◌}
 use Rattle.desk_base.specs.Clocks.{GivesDay}
 use Rattle.law_journal.specs.Grammar.{Listing}
 use Rattle.law_keeper.specs.Keepers.{Holding, Keeps, IsWithOrWithout}
@@ -18,7 +18,7 @@ use Rattle.law_register.specs.Register.Entering.{entered, entry_of}
 use Rattle.law_register.specs.Register.Registers.{Contents}
 use Rattle.law_register.specs.Register.Verdicts.{verdict}
 use Rattle.entry_codec.specs.Entries.{spelling}
-use Rattle.law_office.specs.Acting.{Acts, IsLeft, IsStill, Settles}
+use Rattle.law_office.specs.Acting.{Acts, IsStill, Settles}
 use Rattle.law_office.specs.Lists.{EndsOver, EndsWith, SpellsExactly}
 use Rattle.law_office.specs.Offices.{HoldsBook, Spells, pending_of, standing_of}
 use Rattle.law_office.specs.Opening.{spellings}

@@ -13,7 +13,7 @@ use Rattle.law_register.specs.Register.Verdicts.{is_accepted, is_legal, is_legal
 use Rattle.entry_codec.specs.declared.fault.CodecFault.{CodecFault}
 use Rattle.entry_codec.specs.Entries.{decoding, keeps_rules, spelling}
 use Rattle.entry_codec.proofs.Decoding.{decoded_keeps, decoded_spelling}
-use Rattle.law_office.specs.Opening.{AreOfBytes, HasBytes, goes_on, opened, opened_behind, opened_of, order_rule, spellings, with_decoded, with_entry, with_ordered, with_payload}
+use Rattle.law_office.specs.Opening.{AreOfBytes, HasBytes, goes_on, opened_behind, opened_of, order_rule, spellings, with_decoded, with_entry, with_ordered, with_payload}
 
 -- payloads are decoded as entries, one after another
 abbrev Decode : List (List ℕ) → List Entry → Type 0

@@ -1,5 +1,5 @@
 -- What a command makes of its keeper's list, where the keeper tells it.
-use Rattle.std.specs.Prelude.{ℕ, ◌≡◌, ◌⊎◌, ◌↔◌, List, Option, IsSome, Result, Ok, Err}
+use Rattle.std.specs.Prelude.{ℕ, ◌≡◌, ◌⊎◌, ◌↔◌, List, IsSome, Result, Ok, Err}
 use Rattle.law_journal.specs.Grammar.{Listing}
 use Rattle.law_keeper.specs.Keepers.{Holding, IsWithOrWithout}
 use Rattle.law_register.specs.declared.desk.command_fault.CommandFault.{CommandFault}

@@ -39,22 +39,22 @@ pub fn notices_are_these()
 pub fn usage_is_this()
     ensures { USAGE_TEXT.now ≡
         codes "lawdesk tells what the text of an act was on a day, and keeps the register of what "
-            ++ codes "was enacted and amended." ++ 10 ∷ 10 ∷
+        ++ codes "was enacted and amended." ++ 10 ∷ 10 ∷
         codes "Usage: lawdesk COMMAND [WORD]..." ++ 10 ∷ 10 ∷
         codes "Commands:" ++ 10 ∷
         codes "  text DATE [READING]                   the text on that day of the act of the "
-            ++ codes "dossier on standard input" ++ 10 ∷
+        ++ codes "dossier on standard input" ++ 10 ∷
         codes "  batch                                 answers the HTTP requests on standard input, "
-            ++ codes "over the register" ++ 10 ∷
+        ++ codes "over the register" ++ 10 ∷
         codes "  check                                 how many entries the register has, or what "
-            ++ codes "is damaged" ++ 10 ∷
+        ++ codes "is damaged" ++ 10 ∷
         codes "  report lifecycle WORK                 a table of what happened to an act" ++ 10 ∷
         codes "  report correspondence WORK DATE DATE  a table of which provision of one day is "
-            ++ codes "which of another" ++ 10 ∷
+        ++ codes "which of another" ++ 10 ∷
         codes "  report unapplied DATE                 a table of what could not be applied on that "
-            ++ codes "day, and why" ++ 10 ∷
+        ++ codes "day, and why" ++ 10 ∷
         codes "  generate SEED COUNT                   makes a register in memory, and tells what "
-            ++ codes "became of its commands" ++ 10 ∷ 10 ∷
+        ++ codes "became of its commands" ++ 10 ∷ 10 ∷
         codes "Words:" ++ 10 ∷
         codes "  DATE     a day from 0001-01-01 to 9999-12-31, as 2011-01-01" ++ 10 ∷
         codes "  READING  force (what is in force, if no reading is given) or efficacy (what has effect)" ++ 10 ∷
@@ -62,7 +62,7 @@ pub fn usage_is_this()
         codes "  SEED     a whole number from 0 to 18446744073709551615" ++ 10 ∷
         codes "  COUNT    a whole number from 1 to 2000" ++ 10 ∷ 10 ∷
         codes "batch, check and report open the journal lawdesk.jnl in the working folder. Answers, "
-            ++ codes "responses and tables are" ++ 10 ∷
+        ++ codes "responses and tables are" ++ 10 ∷
         codes "written to standard output." ++ 10 ∷ 10 ∷
         codes "Exit status:" ++ 10 ∷
         codes "  0   it was done" ++ 10 ∷
