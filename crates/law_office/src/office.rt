@@ -13,7 +13,7 @@ ghost use Rattle.law_register.specs.Law.Spelling.{is_well_spelled};
 ghost use Rattle.law_register.specs.Register.LawList.{front};
 ghost use Rattle.law_office.specs.Crashing.{crashes_of};
 ghost use Rattle.law_office.specs.Lists.{EndsOver};
-ghost use Rattle.law_office.specs.Offices.{HoldsBook, IsRight, Spells, desk_of, names_of, pending_of};
+ghost use Rattle.law_office.specs.Offices.{HoldsBook, IsNamed, IsRight, Spells, desk_of, names_of, pending_of};
 ghost use Rattle.law_office.specs.Opening.{HasRefusalCause, Refuses, opened_of};
 
 use crate::acting::command as do_command;
@@ -39,15 +39,6 @@ pub struct OpenRefused<'a, K: Keeper> {
     pub keeper: &'a mut K,
     /// Why.
     pub fault: OpenFault,
-}
-
-/// What an office was lent.
-#[derive(Drop)]
-pub struct Lent<'a, K: Keeper, C: Clock> {
-    /// The keeper.
-    pub keeper: &'a mut K,
-    /// The clock.
-    pub clock: &'a mut C,
 }
 
 /// A desk whose entries a keeper keeps.
@@ -132,27 +123,26 @@ impl<'a, K: Keeper, C: Clock> Office<'a, K, C> {
         }
     }
 
-    /// Gives back what it was lent. The keeper's list spells the entries, with the one that is pending behind them or
-    /// not, and that list, and what a crash leaves of it, is opened so. Nothing is asked of the clock.
-    pub fn close(self) -> Lent<'a, K, C>
-        ensures keeper { result.keeper.now ≡ self.entry.keeper }
-        ensures clock { result.clock.now ≡ self.entry.clock }
-        ensures names { self.entry.origin ≡ names_of result.keeper.ghost_name result.clock.ghost_name }
-        ensures list { (K.holding result.keeper.now).tells → Spells self.entry.entries self.entry.pending
-            (K.holding result.keeper.now).list }
-        ensures found { (K.holding result.keeper.now).tells → IsFoundOf self.entry.entries self.entry.pending
-            (opened_of (K.holding result.keeper.now).list) }
-        ensures durable { let crashes = crashes_of (K.holding result.keeper.now) in
+    /// Gives the keeper back. Its list spells the entries, with the one that is pending behind them or not, and that
+    /// list, and what a crash leaves of it, is opened so.
+    pub fn close(self) -> &'a mut K
+        ensures keeper { result.now ≡ self.entry.keeper }
+        ensures name { IsNamed self.entry.origin result.ghost_name }
+        ensures list { (K.holding result.now).tells → Spells self.entry.entries self.entry.pending
+            (K.holding result.now).list }
+        ensures found { (K.holding result.now).tells → IsFoundOf self.entry.entries self.entry.pending
+            (opened_of (K.holding result.now).list) }
+        ensures durable { let crashes = crashes_of (K.holding result.now) in
             crashes.tells → (found : Found) → crashes.may_leave found
             → IsFoundOf self.entry.entries self.entry.pending found }
     {
         let Office {
             keeper,
-            clock,
+            clock: _,
             book,
         } = self;
         drop(book);
-        Lent { keeper, clock }
+        keeper
     }
 
     /// What stands between an office and its keeper at each moment between two calls. The keeper's list spells the

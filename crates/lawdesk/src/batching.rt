@@ -98,13 +98,13 @@ fn serve_book<S: Source, W: Sink, K: Keeper, C: Clock, L: Ledger>(
     requires none_pending { book.pending ≡ None }
     requires no_marks { book.marks.items ≡ [] }
     ensures served { ServesOver S.left W.written K.holding K.faults C.days source.old source.new sink.old sink.new
-        keeper.old keeper.new clock.old clock.new steps.old steps.new book.register.entries result }
+        keeper.old keeper.new clock.old steps.old steps.new book.register.entries result }
     ensures reads { HasReadCause result.end (S.faults source.old) (S.faults source.new) }
     ensures writes { HasWriteCause result.end (W.faults sink.old) (W.faults sink.new) }
 {
     let mut office = Office::new(keeper, clock, book);
     let served = serve_desk(alloc, source, sink, &mut office, steps);
-    let _lent = office.close();
+    let _keeper = office.close();
     served
 }
 
