@@ -4,7 +4,7 @@ import tempfile
 import time
 
 from checks import DESK, check, over_a_folder, to_a_full_device
-from models import entry_bytes, failing_keepers
+from models import entry_bytes, failing_keepers as keepers_that_fail
 from rows import dossiers, register
 
 
@@ -91,7 +91,7 @@ def spelled_entries():
 
 def failing_keepers():
     """A desk whose keeper fails at each of its calls, and what is opened of payloads that are damaged."""
-    for name, (lines, end) in failing_keepers.SESSIONS.items():
+    for name, (lines, end) in keepers_that_fail.SESSIONS.items():
         status, got = lines_of(line for line, _ in lines)
         check(f"{name}: the status, and how many lines", (status, len(got)), (0, len(lines) + len(end)))
         for number, (want, line_got) in enumerate(zip([want for _, want in lines] + end, got), 1):
