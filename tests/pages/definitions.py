@@ -176,11 +176,7 @@ def walked():
     return every, walk.reached
 
 
-# What goes with the next change of its crate, on which all others stand.
-LEFT = {("law_register", "request_reply")}
-
-
 def cited():
     every, reached = walked()
     check("definitions and answers of proof files", len(every) > 5000 and sum(each.is_answer for each in every) > 500, True)
-    check("definitions that nothing cites", [each.place for each in every if each not in reached and (each.place.split("/")[1], each.name) not in LEFT], [])
+    check("definitions that nothing cites", [each.place for each in every if each not in reached], [])

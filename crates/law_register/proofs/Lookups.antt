@@ -57,13 +57,6 @@ pub items_counted : (w : List ℕ) (es : List Entry) (ms : List ItemMark) (items
     → length (filter (marks_work es w) ms) ≡ length (items_of w items)
 items_counted w es ms items h = items_length es (filter (marks_work es w) ms) (items_of w items) (items_filed w es ms items h)
 
-pub request_reply : (es : List Entry) (m : Option RequestMark) (found : Option (Entry × Reply)) → RequestStands es m found
-    → option_map (λ (k : RequestMark). k.reply) m ≡ option_map (λ (p : Entry × Reply). p.1) found
-request_reply es None None h = refl
-request_reply es (Some m) (Some found) h = ap Some h.1
-request_reply es None (Some found) h = absurd h
-request_reply es (Some m) None h = absurd h
-
 -- what is said again, by the entry and the reply
 pub found_again : (c : Command) (found : Option (Entry × Reply)) (e : Entry) (r : Reply)
     → Some e ≡ option_map (λ (p : Entry × Reply). p.0) found → Some r ≡ option_map (λ (p : Entry × Reply). p.1) found
