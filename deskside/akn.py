@@ -5,6 +5,9 @@ from lxml import etree
 
 import forms
 
+# What no document of XML 1.0 may hold.
+UNSAFE = re.compile("[^\t\n\r\x20-\ud7ff\ue000-\ufffd\U00010000-\U0010ffff]")
+
 etree.register_namespace("desk", forms.OURS)
 
 MOST_BYTES = 32 * 1024 * 1024
@@ -81,8 +84,23 @@ def value(root, *names, key="value"):
     return found.get(key) if found is not None else None
 
 
+def around(root):
+    """The comments and processing instructions before and behind the root."""
+    return list(root.itersiblings(preceding=True))[::-1], list(root.itersiblings())
+
+
 def text_of(element):
     return etree.tostring(element, encoding="unicode", with_tail=False)
+
+
+def safe(text):
+    """A text in which U+FFFD stands for each sign that XML has not."""
+    return UNSAFE.sub("\ufffd", text)
+
+
+def of_side(text):
+    """A comment or a processing instruction of its text."""
+    return etree.fromstring(f"<a>{text}</a>", parser())[0]
 
 
 def of_text(text):

@@ -45,12 +45,16 @@ def label(node):
     return f"{node['element']}{num}" + (f", {node['heading']}" if node["heading"] else "")
 
 
-def row(wid, one, other):
-    """What is shown of a provision that stands on one day or on both."""
+# What the two texts are that are compared: of two days, and the law without a draft and with it.
+DAYS, DRAFTS = ("on the first day", "on the second day"), ("in the law as it is", "with the draft")
+
+
+def row(wid, one, other, sides):
+    """What is shown of a provision that stands in one of two texts or in both."""
     if one is None or other is None:
         node = one or other
         sign = "-" if one else "+"
-        return {"wid": wid, "state": "only on the first day" if one else "only on the second day", "first": one, "second": other,
+        return {"wid": wid, "state": f"only {sides[0 if one else 1]}", "first": one, "second": other,
                 "labels": [label(it) if it else "" for it in (one, other)], "pieces": [(sign, node["content"])] if node["content"] else []}
     changes = [name for name, key in (("num", "num"), ("heading", "heading"), ("words", "content"), ("force", "bears")) if one[key] != other[key]]
     if one["eId"] != other["eId"] and "num" not in changes:
@@ -59,10 +63,29 @@ def row(wid, one, other):
             "labels": [label(one), label(other)], "pieces": marked(one["content"], other["content"]) if one["content"] != other["content"] else []}
 
 
-def joined(table, answers):
-    """The rows of a comparison, of the desk's table and its answers on both days."""
+def joined(table, answers, sides=DAYS):
+    """The rows of a comparison, of a table of wIds and the desk's two answers."""
     by_eid = [{node["eId"]: node for node, _, _ in desk.provisions(it)} for it in answers]
-    return [row(it["wId"], by_eid[0].get(it["first"]), by_eid[1].get(it["second"])) for it in table]
+    found = {it["wId"]: row(it["wId"], by_eid[0].get(it["first"]), by_eid[1].get(it["second"]), sides) for it in table}
+    return [found[wid] for wid in in_place(answers)]
+
+
+def in_place(answers):
+    """The wIds of two texts in the order of the second; one that went stands behind the one that it stood behind."""
+    first, second = ([wid for _, wid, _ in desk.provisions(it)] for it in answers)
+    still, went, last = {*second}, {"": []}, ""
+    for wid in first:
+        if wid in still:
+            went[wid], last = [], wid
+        else:
+            went[last].append(wid)
+    return [*went[""], *(it for wid in second for it in (wid, *went.get(wid, ())))]
+
+
+def by_wid(answers):
+    """The table of two texts of one act, in which a provision keeps its wId."""
+    eids = [{wid: node["eId"] for node, wid, _ in desk.provisions(it)} for it in answers]
+    return [{"wId": wid, "first": eids[0].get(wid, ""), "second": eids[1].get(wid, "")} for wid in {**eids[0], **eids[1]}]
 
 
 def rows(dossier, first, second, reading="force"):
@@ -71,9 +94,9 @@ def rows(dossier, first, second, reading="force"):
     return joined(register.correspondence(dossier, first, second), answers), answers
 
 
-def terminal(found, first, second):
+def terminal(found, first, second, lost):
     """A comparison as lines: what is alike is left out."""
-    out = [f"--- {first}", f"+++ {second}", f"# {writing.LINE}"]
+    out = [f"--- {first}", f"+++ {second}", f"# {writing.LINE}", *(f"# lost when the documents were carried in: {it}" for it in lost)]
     for it in found:
         if not it["state"]:
             continue
@@ -82,7 +105,7 @@ def terminal(found, first, second):
         out.append(f"@ {' -> '.join(eids)} ({' -> '.join(both)}): {it['state']}")
         if it["pieces"]:
             out.append("  " + "".join(text if sign == "=" else f"[{sign}{text}{sign}]" for sign, text in it["pieces"]).replace("\n", "\n  "))
-    if len(out) == 3:
+    if not any(it["state"] for it in found):
         out.append("# nothing differs")
     return "\n".join(out) + "\n"
 
@@ -91,8 +114,11 @@ def compared(name, first, second, is_html):
     with open(f"{name}.dossier.json", encoding="utf-8") as it:
         dossier = json.load(it)
     found, answers = rows(dossier, first, second)
-    if not is_html:
-        return terminal(found, first, second)
     dressed = dressing.load(f"{name}.dressing.json")
-    return page.render("compare.html", title=dressed["work"], language=dressed["language"], day="", first=first, second=second, rows=found,
-                       expressions=[it["expression"] for it in answers])
+    return comparison(dressed, found, answers, first, second) if is_html else terminal(found, first, second, dressed["lost"])
+
+
+def comparison(dressed, found, answers, first, second, trail=()):
+    """A comparison as a page."""
+    return page.render("compare.html", trail=trail, title=page.title_of(dressed), language=dressed["language"], day="", first=first, second=second, rows=found,
+                       expressions=[it["expression"] for it in answers], lost=dressed["lost"])

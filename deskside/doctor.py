@@ -5,6 +5,7 @@ import unicodedata
 
 import desk
 import faults
+import forms
 import writing
 
 # Days on which the desk is asked at most, and names that are near at most.
@@ -13,16 +14,9 @@ QUOTES = str.maketrans({"‘": "'", "’": "'", "“": '"', "”": '"', "«": '"
 
 
 def days_of(dossier):
-    """The days that a dossier names, from that of its act on: between two of them the text stands still."""
-    found, stack = {dossier["act"]["FRBRdate"]}, [dossier]
-    while stack:
-        it = stack.pop()
-        if isinstance(it, dict):
-            stack += it.values()
-            found |= {value for key, value in it.items() if key in ("from", "until", "on", "date") and isinstance(value, str)}
-        elif isinstance(it, list):
-            stack += it
-    return sorted(day for day in found if day >= dossier["act"]["FRBRdate"])
+    """The days on which the text of a dossier may change, from that of its act on."""
+    first = dossier["act"]["FRBRdate"]
+    return sorted(day for day in {first} | forms.days_named(dossier) if day >= first)
 
 
 class Texts:

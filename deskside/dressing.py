@@ -17,14 +17,14 @@ def made(amended, lost):
     shells = {**amended.place.shells, **amended.shells}
     return {
         "format": FORMAT, "work": amended.act["FRBRuri"], "date": amended.act["FRBRdate"], "language": amended.act["FRBRlanguage"],
-        "numbering": amended.act["numbering"], "wids": amended.place.wids, "shells": shells, "sources": amended.sources, "lost": lost,
+        "numbering": amended.act["numbering"], "force": amended.act["force"], "around": amended.place.around, "wids": amended.place.wids, "shells": shells, "sources": amended.sources, "lost": lost,
     }
 
 
-PLAIN = """<akomaNtoso xmlns="{space}"><act name="act"><meta><identification source="#desk">
-<FRBRWork><FRBRthis value="{work}/!main"/><FRBRuri value="{work}"/><FRBRdate date="{date}" name="generation"/><FRBRauthor href="#desk"/><FRBRcountry value="{country}"/></FRBRWork>
-<FRBRExpression><FRBRthis value=""/><FRBRuri value=""/><FRBRdate date="{date}" name="generation"/><FRBRauthor href="#desk"/><FRBRlanguage language="{language}"/></FRBRExpression>
-<FRBRManifestation><FRBRthis value=""/><FRBRuri value=""/><FRBRdate date="{date}" name="generation"/><FRBRauthor href="#desk"/></FRBRManifestation>
+PLAIN = """<akomaNtoso xmlns="{space}"><act name="act"><meta><identification source="#lawdesk">
+<FRBRWork><FRBRthis value="{work}/!main"/><FRBRuri value="{work}"/><FRBRdate date="{date}" name="generation"/><FRBRauthor href="#lawdesk"/><FRBRcountry value="{country}"/></FRBRWork>
+<FRBRExpression><FRBRthis value=""/><FRBRuri value=""/><FRBRdate date="{date}" name="generation"/><FRBRauthor href="#lawdesk"/><FRBRlanguage language="{language}"/></FRBRExpression>
+<FRBRManifestation><FRBRthis value=""/><FRBRuri value=""/><FRBRdate date="{date}" name="generation"/><FRBRauthor href="#lawdesk"/></FRBRManifestation>
 </identification></meta><body/></act></akomaNtoso>"""
 
 
@@ -33,7 +33,8 @@ def plain(act):
     work = act["FRBRuri"]
     shell = PLAIN.format(space=forms.NAMESPACE, work=work, date=act["FRBRdate"], country=work.split("/")[2][:2], language=act["FRBRlanguage"])
     body = {"shell": shell, "eId": "body", "num": "", "heading": "", "content": ""}
-    return {"format": FORMAT, "work": work, "date": act["FRBRdate"], "language": act["FRBRlanguage"], "numbering": act["numbering"], "wids": {},
+    return {"format": FORMAT, "work": work, "date": act["FRBRdate"], "language": act["FRBRlanguage"], "numbering": act["numbering"], "force": act["force"],
+            "around": [[], []], "wids": {},
             "shells": {"body": body}, "sources": {}, "lost": []}
 
 
@@ -50,8 +51,8 @@ class Dressed:
 
     def __init__(self, dressing, answer):
         self.dressing, self.answer = dressing, answer
-        # eIds of this day by wId, as they are written; what lost its markup
-        self.eids, self.plain = {}, []
+        # eIds of this day by wId, as they are written; what lost its markup; signs that XML has not
+        self.eids, self.plain, self.replaced = {}, [], []
         self.root = akn.of_text(dressing["shells"]["body"]["shell"])
         self.document = next(it for it in self.root if akn.name_of(it) in ("act", "bill"))
         self.body = akn.first(self.document, "body")
@@ -59,6 +60,11 @@ class Dressed:
             self.body.set(akn.ours("bears"), "false")
         self.put_children(self.body, answer["body"], "body")
         self.aim()
+        before, behind = dressing["around"]
+        for it in before:
+            self.root.addprevious(akn.of_side(it))
+        for it in reversed(behind):
+            self.root.addnext(akn.of_side(it))
 
     def shell(self, wid):
         return self.dressing["shells"].get(wid)
@@ -66,7 +72,7 @@ class Dressed:
     def build(self, node):
         """The element of a provision."""
         wid = node.get("wId", node["eId"])
-        shell = self.shell(wid)
+        node, shell = self.safe(node, wid), self.shell(wid)
         element = akn.of_text(shell["shell"]) if shell else self.fresh(node)
         self.name(element, node, wid, shell)
         if shell:
@@ -75,6 +81,12 @@ class Dressed:
             self.put_content(element, node, shell, wid)
         self.put_children(element, node["children"], wid)
         return element
+
+    def safe(self, node, wid):
+        """A provision without the signs that XML has not: the sign for one that is unknown stands for each."""
+        found = {key: sorted({f"U+{ord(it):04X}" for it in akn.UNSAFE.findall(node[key])}) for key in ("heading", "content")}
+        self.replaced += [f"{', '.join(signs)} in the {key} of {wid}" for key, signs in found.items() if signs]
+        return {**node, **{key: akn.safe(node[key]) for key in found}}
 
     def fresh(self, node):
         """A provision without a shell, as the second part of a split."""

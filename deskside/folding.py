@@ -29,11 +29,12 @@ class Run:
 
 class Fold:
     def __init__(self, roots, skip=()):
-        """Folds these elements, one after another, leaving out those that skip names."""
+        """Folds these elements, one after another, leaving out those of their children that skip names."""
         # (space: where white space began that may turn out to be a blank; begun: whether the line has something in it; fresh: whether nothing
         # of this line stands behind its last break; cell: None outside a table's cell, and else whether it has words)
         self.runs, self.skip, self.space, self.begun, self.fresh, self.cell = [], frozenset(skip), None, False, True, None
         for it in roots:
+            self.root = it
             self.walk(it, True)
         self.end()
 
@@ -44,7 +45,8 @@ class Fold:
         name = akn.name_of(element)
         if not isinstance(element.tag, str):
             return
-        if not is_root and (name in SILENT or name in self.skip or element.tag == akn.ours("child")):
+        is_skipped = name in self.skip and element.getparent() is self.root
+        if not is_root and (name in SILENT or is_skipped or element.tag == akn.ours("child")):
             return
         if name in SHAPES and akn.first(element, "p") is None:
             self.say(SHAPES[name])

@@ -33,6 +33,9 @@ LANGUAGES = {
     "et": "est", "lv": "lav", "lt": "lit", "mt": "mlt", "ga": "gle", "af": "afr", "zu": "zul", "xh": "xho", "sw": "swa", "cy": "cym",
 }
 
+# What a page says of a language (BCP 47): two letters where there are any.
+TAGS = {three: two for two, three in LANGUAGES.items()}
+
 MOST_NODES, MOST_DEPTH, MOST_TEXT, MOST_REFS, MOST_SIDE, MOST_MODIFICATIONS = 4096, 12, 16384, 16, 64, 512
 
 CAUSES = {
@@ -45,6 +48,19 @@ CAUSES = {
     "TooManyNodes": "the text would have too many provisions",
     "TextTooLong": "a text would be too long",
 }
+
+
+def days_named(value):
+    """The days that a part of a dossier names: between two of them no text changes."""
+    found, stack = set(), [value]
+    while stack:
+        it = stack.pop()
+        if isinstance(it, dict):
+            stack += it.values()
+            found |= {day for key, day in it.items() if key in ("from", "until", "on", "date") and isinstance(day, str)}
+        elif isinstance(it, list):
+            stack += it
+    return found
 
 
 def level(element, num):

@@ -2,6 +2,8 @@
 import datetime
 import os
 
+import forms
+
 MAGIC = b"AKNLAW01"
 # In the order of their numbers.
 ELEMENTS = ("article", "section", "chapter", "paragraph", "subparagraph", "subsection", "clause", "subclause", "alinea", "part", "title", "book", "point", "indent")
@@ -188,9 +190,5 @@ class Works:
     def days(self, work):
         """The days on which the text of a work may change, from that of its act on."""
         act, _ = self.acts[work]
-        found, stack = {act["FRBRdate"], *act["force"].values()}, list(self.standing(work).values())
-        while stack:
-            it = stack.pop()
-            stack += [value for key, value in it.items() if isinstance(value, dict) and key not in ("source",)]
-            found |= {value for key, value in it.items() if key in ("from", "until", "on", "date")}
+        found = {act["FRBRdate"]} | forms.days_named([act["force"], self.standing(work)])
         return sorted(day for day in found if day >= act["FRBRdate"])

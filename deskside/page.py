@@ -18,8 +18,13 @@ MARK = "[Not in force or without effect on this day]"
 GROUPS = {"content", "intro", "list", "blockList", "tblock", "blockContainer", "wrapUp", "listWrapUp"}
 
 
+def shown(value):
+    """A value as a page may show it: U+FFFD stands for signs that no document may have."""
+    return akn.safe(value) if isinstance(value, str) and not isinstance(value, Markup) else value
+
+
 def templates():
-    return jinja2.Environment(loader=jinja2.FileSystemLoader(TEMPLATES), autoescape=True, undefined=jinja2.StrictUndefined, trim_blocks=True, lstrip_blocks=True)
+    return jinja2.Environment(loader=jinja2.FileSystemLoader(TEMPLATES), autoescape=True, undefined=jinja2.StrictUndefined, trim_blocks=True, lstrip_blocks=True, finalize=shown)
 
 
 def style():
@@ -27,8 +32,14 @@ def style():
         return Markup(it.read())
 
 
-def render(name, **shown):
-    return templates().get_template(name).render(style=style(), line=writing.LINE, **shown)
+def render(name, language="eng", trail=(), **shown):
+    """A page. trail: the links, with their words, that lead from it to others of the desk; a page that stands alone has none."""
+    return templates().get_template(name).render(style=style(), line=writing.LINE, language=forms.TAGS.get(language, language), trail=trail, **shown)
+
+
+def named(element):
+    """The name of an element; `foreign` for one of another namespace, of which the words count; '' for what has no words."""
+    return akn.name_of(element) or ("foreign" if isinstance(element.tag, str) else "")
 
 
 class Page:
@@ -59,7 +70,7 @@ class Page:
 
     def children(self, element, to, depth):
         for it in element:
-            name = akn.name_of(it)
+            name = named(it)
             if name in HEADS or not name:
                 continue
             if name in forms.WORDS or name in forms.NEAREST and name not in ("wrapUp", "listWrapUp", "item"):
@@ -87,7 +98,7 @@ class Page:
 
     def put(self, element, to):
         """Puts an element of the text, with what it has inside, behind what stands there."""
-        name = akn.name_of(element)
+        name = named(element)
         if not name or name in ("remark", "noteRef"):
             return
         if name == "authorialNote":
@@ -139,12 +150,11 @@ def html_of(element):
     return Markup(etree.tostring(element, method="html", encoding="unicode", with_tail=False))
 
 
-def title_of(document):
-    for name in ("docTitle", "shortTitle"):
-        found = next(document.iter(akn.tag(name)), None)
-        if found is not None and folding.fold([found]):
-            return folding.fold([found])
-    return ""
+def title_of(dressing):
+    """The title of an act, or its IRI where its document has none."""
+    root = akn.of_text(dressing["shells"]["body"]["shell"])
+    found = [folding.fold([it]) for name in ("docTitle", "shortTitle") for it in root.iter(akn.tag(name))]
+    return next((it for it in found if it), dressing["work"])
 
 
 def unapplied_of(modifications, answer):
@@ -159,7 +169,7 @@ def unapplied_of(modifications, answer):
 
 def parts(dressed, modifications, answer, day):
     """What a page shows of a document."""
-    page = Page()
+    page, title = Page(), title_of(dressed.dressing)
     body = etree.Element("div")
     page.children(dressed.body, body, 1)
     front = etree.Element("div")
@@ -167,19 +177,22 @@ def parts(dressed, modifications, answer, day):
         it = akn.first(dressed.document, name)
         if it is not None:
             page.children(it, etree.SubElement(front, "div", {"class": name}), 6)
+    # (the title stands above already)
+    for it in [it for it in front.iter("p") if " ".join("".join(it.itertext()).split()) == title]:
+        it.getparent().remove(it)
     back = etree.Element("div")
     for name in ("conclusions", "attachments"):
         it = akn.first(dressed.document, name)
         if it is not None:
             page.children(it, etree.SubElement(back, "div", {"class": name}), 2)
     return {
-        "title": title_of(dressed.document) or dressed.dressing["work"], "language": dressed.dressing["language"], "work": dressed.dressing["work"],
-        "expression": answer["expression"], "day": day, "reading": answer["reading"], "bears": answer["bears"], "viewpoint": answer["viewpoint"],
+        "title": title, "language": dressed.dressing["language"], "work": dressed.dressing["work"],
+        "expression": answer["expression"], "day": day, "version": writing.version_of(dressed.dressing, modifications, day), "reading": answer["reading"], "bears": answer["bears"], "viewpoint": answer["viewpoint"],
         "front": html_of(front), "body": html_of(body), "back": html_of(back), "notes": [html_of(it) for it in page.noted()], "unapplied": unapplied_of(modifications, answer),
-        "lost": dressed.dressing["lost"], "plain": dressed.plain,
+        "lost": dressed.dressing["lost"], "plain": dressed.plain, "replaced": dressed.replaced,
     }
 
 
-def text(dressing, modifications, answer, answered, day):
+def text(dressing, modifications, answer, answered, day, trail=()):
     dressed = writing.document(dressing, modifications, answer, answered, day)
-    return render("text.html", **parts(dressed, modifications, answer, day))
+    return render("text.html", trail=trail, **parts(dressed, modifications, answer, day))

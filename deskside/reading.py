@@ -28,6 +28,8 @@ class Place:
         self.path, self.report, self.numbering, self.brought = path, report, frozenset(numbering), brought
         # shells by wId; wIds by the eIds of the document; nodes with the elements whose refs are aimed once all provisions are known
         self.shells, self.wids, self.aims = {}, {}, []
+        # what stands before the document and behind it
+        self.around = [[], []]
 
     def say(self, grade, what, element=None):
         self.report.say(grade, what, self.path, element.sourceline if element is not None else 0)
@@ -216,25 +218,25 @@ def refuse_consolidated(document, date, place):
     lifecycle = akn.first(document, "meta", "lifecycle")
     amended = [it for it in (lifecycle if lifecycle is not None else ()) if it.get("type") in ("amendment", "repeal")]
     if amended and day > date:
-        raise akn.Refused(f"{place.path} is a consolidated text of {day} ({len(amended)} events of amendment): give the act as enacted, and its amending acts beside it")
+        raise akn.Refused(f"{place.path} is a consolidated text of {day}, as the amendments in its lifecycle say: give the act as enacted, and its amending acts beside it")
 
 
-def days_of(group, document):
-    """The start and the end of a temporal group, as days."""
+def days_of(group, document, report):
+    """The start and the end of a temporal group, as days. The end is the first day that is not in it."""
     events = {it.get("eId"): it.get("date", "")[:10] for it in document.iter(akn.tag("eventRef"))}
     for it in document.iter(akn.tag("temporalGroup")):
         if group and it.get("eId") == group.lstrip("#"):
             interval = akn.first(it, "timeInterval")
             if interval is not None:
                 start, end = (events.get((interval.get(key) or "").lstrip("#"), "") for key in ("start", "end"))
-                return (start if forms.DAY.match(start) else ""), (end if forms.DAY.match(end) else "")
+                return (start if forms.DAY.match(start) else ""), (report.ended(group, end) if forms.DAY.match(end) else "")
     return "", ""
 
 
 def force_of(document, body, given, place):
     """The period of force of an act."""
     group = body.get("period") or document.get("period")
-    start, end = days_of(group, document)
+    start, end = days_of(group, document, place.report)
     if start:
         place.say(MAPPED, f"the force of the act is that of its period {group}: from {start}{f' until {end}' if end else ''}", body)
     elif given:
@@ -252,7 +254,7 @@ def periods_of(body, document, place, work, date):
         wid = place.wids.get(it.get("eId", ""))
         if it is body or not it.get("period") or not wid or akn.name_of(it) == "list":
             continue
-        start, end = days_of(it.get("period"), document)
+        start, end = days_of(it.get("period"), document, place.report)
         if not start:
             place.say(LOST, f"the period {it.get('period')} of {wid} names no day", it)
             continue
@@ -288,10 +290,13 @@ def read_act(root, path, report, work="", force=""):
     aim_refs(place, work, language)
     place.wids[body.get("eId") or "body"] = "body"
     for it in document:
-        if akn.name_of(it) in ("preface", "preamble", "conclusions", "attachments", "coverPage", "components"):
-            place.say(BESIDE, f"the {akn.name_of(it)} is copied", it)
+        if akn.name_of(it) in ("meta", "preface", "preamble", "conclusions", "attachments", "coverPage", "components"):
+            place.say(BESIDE, f"{akn.name_of(it)}: copied as it is", it)
     if folding.fold([twin]):
         place.say(BESIDE, "words of the body that stand in no provision", body)
+    if any(akn.around(root)):
+        place.say(BESIDE, "comments and processing instructions around the document are copied", root)
+    place.around = [[akn.text_of(it) for it in side] for side in akn.around(root)]
     act = {"FRBRuri": work, "FRBRdate": date, "FRBRlanguage": language, "numbering": sorted(place.numbering), "force": force_of(document, body, force, place), "body": nodes}
     place.shells["body"] = {"shell": akn.text_of(shell), "eId": body.get("eId") or "body", "num": "", "heading": "", "content": ""}
     own = periods_of(body, document, place, work, date)

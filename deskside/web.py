@@ -22,6 +22,8 @@ import journal
 import page
 import writing
 
+# The first of the links that lead from a page.
+HOME = ("/", "The works of this desk")
 TYPES = {"xml": "application/akn+xml", "json": "application/json", "html": "text/html"}
 EXPRESSION = re.compile(r"(?P<work>/akn/.+?)/(?P<language>[a-z]{3})@(?P<day>[0-9-]*)(\.(?P<form>xml|json|html))?\Z")
 
@@ -77,15 +79,21 @@ class Folder:
     """The works of a folder, with their dressings."""
 
     def __init__(self, path):
-        self.path, self.batch, self.seen, self.works = path, Batch(path), None, None
+        self.path, self.batch, self.seen, self.works, self.entries = path, Batch(path), None, None, []
 
     def read(self):
         """What the journal says of works, read again where it grew."""
         file = os.path.join(self.path, "lawdesk.jnl")
         now = os.stat(file).st_size if os.path.exists(file) else 0
         if self.works is None or now != self.seen:
-            self.seen, self.works = now, journal.Works(journal.entries(file))
+            self.seen, self.entries = now, journal.entries(file)
+            self.works = journal.Works(self.entries)
         return self.works
+
+    def standing(self, work, viewpoint):
+        """The modifications of a work that stand where so many entries of the law are known."""
+        self.read()
+        return journal.Works(it for it in self.entries if it["law"] <= viewpoint).standing(work)
 
     def dressing(self, work):
         """The dressing of a work; of what a modification brings only where the register has that very modification."""
@@ -157,17 +165,21 @@ def made(path, port):
 
     @app.errorhandler(Refused)
     def refused(error):
-        return page.render("refused.html", title="Refused", language="eng", day="", why=str(error)), error.status
+        return told("The desk refuses", str(error)), error.status
 
     @app.errorhandler(desk.Failed)
     def failed(error):
-        return page.render("refused.html", title="No answer", language="eng", day="", why=str(error)), 503
+        return told("No answer", str(error)), 503
+
+    @app.errorhandler(404)
+    def unknown(_):
+        return told("Not known", f"no page of this desk has the address {flask.request.path}"), 404
 
     @app.get("/")
     def works():
         found = folder.read()
-        shown = [{"work": work, "law": law, "language": act["FRBRlanguage"], "date": act["FRBRdate"], "title": titled(folder, work)} for work, (act, law) in sorted(found.acts.items())]
-        return page.render("works.html", title="The works of this desk", language="eng", day="", works=shown, drafters=sorted(found.drafts))
+        shown = [{"work": work, "law": law, "language": act["FRBRlanguage"], "date": act["FRBRdate"], "title": page.title_of(folder.dressing(work))} for work, (act, law) in sorted(found.acts.items())]
+        return page.render("works.html", title="The works of this desk", day="", works=shown, drafters=sorted(found.drafts))
 
     @app.post("/commands")
     def command():
@@ -178,12 +190,12 @@ def made(path, port):
     def unapplied():
         day, found = flask.request.args.get("day", ""), []
         if not faults.is_day(day):
-            return "say a day as ?day=2011-01-01", 400
+            return told("No day", f"'{day}' is no day as 2011-01-01"), 400
         for work, (act, _) in sorted(folder.read().acts.items()):
             if act["FRBRdate"] <= day:
                 answer, _ = folder.text(work, act["FRBRlanguage"], day)
-                found.append((work, page.unapplied_of(folder.read().modifications[work], answer)))
-        return page.render("unapplied.html", title="What could not be applied", language="eng", day=day, works=found)
+                found.append((work, page.title_of(folder.dressing(work)), page.unapplied_of(folder.standing(work, answer["viewpoint"]), answer)))
+        return page.render("unapplied.html", trail=[HOME], title="What could not be applied", day=day, works=found)
 
     @app.get("/drafts/<drafter>")
     def draft(drafter):
@@ -198,7 +210,7 @@ def made(path, port):
         found = EXPRESSION.match(iri)
         work = found["work"] if found else iri
         if work not in folder.read().acts:
-            return page.render("refused.html", title="Not known", language="eng", day="", why=f"no act {work} is known here"), 404
+            return told("Not known", f"no act {work} is known here"), 404
         if not found:
             return timeline(folder, work)
         against = asked.get("against")
@@ -210,61 +222,81 @@ def made(path, port):
     return app
 
 
-def titled(folder, work):
-    root = dressing.akn.of_text(folder.dressing(work)["shells"]["body"]["shell"])
-    return page.title_of(root) or work
+def told(title, why):
+    """A page that says why there is no other. What the desk says of a refusal stands in it as it is."""
+    return page.render("refused.html", trail=[HOME], title=title, day="", why=why)
 
 
 def timeline(folder, work):
     """An act's days, each with what begins or ends on it."""
     works = folder.read()
     act, law = works.acts[work]
-    events = {}
+    events, dressed = {}, folder.dressing(work)
     for number, it in works.standing(work).items():
         inner = writing.inner(it)
         for key, day in {**inner.get("force", {}), **{key: inner[key] for key in ("on", "date") if key in inner}}.items():
             words = {"from": "begins", "until": "ends", "on": "counts from here", "date": "sets this day"}[key]
-            events.setdefault(day, []).append(f"{inner['type']} {number} by {inner['source']['href']} {words}")
+            events.setdefault(day, []).append(f"{number}, {described(it)}, {words}")
     days = [{"day": day, "events": events.get(day, [])} for day in works.days(work)]
-    return page.render("timeline.html", title=titled(folder, work), language=act["FRBRlanguage"], day="", work=work, act=act, law=law, days=days,
-                       early=sorted(day for day in events if day < act["FRBRdate"]), withdrawn=sorted(it for it in works.withdrawn if works.of.get(it) == work))
+    return page.render("timeline.html", trail=[HOME], title=page.title_of(dressed), language=act["FRBRlanguage"], day="", work=work, act=act, law=law, days=days,
+                       withdrawn=sorted(it for it in works.withdrawn if works.of.get(it) == work), lost=dressed["lost"])
+
+
+def described(modification):
+    """A modification in words: what it is, where, and by which act."""
+    inner = writing.inner(modification)
+    pos = inner.get("destination", {}).get("pos", "")
+    where = "in" if "old" in inner else {"before": "before", "after": "after", "start": "at the start of", "end": "at the end of"}.get(pos, "of")
+    return f"{inner['type']} {where} {writing.target(inner)} by {inner['source']['href']}"
+
+
+def trail_of(folder, work, language, day):
+    """The links from the text of a day: to its act's days, to the days beside it on which the text may change, and to its other forms."""
+    iri, days = f"{work}/{language}@", folder.read().days(work)
+    before, after = [it for it in days if it < day], [it for it in days if it > day]
+    found = [HOME, (work, "The days of this act")]
+    if before:
+        found += [(f"{iri}{before[-1]}", f"The day before: {before[-1]}"), (f"{iri}{day}?against={before[-1]}", f"Beside {before[-1]}")]
+    if after:
+        found.append((f"{iri}{after[0]}", f"The day after: {after[0]}"))
+    return [*found, (f"{iri}{day}.xml", "As Akoma Ntoso"), (f"{iri}{day}.json", "As the desk says it")]
 
 
 def text_page(folder, work, language, day, form, asked):
     answer, answered = folder.text(work, language, day, asked.get("reading", "force"), asked.get("viewpoint", ""))
     if form == "json":
         return flask.Response(answered, mimetype=TYPES["json"])
-    known = folder.read().modifications[work]
+    known = folder.standing(work, answer["viewpoint"])
     shown = day or answer["expression"].rpartition("@")[2] or folder.read().acts[work][0]["FRBRdate"]
     if form == "xml":
         return flask.Response(writing.spelled(writing.document(folder.dressing(work), known, answer, answered, shown).root), mimetype=TYPES["xml"])
-    return page.text(folder.dressing(work), known, answer, answered, shown)
+    return page.text(folder.dressing(work), known, answer, answered, shown, trail_of(folder, work, language, shown))
 
 
 def side_by_side(folder, work, language, first, second, reading):
     """Two days of an act. A provision keeps its wId, so the answers tell which is which."""
     answers = [folder.text(work, language, day, reading)[0] for day in (first, second)]
-    by_wid = [{wid: node["eId"] for node, wid, _ in desk.provisions(it)} for it in answers]
-    table = [{"wId": wid, "first": by_wid[0].get(wid, ""), "second": by_wid[1].get(wid, "")} for wid in dict.fromkeys([*by_wid[0], *by_wid[1]])]
-    return page.render("compare.html", title=titled(folder, work), language=language, day="", first=first, second=second, rows=compare.joined(table, answers),
-                       expressions=[it["expression"] for it in answers])
+    trail = [HOME, (work, "The days of this act"), *((f"{work}/{language}@{day}", f"The text of {day}") for day in (first, second))]
+    return compare.comparison(folder.dressing(work), compare.joined(compare.by_wid(answers), answers), answers, first, second, trail)
 
 
 def drafted(folder, drafter, items, asked):
     """A draft, and for a work of it and a day the law with it beside the law without it."""
     works = sorted({it["work"] for it in items})
     work, day = asked.get("work", works[0] if works else ""), asked.get("day", "")
-    rows, unapplied = [], []
-    if work in folder.read().acts and faults.is_day(day):
+    rows, unapplied, is_asked = [], [], work in folder.read().acts and faults.is_day(day)
+    if is_asked:
         act, _ = folder.read().acts[work]
         query = {"drafter": drafter, "expression": f"{work}/{act['FRBRlanguage']}@{day}"}
         after, _ = folder.answer("/preview?" + urlencode(query, quote_via=quote, safe=""))
         before, _ = folder.text(work, act["FRBRlanguage"], day)
-        by_wid = [{wid: node["eId"] for node, wid, _ in desk.provisions(it)} for it in (before, after)]
-        table = [{"wId": wid, "first": by_wid[0].get(wid, ""), "second": by_wid[1].get(wid, "")} for wid in dict.fromkeys([*by_wid[0], *by_wid[1]])]
-        rows, unapplied = compare.joined(table, (before, after)), after["unapplied"]
-    return page.render("draft.html", title=f"The draft of {drafter}", language="eng", day="", drafter=drafter, items=items, works=works, work=work, asked=day,
-                       rows=[it for it in rows if it["state"]], is_asked=bool(rows), unapplied=unapplied)
+        rows = compare.joined(compare.by_wid((before, after)), (before, after), compare.DRAFTS)
+        # (filed, the items of the draft would be those of the next entry)
+        filed = {f"{after['viewpoint']}.{at}": it["modification"] for at, it in enumerate((it for it in items if it["work"] == work), 1)}
+        unapplied = page.unapplied_of({**folder.standing(work, after["viewpoint"]), **filed}, after)
+    shown = [{**it, "words": f"{described(it['modification'])}, in {it['work']}"} for it in items]
+    return page.render("draft.html", trail=[HOME, *((it, f"The days of {it}") for it in works)], title=f"The draft of {drafter}", day="", drafter=drafter, items=shown,
+                       works=works, work=work, asked=day, rows=[it for it in rows if it["state"]], is_asked=is_asked, unapplied=unapplied)
 
 
 def served(path, port="8790"):

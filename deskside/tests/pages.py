@@ -82,7 +82,7 @@ def texts(check, app, dossier):
     beside = client.get(f"{work}/eng@2006-01-01?against=2005-12-31", headers=HEADERS).data.decode()
     check("two days side by side", "<del>[-3-]</del>" in beside and "<ins>[+4+]</ins>" in beside)
     draft = client.get("/drafts/ada?" + f"work={work}&day=2012-03-01", headers=HEADERS).data.decode()
-    check("a draft beside the law", "only on the first day" in draft and "sec_1" in draft)
+    check("a draft beside the law", "only in the law as it is" in draft and "sec_1" in draft)
     unapplied = client.get("/unapplied?day=2006-01-01", headers=HEADERS).data.decode()
     check("what was not applied", work in unapplied)
     check("what is not known", client.get("/akn/gb/act/1900/1", headers=HEADERS).status_code == 404)
