@@ -3,6 +3,8 @@ import json
 import os
 import subprocess
 
+import forms
+
 HERE = os.path.dirname(os.path.abspath(__file__))
 # (another program may be named, as one that is installed)
 PROGRAM = os.environ.get("LAWDESK") or os.path.join(os.path.dirname(HERE), "lawdesk")
@@ -14,6 +16,16 @@ class Failed(Exception):
     def __init__(self, status, said):
         super().__init__(said)
         self.status, self.said = status, said
+
+
+def in_words(said):
+    """What the desk said of a refusal, with its meaning before it where it has one here."""
+    try:
+        found = json.loads(said)
+        words = forms.QUESTIONS.get(found["name"], "").format(found.get("kept")) or forms.BROKEN.get(found.get("form"), "")
+    except (ValueError, TypeError, KeyError, AttributeError):
+        return said
+    return f"{words}: {said}" if words else said
 
 
 def run(words, given=b"", folder=None):

@@ -83,7 +83,7 @@ def misses(dossier, texts):
             yield path, f"the words '{modification['old'][:60]}' don't stand in {modification['destination']['wId']} on {day}" + (
                 ", though they do but for blanks, quotes, dashes or capitals" if close else "")
         elif cause:
-            yield path, f"is not applied on {day}: {cause}"
+            yield path, f"is not applied on {day}: {forms.CAUSES.get(cause, cause)} ({cause})"
     width = {it["textualMod"]["destination"]["wId"] for it in dossier["modifications"] if "destination" in it.get("textualMod", {})}
     for wid in sorted(it for it in width if re.match(r"m[0-9]+-[0-9]+__", it)):
         yield "$", f"{wid} has a number of a law entry in it: where another act is recorded first, it names another provision or none"

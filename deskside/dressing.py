@@ -9,7 +9,8 @@ import folding
 import forms
 from reading import HEADS
 
-FORMAT = "deskside 1"
+FORMAT = "deskside 2"
+KEYS = {"format", "work", "date", "language", "numbering", "force", "around", "wids", "shells", "sources", "lost"}
 
 
 def made(amended, lost):
@@ -41,7 +42,7 @@ def plain(act):
 def load(path):
     with open(path, encoding="utf-8") as it:
         found = json.load(it)
-    if not isinstance(found, dict) or found.get("format") != FORMAT:
+    if not isinstance(found, dict) or found.get("format") != FORMAT or {*found} != KEYS:
         raise akn.Refused(f"{path} is no dressing of this companion")
     return found
 

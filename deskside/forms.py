@@ -63,6 +63,15 @@ def days_named(value):
     return found
 
 
+# What the desk says of a question that it refuses, and of a form (docs/PROTOCOL.md, docs/FORMS.md).
+QUESTIONS = {
+    "UnknownWork": "no act {} is known", "ViewpointAhead": "no more than {} entries of the law are known", "NotYetEnacted": "the act is of {}, and before that day it has no text",
+    "OtherLanguage": "the text is in the language {}", "UnknownPortion": "no provision of the text has the eId {}",
+}
+BROKEN = {1: "it is no JSON", 2: "a key is wanting, or stands where none may", 3: "a name or an IRI has not its form", 4: "a day is none of the calendar",
+          5: "an element or a num has not its form", 6: "a number is none that may stand", 7: "a word is none of those that may stand", 8: "the day is not that of the IRI", 9: "it is too long"}
+
+
 def level(element, num):
     """The level of an eId for a provision with this element and num."""
     return f"{WORDS[element]}_{num}"

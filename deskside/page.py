@@ -14,7 +14,8 @@ from reading import HEADS
 TEMPLATES = os.path.join(os.path.dirname(os.path.abspath(__file__)), "templates")
 INLINE = {"b": "strong", "i": "em", "u": "u", "sup": "sup", "sub": "sub", "ins": "ins", "del": "del", "code": "code", "q": "q", "abbr": "abbr"}
 BLOCKS = {"p": "p", "table": "table", "tr": "tr", "td": "td", "th": "th", "caption": "caption", "ul": "ul", "ol": "ol", "li": "li"}
-MARK = "[Not in force or without effect on this day]"
+# What stands in the text of a provision that does not bear, by the reading.
+MARKS = {"force": "[not in force on this day]", "efficacy": "[without effect on this day]"}
 GROUPS = {"content", "intro", "list", "blockList", "tblock", "blockContainer", "wrapUp", "listWrapUp"}
 
 
@@ -45,8 +46,8 @@ def named(element):
 class Page:
     """The body of a document as HTML. Notes go to the end."""
 
-    def __init__(self):
-        self.notes = []
+    def __init__(self, reading):
+        self.notes, self.mark = [], MARKS[reading]
 
     def provision(self, element, depth):
         """A provision: a section with its heading, its words, and what stands beneath it."""
@@ -63,8 +64,7 @@ class Page:
                 title[-1].tail = " "
         if not len(title):
             found.remove(title)
-        if element.get(akn.ours("bears")) == "false":
-            etree.SubElement(found, "p", {"class": "mark"}).text = MARK
+        self.put_mark(element, title if len(title) else etree.SubElement(found, "p"))
         self.children(element, found, depth)
         return found
 
@@ -84,12 +84,19 @@ class Page:
                     if num is not None:
                         self.inside(num, etree.SubElement(holder, "span", {"class": "num"}))
                         holder[-1].tail = " "
-                if it.get(akn.ours("bears")) == "false":
-                    etree.SubElement(holder, "p", {"class": "mark"}).text = MARK
+                self.put_mark(it, holder)
                 self.loose(it, holder)
                 self.children(it, holder, depth)
             else:
                 self.put(it, to)
+
+    def put_mark(self, element, to):
+        """Says in words that a provision does not bear."""
+        if element.get(akn.ours("bears")) == "false":
+            etree.SubElement(to, "span", {"class": "mark", "lang": "en"}).text = self.mark
+            to[-1].tail = " "
+        elif to.tag == "p":
+            to.getparent().remove(to)
 
     def loose(self, element, to):
         """Words that stand in no block of their own."""
@@ -115,7 +122,7 @@ class Page:
             is_here = href.startswith(("#", "/akn/"))
             self.inside(element, etree.SubElement(to, "a", {"href": href}) if is_here else etree.SubElement(to, "span", {"class": "ref"}))
         else:
-            made = etree.SubElement(to, BLOCKS.get(name) or INLINE.get(name) or "span")
+            made = etree.SubElement(to, BLOCKS.get(name) or INLINE.get(name) or ("div" if any(named(it) in BLOCKS for it in element) else "span"))
             if name not in BLOCKS and name not in INLINE:
                 made.set("class", name)
             for key in ("colspan", "rowspan"):
@@ -169,7 +176,7 @@ def unapplied_of(modifications, answer):
 
 def parts(dressed, modifications, answer, day):
     """What a page shows of a document."""
-    page, title = Page(), title_of(dressed.dressing)
+    page, title = Page(answer["reading"]), title_of(dressed.dressing)
     body = etree.Element("div")
     page.children(dressed.body, body, 1)
     front = etree.Element("div")

@@ -165,7 +165,7 @@ def made(path, port):
 
     @app.errorhandler(Refused)
     def refused(error):
-        return told("The desk refuses", str(error)), error.status
+        return told("The desk refuses", desk.in_words(str(error))), error.status
 
     @app.errorhandler(desk.Failed)
     def failed(error):

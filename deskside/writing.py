@@ -50,7 +50,7 @@ def identify(meta, dressing, answer, day, version):
                 it.set("value", names[akn.name_of(it)])
             elif akn.name_of(it) == "FRBRdate" and it.get("date") != version:
                 it.set("date", version)
-                it.set("name", "consolidation")
+                it.set("name", "consolidation" if answer["applied"] else "version")
     if iri != answer["expression"]:
         akn.first(expression, "FRBRuri").addnext(etree.Element(akn.tag("FRBRalias"), value=answer["expression"], name="day"))
     enacted = akn.first(identification, "FRBRWork", "FRBRdate")
@@ -102,8 +102,18 @@ def amend(meta, modifications, dressed, answer):
             interval.set("end", f"#desk_evn_{name}_end")
         mod = etree.SubElement(passive, akn.tag("textualMod"), type=modification["type"], eId=f"desk_pmod_{name}")
         etree.SubElement(mod, akn.tag("source"), href=source["work"] + (f"/!main#{source['eId']}" if source["eId"] else ""))
-        etree.SubElement(mod, akn.tag("destination"), href=f"#{dressed.eids.get(target(modification), target(modification))}")
+        aim(etree.SubElement(mod, akn.tag("destination")), modification, dressed)
         etree.SubElement(mod, akn.tag("force"), period=f"#desk_tmpg_{name}")
+
+
+def aim(destination, modification, dressed):
+    """Says where a modification acts, by the eId of this day; before the last words of a provision is at its end."""
+    wid, pos = target(modification), modification.get("destination", {}).get("pos", "")
+    if pos == "before" and wid.endswith("__al_wrapup"):
+        wid, pos = wid.removesuffix("__al_wrapup"), "end"
+    destination.set("href", f"#{dressed.eids.get(wid, wid)}")
+    if pos:
+        destination.set("pos", pos)
 
 
 def target(modification):

@@ -28,18 +28,36 @@ def folder_of(path):
         return json.load(it)
 
 
-def checked(check):
+LOST = "act.xml:1: <b>something</b> that was lost"
+
+
+def checked(check, harms, hostile):
+    """harms: what of a page could run; hostile: a dossier with words that look like markup."""
     with tempfile.TemporaryDirectory(prefix="deskside-") as path:
         dossier = folder_of(path)
+        lose(path)
         app = web.made(path, PORT)
         try:
             loaded(check, app, dossier)
             texts(check, app, dossier)
+            linked(check, app, harms)
+            told_lost(check, app, dossier)
+            addressed(check, app, harms, dossier)
+            hostile_words(check, app, harms, hostile)
             others(check, app)
             killed(check, app)
         finally:
             app.desk.batch.end()
         served(check, path)
+
+
+def lose(path):
+    """Has the dressing tell of something that was lost."""
+    with open(os.path.join(path, "harbours.dressing.json"), "r+", encoding="utf-8") as it:
+        dressed = json.load(it)
+        it.seek(0)
+        json.dump({**dressed, "lost": [LOST]}, it)
+        it.truncate()
 
 
 def loaded(check, app, dossier):
@@ -73,7 +91,7 @@ def texts(check, app, dossier):
                     return
                 at = found + len(wanted)
         check(f"the page of {day} says what the desk says", True)
-        marks = len(shown.xpath("//main//p[@class='mark']"))
+        marks = len(shown.xpath("//main//span[@class='mark']"))
         check(f"what does not bear on {day} is marked in words", marks == sum(not node["bears"] for node, _, _ in desk.provisions(answer)), str(marks))
         check(f"{day} as XML", client.get(f"{work}/eng@{day}.xml", headers=HEADERS).data.startswith(b"<?xml"))
         check(f"{day} has headings in order", [int(it.tag[1]) for it in shown.iter("h1", "h2", "h3", "h4", "h5", "h6")][0] == 1)
@@ -87,6 +105,56 @@ def texts(check, app, dossier):
     check("what was not applied", work in unapplied)
     check("what is not known", client.get("/akn/gb/act/1900/1", headers=HEADERS).status_code == 404)
     check("a day before the act", client.get(f"{work}/eng@1999-01-01", headers=HEADERS).status_code in (400, 404, 409))
+
+
+def linked(check, app, harms):
+    """From the works each other page is reached, each link leads to a page, and none of them harms."""
+    client, waiting, met = app.test_client(), ["/"], {}
+    while waiting:
+        address = waiting.pop()
+        if address in met:
+            continue
+        reply = client.get(address, headers=HEADERS)
+        met[address] = reply.status_code
+        if reply.mimetype == "text/html":
+            check(f"{address} harms nobody", not harms(reply.data.decode()), str(harms(reply.data.decode())))
+            waiting += [it.partition("#")[0] for it in html.fromstring(reply.data).xpath("//a/@href") if not it.startswith("#")]
+    # (an act of which a text speaks may be unknown here)
+    work = "/akn/gb/act/2001-03-14/11"
+    check("each link leads to a page", all(it == 200 for address, it in met.items() if not address.startswith("/akn/") or address.startswith(work)), str(met))
+    wanted = {"/drafts/ada", work, f"{work}/eng@", *(f"{work}/eng@{it}" for it in ("2001-03-14", "2001-06-01", "2006-01-01", "2006-01-01.xml", "2006-01-01.json", "2006-01-01?against=2001-06-01"))}
+    check("from the works each page is reached", wanted <= {*met}, str(wanted - {*met}))
+
+
+def told_lost(check, app, dossier):
+    """What was lost when the documents were carried in stands on each page of the act."""
+    client, work = app.test_client(), dossier["act"]["FRBRuri"]
+    for address in (work, f"{work}/eng@2006-01-01", f"{work}/eng@2006-01-01.xml", f"{work}/eng@2006-01-01?against=2005-12-31"):
+        check(f"{address} tells what was lost", LOST.replace("<", "&lt;").replace(">", "&gt;") in client.get(address, headers=HEADERS).data.decode())
+
+
+def addressed(check, app, harms, dossier):
+    """Whatever stands in an address, the reply is a refusal in words, and runs nothing."""
+    client, work, bad = app.test_client(), dossier["act"]["FRBRuri"], "<script>alert(1)</script>\" onfocus=\"alert(2)"
+    for address, query in ((f"{work}/eng@2006-01-01", {"reading": bad}), (f"{work}/eng@2006-01-01", {"viewpoint": bad}), (f"{work}/eng@2006-01-01", {"against": bad}), ("/unapplied", {"day": bad}),
+                           ("/drafts/ada", {"work": bad, "day": "2012-01-01"}), ("/drafts/ada", {"day": bad}), (f"/drafts/{bad}", {}), (f"/akn/{bad}", {}), (f"{work}/eng@{bad}", {}), (f"/{bad}", {}),
+                           (f"{work}/eng@1999-01-01", {}), (f"{work}/eng@2006-02-30", {}), (f"{work}/xxx@2006-01-01", {}), ("/unapplied", {})):
+        reply = client.get(address, query_string=query, headers=HEADERS)
+        check(f"{address} {query} runs nothing", reply.mimetype == "text/html" and not harms(reply.data.decode()) and reply.status_code < 500, f"{reply.status_code} {reply.mimetype} {harms(reply.data.decode())}")
+
+
+def hostile_words(check, app, harms, hostile):
+    """An act of which each text looks like markup, with a draft of such words, is shown as words."""
+    client, work = app.test_client(), hostile["act"]["FRBRuri"]
+    for it in register.commands(hostile, "eve"):
+        check("a command with hostile words is recorded", client.post("/commands", data=json.dumps(it), headers=HEADERS).status_code == 201)
+    item = {"drafter": "eve", "request": 99, "command": "draftAdd", "work": work, "modification": hostile["modifications"][0]}
+    check("and a draft's item", client.post("/commands", data=json.dumps(item), headers=HEADERS).status_code == 201)
+    for address in ("/", work, f"{work}/eng@2011-01-01", f"{work}/eng@2011-01-01?against=2010-12-31", f"/drafts/eve?work={work}&day=2011-01-01", "/unapplied?day=2011-01-01"):
+        reply = client.get(address, headers=HEADERS)
+        check(f"{address} shows hostile words as words", reply.status_code == 200 and not harms(reply.data.decode()) and (address == "/" or b"&lt;script&gt;" in reply.data), f"{reply.status_code} {harms(reply.data.decode())}")
+    reply = client.get(f"{work}/eng@2011-01-01.xml", headers=HEADERS)
+    check("and as a document", b"<script" not in reply.data and reply.mimetype == "application/akn+xml")
 
 
 def others(check, app):
