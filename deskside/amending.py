@@ -91,7 +91,9 @@ def are_one(first, second):
     """Whether two texts, one behind the other, run into one word where writing sets words apart."""
     if not first or not second or unicodedata.east_asian_width(second[0]) in "WF":
         return False
-    return (first[-1].isalnum() or first[-1] in ".,;:!?)]”’»%") and (second[0].isalnum() or second[0] in "([“‘«§")
+    # (’ ends a quotation where one began, and else is an apostrophe, as in l’acqua)
+    ends = first[-1].isalnum() or first[-1] in ".,;:!?)]”»%" or first[-1] == "’" and "‘" in first
+    return ends and (second[0].isalnum() or second[0] in "([“‘«§")
 
 
 class Amending:

@@ -6,6 +6,7 @@ import unicodedata
 import desk
 import faults
 import forms
+import places
 import writing
 
 # Days on which the desk is asked at most, and names that are near at most.
@@ -66,27 +67,27 @@ def named(modification):
 
 
 def misses(dossier, texts):
-    """What is no fault, and yet no effect: destinations that no text has, and words that miss by a blank or a quote."""
+    """What is no fault, and yet no effect: destinations that no text has, and words that miss by a blank or a quote. Each with the modification that it is
+    of, counted from 0, or None where it is of none alone."""
     known = texts.wids()
     for at, it in enumerate(dossier["modifications"]):
         modification = next(iter(it.values()))
-        path = f"$.modifications[{at}]"
         for wid in named(modification):
             if wid not in known:
                 near = texts.near(wid)
-                yield path, f"no text of any day has the provision {wid}" + (f": {'; '.join(near)}" if near else "")
+                yield at, f"no text of any day has the provision {wid}" + (f": {'; '.join(near)}" if near else "")
         cause, day = texts.unapplied.get(f"{at + 2}.1", ("", ""))
         if cause == "OldTextMissing" and "old" in modification:
             node = texts.by_day.get(day, {}).get(modification["destination"]["wId"])
             content = node["content"] if node else ""
             close = plain(modification["old"]) and plain(modification["old"]).lower() in plain(content).lower()
-            yield path, f"the words '{modification['old'][:60]}' don't stand in {modification['destination']['wId']} on {day}" + (
+            yield at, f"the words '{modification['old'][:60]}' don't stand in {modification['destination']['wId']} on {day}" + (
                 ", though they do but for blanks, quotes, dashes or capitals" if close else "")
         elif cause:
-            yield path, f"is not applied on {day}: {forms.CAUSES.get(cause, cause)} ({cause})"
+            yield at, f"is not applied on {day}: {forms.CAUSES.get(cause, cause)} ({cause})"
     width = {it["textualMod"]["destination"]["wId"] for it in dossier["modifications"] if "destination" in it.get("textualMod", {})}
     for wid in sorted(it for it in width if re.match(r"m[0-9]+-[0-9]+__", it)):
-        yield "$", f"{wid} has a number of a law entry in it: where another act is recorded first, it names another provision or none"
+        yield None, f"{wid} has a number of a law entry in it: where another act is recorded first, it names another provision or none"
 
 
 def examined(path):
@@ -102,7 +103,8 @@ def examined(path):
     dossier = json.loads(data)
     texts = Texts(dossier)
     notes = list(misses(dossier, texts))
-    for where, why in notes:
-        print(f"{path}: {where}: {why}")
+    spots = [it.at for it in places.read(data)[0].value["modifications"].value]
+    for at, why in notes:
+        print(f"{path}:{1 if at is None else line(spots[at])}: {'$' if at is None else f'$.modifications[{at}]'}: {why}")
     print(f"# no fault; {len(notes)} notes; the text changes on {', '.join(texts.changes)}" + (f"; {texts.cut} later days were not asked" if texts.cut else ""))
     return 0
