@@ -16,7 +16,7 @@ INLINE = {"b": "strong", "i": "em", "u": "u", "sup": "sup", "sub": "sub", "ins":
 BLOCKS = {"p": "p", "table": "table", "tr": "tr", "td": "td", "th": "th", "caption": "caption", "ul": "ul", "ol": "ol", "li": "li"}
 # What stands in the text of a provision that does not bear, by the reading.
 MARKS = {"force": "[not in force on this day]", "efficacy": "[without effect on this day]"}
-GROUPS = {"content", "intro", "list", "blockList", "tblock", "blockContainer", "wrapUp", "listWrapUp"}
+GROUPS = {"doc", "mainBody", "content", "intro", "list", "blockList", "tblock", "blockContainer", "wrapUp", "listWrapUp"}
 
 
 def shown(value):
@@ -71,9 +71,9 @@ class Page:
     def children(self, element, to, depth):
         for it in element:
             name = named(it)
-            if name in HEADS or not name:
+            if name in (*HEADS, "meta") or not name:
                 continue
-            if name in forms.WORDS or name in forms.NEAREST and name not in ("wrapUp", "listWrapUp", "item"):
+            if name == "attachment" or name in forms.WORDS or name in forms.NEAREST and name not in ("wrapUp", "listWrapUp", "item"):
                 to.append(self.provision(it, depth + 1))
             elif name in GROUPS or name == "item" and not akn.name_of(element) in ("ul", "ol"):
                 holder = etree.SubElement(to, "div", {"class": name})
@@ -148,7 +148,7 @@ class Page:
             self.children(it, item, 6)
             if not len(item):
                 item.text = folding.fold([it])
-            etree.SubElement(item, "a", href=f"#note-mark-{number}").text = "back to the text"
+            etree.SubElement(item, "a", {"href": f"#note-mark-{number}", "lang": "en"}).text = f"back to note {number} in the text"
             found.append(item)
         return found
 
@@ -191,7 +191,7 @@ def parts(dressed, modifications, answer, day):
     for name in ("conclusions", "attachments"):
         it = akn.first(dressed.document, name)
         if it is not None:
-            page.children(it, etree.SubElement(back, "div", {"class": name}), 2)
+            page.children(it, etree.SubElement(back, "div", {"class": name}), 1)
     return {
         "title": title, "language": dressed.dressing["language"], "work": dressed.dressing["work"],
         "expression": answer["expression"], "day": day, "version": writing.version_of(dressed.dressing, modifications, day), "reading": answer["reading"], "bears": answer["bears"], "viewpoint": answer["viewpoint"],
