@@ -1,4 +1,4 @@
-"""Checks of the examples on the page about Akoma Ntoso: each numbered row has one, and the command makes of it what the page says. What is lost ends with 3,
+"""Checks of the numbered rows on the page about Akoma Ntoso: each has an example, and the command makes of it what stands there. What is lost ends with 3,
 and stands in each output where that is allowed."""
 import contextlib
 import io
@@ -16,6 +16,7 @@ import akn
 HERE = os.path.dirname(os.path.abspath(__file__))
 ACTS = os.path.join(os.path.dirname(HERE), "acts")
 PAGE = os.path.join(os.path.dirname(os.path.dirname(HERE)), "docs", "AKN.md")
+EXAMPLES = os.path.join(ACTS, "examples.txt")
 ROW = re.compile(r"\| ([0-9]+) \| .* \| ([a-z]+) \|\Z")
 HEAD = re.compile(r"\*\*([0-9]+)\*\*(?: with `(.*)`)?\Z")
 # Where an element goes that the document has not yet: before the first of these.
@@ -45,8 +46,8 @@ class Example:
 def of_page():
     """The grades of the numbered rows, and the examples."""
     grades, found, fence, is_amending = {}, [], "", False
-    with open(PAGE, encoding="utf-8") as it:
-        for line in it.read().split("\n"):
+    with open(PAGE, encoding="utf-8") as page, open(EXAMPLES, encoding="utf-8") as examples:
+        for line in [*page.read().split("\n"), *examples.read().split("\n")]:
             row, head = ROW.match(line), HEAD.match(line)
             if fence and line == "```":
                 fence = ""
@@ -127,7 +128,7 @@ def checked(check, grammar):
 
 
 def tried(check, grammar, example, grade, folder):
-    title, name = f"example {example.number} of AKN.md", os.path.join(folder, "made")
+    title, name = f"example {example.number} of {os.path.basename(EXAMPLES)}", os.path.join(folder, "made")
     kinds = {it.partition(":")[0] for it in example.lines()}
     check(f"{title} has the grade of its row", grade in kinds or grade == "same" and kinds <= {"beside"}, f"{grade} {kinds}")
     given = ["from-akn", *written(example, folder), "--out", name, *example.options]
