@@ -1,14 +1,12 @@
 -- One step of the way up, and the eId that it gives.
 use Rattle.std.proofs.Common.{◌≡◌, ◌∙◌, sym, ap, refl, ℕ, zero, suc, ◌-◌, ◌<◌, ◌==◌, true, ◌&&◌, cond, Option, Some, None, inl, inr, arith}
 use Rattle.std.proofs.lemmas.Bool.{or_cases, and_parts, eqb-true, eq-eqb, ne_eqb}
-use Rattle.act_tree.specs.declared.arena.Arena.{Arena}
 use Rattle.eid_paths.specs.declared.numbering.Numbering.{Numbering}
 use Rattle.act_tree.specs.Arena.{Laid, provision_in, above_in, hangs_on, climbs}
 use Rattle.act_tree.specs.Eids.{eid_below}
 use Rattle.act_tree.specs.EidsOfNodes.{eid_up}
-use Rattle.act_tree.specs.Slots.{at, size}
+use Rattle.act_tree.specs.Slots.{at}
 use Rattle.act_tree.proofs.Climbing.{climbs_step}
-use Rattle.act_tree.proofs.LaidDown.{laid_within}
 
 -- who climbs has a step left
 pub climbs_some : (f : ℕ) (at : ℕ → Option Laid) (i : ℕ) → climbs f at i ≡ true → 0 < f

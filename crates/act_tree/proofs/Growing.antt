@@ -14,6 +14,7 @@ use Rattle.act_tree.specs.Wids.{wids, all_wids, is_among, one_twice}
 use Rattle.act_tree.specs.Arena.{provision_in, above_in, below_in, Stands}
 use Rattle.act_tree.specs.Planted.{IsSound, Each, IsAdded, IsLaid, AreLaid}
 use Rattle.act_tree.specs.Relisted.{IsRelisted}
+use Rattle.act_tree.specs.LastNumbers.{last_named}
 use Rattle.act_tree.specs.Slots.{laid, provision_of, at, own_at, number, size}
 use Rattle.act_tree.specs.TakenOff.{with_above}
 use Rattle.act_tree.proofs.Texts.{equal_text, bytes_eq_sym}
@@ -37,7 +38,7 @@ added_alone old one new id s place slots noted bare fits numbers sizes here othe
         | inl low ↦ laid_before old.slots.items s k low
         | inr high ↦ laid_past (old.slots.items ++ s ∷ []) k (omega (arith, length-append old.slots.items (s ∷ []))) ∙ sym (laid_past old.slots.items k high)
       ];
-      numbers = λ w. ap (λ ns. number (record old { numbers = ns }) w) numbers ∙ noted w;
+      numbers = λ w. ap (λ ns. last_named ns w) numbers ∙ noted w;
       sizes = sizes ∙ ap length slots ∙ length-append old.slots.items (s ∷ []);
       fits = omega arith;
     }
@@ -133,7 +134,7 @@ laid_node old one two new id p ids bs place a num some r numbers sizes =
     record {
       grown = record {
         kept = λ k low. r.others k (λ same. omega arith) refl (not_laid one two ids bs some k (omega arith)) ∙ some.grown.kept k (omega arith) ∙ a.others k (λ same. omega arith);
-        numbers = λ w none. ap (λ ns. number (record old { numbers = ns }) w) numbers ∙ some.grown.numbers w (none_right (bytes_eq w p.wid) _ none)
+        numbers = λ w none. ap (λ ns. last_named ns w) numbers ∙ some.grown.numbers w (none_right (bytes_eq w p.wid) _ none)
             ∙ a.numbers w ∙ ap (λ t. cond t (Some (size old)) (number old w)) (bytes_eq_sym p.wid w ∙ none_left _ _ none);
         sound = λ s.
             let P : (List ℕ → Option ℕ) → Type 0 = λ f. IsSound (at new) f (size two) in

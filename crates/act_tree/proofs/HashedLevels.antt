@@ -1,7 +1,7 @@
 -- Hashes of levels: over bytes that are joined, and of the slot of a number.
 use Rattle.std.proofs.Common.{◌≡◌, ◌∙◌, sym, ap, refl, ℕ, zero, suc, ◌<◌, List, [], ◌∷◌, ◌++◌, length, get_or, set, map, arith}
 use Rattle.std.proofs.Math.Seq.{map-set_same}
-use Rattle.std.proofs.lemmas.List.{map-set}
+use Rattle.std.proofs.lemmas.List.{map-set, length-set}
 use Rattle.act_tree.specs.declared.arena.Arena.{Arena}
 use Rattle.act_tree.specs.declared.arena.Slot.{Slot}
 use Rattle.act_tree.specs.Arena.{provision_in}
@@ -40,3 +40,7 @@ still_hashed a i was now it same = a.hashed ∙ sym (map-set_same slot_hash a.sl
 pub rehashed : (a : Arena) (hashes : List ℕ) (i hash : ℕ) (now : Slot) → hashes ≡ set a.levels.hashes i hash → hash ≡ slot_hash now → hashes ≡ map slot_hash (set a.slots.items i now)
 rehashed a hashes i hash now told it =
     told ∙ ap (set a.levels.hashes i) it ∙ ap (λ (hs : List ℕ). set hs i (slot_hash now)) a.hashed ∙ sym (map-set slot_hash a.slots.items i now)
+
+-- and there are as many hashes as there were
+pub as_many_hashed : (a : Arena) (hashes : List ℕ) (i hash : ℕ) → hashes ≡ set a.levels.hashes i hash → length a.numbers ≡ length hashes
+as_many_hashed a hashes i hash told = a.noted ∙ sym (ap (λ (hs : List ℕ). length hs) told ∙ length-set a.levels.hashes i hash)

@@ -2,7 +2,7 @@ pub mod EnactedLaws
 pub mod ChangeLaws
 pub mod Texts
 pub mod Nums
-pub mod Index
+pub mod NotedWids
 pub mod LaidDown
 pub mod Standing
 pub mod Climbing
@@ -56,11 +56,14 @@ pub mod NotAsMany
 pub mod KeptNumbers
 pub mod LevelsLeft
 pub mod WidsDiffer
+pub mod CopiedArenas
 pub mod CopiedTrees
-pub mod LevelIndexLatest
-pub mod LevelIndexLinks
-pub mod LevelIndexMoves
-pub mod LevelIndexWalks
+pub mod HashIndexLatest
+pub mod HashIndexLinks
+pub mod HashIndexMoves
+pub mod HashIndexWalks
 pub mod HashedLevels
+pub mod SoughtNumbers
+pub mod SoughtWids
 pub mod SoughtLevels
 pub mod LevelsVisited

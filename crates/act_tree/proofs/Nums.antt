@@ -3,7 +3,7 @@ use Rattle.std.proofs.Common.{◌≡◌, refl, ℕ, zero, suc, true, false, Bool
 use Rattle.std.proofs.lemmas.Bool.{and_parts}
 use Rattle.eid_paths.specs.Nums.{is_num}
 use Rattle.act_tree.specs.Branches.{Branch, Branches, branch, no_branches, more_branches}
-use Rattle.act_tree.specs.Changes.{Step, has_wid, without, inside_without, changed, inside_changed, joined, first, behind, put_in, among_children, parted, merged, with_content}
+use Rattle.act_tree.specs.Changes.{Step, has_wid, without, inside_without, changed, inside_changed, joined, first, behind, put_in, among_children, parted, merged}
 use Rattle.act_tree.specs.Numbered.{is_numbered, are_numbered}
 use Rattle.act_tree.specs.Provisions.{Provision}
 

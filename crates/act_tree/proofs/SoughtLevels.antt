@@ -1,20 +1,19 @@
 -- Seeking a level through the bucket of its hash passes over no provision that has it.
-use Rattle.std.proofs.Common.{◌≡◌, ◌∙◌, sym, ap, ℕ, zero, suc, ◌-◌, ◌<◌, ◌≤◌, Bool, true, false, List, length, get_or, Some, inl, inr, arith}
+use Rattle.std.proofs.Common.{◌≡◌, ◌∙◌, sym, ap, ℕ, suc, ◌-◌, ◌<◌, ◌≤◌, Bool, true, false, List, length, get_or, Some, arith}
 use Rattle.std.specs.Str.{bytes_eq}
-use Rattle.std.proofs.lemmas.Bool.{cases_eq, cond-true, cond-false, false_from_ne_true}
 use Rattle.std.proofs.lemmas.List.{length-map}
 use Rattle.act_tree.specs.declared.arena.Arena.{Arena}
 use Rattle.act_tree.specs.declared.arena.Slot.{Slot}
 use Rattle.act_tree.specs.Arena.{provision_in}
 use Rattle.act_tree.specs.EidLevels.{own_level}
 use Rattle.act_tree.specs.LevelHashes.{level_hash, slot_hash}
-use Rattle.act_tree.specs.LevelIndex.{EndsIn, bucket_of, buckets, latest}
+use Rattle.act_tree.specs.HashIndex.{EndsIn, bucket_of, buckets, latest}
 use Rattle.act_tree.specs.LevelsOfNodes.{latest_at}
 use Rattle.act_tree.specs.Slots.{at, size, provision_of}
 use Rattle.act_tree.proofs.HashedLevels.{hash_at}
 use Rattle.act_tree.proofs.LaidDown.{laid_slot}
-use Rattle.act_tree.proofs.LevelIndexLatest.{latest_none, latest_here, latest_on}
-use Rattle.act_tree.proofs.LevelIndexMoves.{bucket_at}
+use Rattle.act_tree.proofs.HashIndexMoves.{bucket_at}
+use Rattle.act_tree.proofs.SoughtNumbers.{last_is, last_passes, last_in, step_on as stepped}
 use Rattle.act_tree.proofs.Texts.{same_text}
 
 -- the index has as many hashes as there are slots
@@ -43,24 +42,16 @@ module _ (a : Arena) (level : List ℕ) where
 
   -- the last one that has the level, or none has it
   pub latest_is : (k : ℕ) → has k ≡ true → latest_at (at a) level (suc k) ≡ Some k
-  latest_is k it = cond-true (has k) (Some k) (latest_at (at a) level k) it
+  latest_is k it = last_is has k it
 
   pub latest_passes : (k : ℕ) → has k ≡ false → latest_at (at a) level (suc k) ≡ latest_at (at a) level k
-  latest_passes k other = cond-false (has k) (Some k) (latest_at (at a) level k) other
+  latest_passes k other = last_passes has k other
 
   -- none has it from the last one of the bucket on
   pub latest_in : (n : ℕ) → n ≤ size a → latest_at (at a) level n ≡ latest_at (at a) level (latest places n bucket)
-  latest_in zero low = ap (latest_at (at a) level) (sym (latest_none places bucket))
-  latest_in (suc n) low = elim (cases_eq (get_or places n 0) bucket) [
-    | inl here ↦ ap (latest_at (at a) level) (sym (latest_here places n bucket here))
-    | inr other ↦
-        latest_passes n (false_from_ne_true (has n) (λ it. other (shares n (omega arith) it))) ∙ latest_in n (omega arith)
-        ∙ ap (latest_at (at a) level) (sym (latest_on places n bucket other))
-  ]
+  latest_in n low = last_in has places bucket (size a) shares n low
 
   -- one step: the last of the first ones is passed, for the last before it of the bucket
   pub step_on : (end next : ℕ) → 0 < end → end ≤ size a → has (end - 1) ≡ false → EndsIn a.levels (level_hash level) end → next ≡ latest places (end - 1) (get_or places (end - 1) 0)
       → latest_at (at a) level next ≡ latest_at (at a) level end
-  step_on end next some low other here is =
-      let more : end ≡ suc (end - 1) = omega arith in
-      ap (latest_at (at a) level) (is ∙ ap (latest places (end - 1)) (here some)) ∙ sym (latest_in (end - 1) (omega arith)) ∙ sym (latest_passes (end - 1) other) ∙ sym (ap (latest_at (at a) level) more)
+  step_on end next some low other here is = stepped has places bucket (size a) shares end next some low other (here some) is

@@ -1,11 +1,12 @@
 -- The levels of nodes: of those that stand side by side, and of those that begin an eId.
-use Rattle.std.specs.Prelude.{ℕ, zero, suc, ◌==◌, ◌||◌, ◌&&◌, Bool, false, not, List, map, Option, Some, None, if◌then◌else◌}
+use Rattle.std.specs.Prelude.{ℕ, zero, suc, ◌==◌, ◌||◌, ◌&&◌, Bool, false, not, List, map, Option}
 use Rattle.std.specs.Str.{bytes_eq}
 use Rattle.eid_paths.specs.declared.numbering.Numbering.{Numbering}
 use Rattle.act_tree.specs.declared.tree.Tree.{Tree}
 use Rattle.act_tree.specs.Arena.{Laid, provision_in, above_in, climbs, climbs_past}
 use Rattle.act_tree.specs.Branches.{branches_of}
 use Rattle.act_tree.specs.EidLevels.{begins, own_level, levels_on}
+use Rattle.act_tree.specs.LastNumbers.{last_passing}
 use Rattle.act_tree.specs.Seen.{tree_view, branch_at}
 
 -- the levels that begin no eId, of nodes that are no children of the root
@@ -14,9 +15,7 @@ levels_at t ids = levels_on (tree_view t).numbering (branches_of (map (branch_at
 
 -- the last of the first so many numbers whose provision has this level, if one has
 abbrev pub latest_at : (ℕ → Option Laid) → List ℕ → ℕ → Option ℕ
-latest_at at level zero = None
-latest_at at level (suc i) =
-    if bytes_eq level (own_level (provision_in (at i)).own) then Some i else latest_at at level i
+latest_at at level n = last_passing (λ i. bytes_eq level (own_level (provision_in (at i)).own)) n
 
 -- the number is that of a provision of the text that begins an eId
 abbrev pub begins_eid : Numbering → (ℕ → Option Laid) → ℕ → ℕ → Bool

@@ -33,7 +33,8 @@ pub mod Brought
 pub mod SameNodes
 pub mod NodeSizes
 pub mod LevelsOfNodes
-pub mod LevelIndex
+pub mod LastNumbers
+pub mod HashIndex
 pub mod LevelHashes
 pub mod WaysDown
 pub mod Limits

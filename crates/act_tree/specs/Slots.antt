@@ -1,11 +1,11 @@
 -- What the slots of an arena lay down.
 use Rattle.std.specs.Prelude.{ℕ, ◌≡◌, List, Option, Some, slice_get, option_map, length, if◌then◌else◌}
 use Rattle.std.specs.Str.{bytes_eq}
-use Rattle.indexmap.specs.IndexMap.{get_by}
 use Rattle.act_tree.specs.declared.arena.Slot.{Slot}
 use Rattle.act_tree.specs.declared.arena.Arena.{Arena}
 use Rattle.act_tree.specs.Provisions.{Own, Provision}
 use Rattle.act_tree.specs.Arena.{Laid, provision_in}
+use Rattle.act_tree.specs.LastNumbers.{last_named}
 
 -- the provision of a slot
 abbrev pub provision_of : Slot → Provision
@@ -32,7 +32,7 @@ own_at arena i = (provision_in (at arena i)).own
 
 -- the number to which an arena's index leads from a wId
 abbrev pub number : Arena → List ℕ → Option ℕ
-number arena wid = get_by (bytes_eq wid) arena.numbers
+number arena wid = last_named arena.numbers wid
 
 -- how many slots an arena has
 abbrev pub size : Arena → ℕ

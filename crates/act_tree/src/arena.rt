@@ -2,17 +2,15 @@
 //! it, an index that leads from a wId to a number, and one of the numbers by the hashes of their levels. Slots are added
 //! and never taken away.
 
-ghost use Rattle.std.specs.Prelude.{◌≡◌, ◌==◌, not, filter, map, ℕ, List, [], ◌∷◌, ◌++◌, ◌<◌, ◌≤◌, ◌^◌, IfOk, OnOk, OnErr, Some, None, length, if◌then◌else◌};
-ghost use Rattle.std.specs.Str.{bytes_eq};
-ghost use Rattle.indexmap.specs.IndexMap.{get_by};
+ghost use Rattle.std.specs.Prelude.{◌≡◌, ◌==◌, not, filter, map, ℕ, List, [], ◌∷◌, ◌++◌, ◌<◌, ◌≤◌, ◌^◌, IfOk, OnOk, OnErr, None, length};
 ghost use Rattle.act_tree.specs.LevelHashes.{slot_hash};
 
+use crate::hash_index::HashIndex;
 use crate::level_hash::level_hash;
-use crate::level_index::LevelIndex;
+use crate::wid_index::WidIndex;
 use crate::{NodeId, Refs};
 use desk_base::{Memory, Text};
 use eid_paths::{Element, Num};
-use indexmap::IndexMap;
 use std::alloc::Global;
 
 /// A provision of a tree.
@@ -41,21 +39,12 @@ pub struct Slot {
 pub struct Arena {
     /// The provision of each number; the first is the root.
     pub slots: Vec<Slot>,
-    /// The number of each wId; those of provisions that were taken off stay.
-    pub numbers: IndexMap<Text, NodeId>,
+    /// The wId of each number; those of provisions that were taken off stay.
+    pub numbers: WidIndex,
     /// The numbers by the hashes of their levels; those of provisions that were taken off stay.
-    pub levels: LevelIndex,
+    pub levels: HashIndex,
     ghost hashed: { levels.hashes ≡ map slot_hash slots.items },
-}
-
-/// Lets the index lead from a wId to a number. The index shares the text of the wId.
-pub fn note(numbers: &mut IndexMap<Text, NodeId>, wid: &Text, id: NodeId) -> Result<(), Memory>
-    ensures noted { OnOk result ((w : List ℕ) → get_by (bytes_eq w) numbers.new
-        ≡ (if bytes_eq wid.now w then Some id else get_by (bytes_eq w) numbers.old)) }
-    ensures kept { OnErr result ((w : List ℕ) → get_by (bytes_eq w) numbers.new ≡ get_by (bytes_eq w) numbers.old) }
-{
-    numbers.insert(wid.copy()?, id)?;
-    Ok(())
+    ghost noted: { length numbers ≡ length levels.hashes },
 }
 
 // Leaves a number out of a list.
@@ -79,8 +68,8 @@ impl Arena {
     {
         Arena {
             slots: Vec::new(alloc),
-            numbers: IndexMap::new(alloc),
-            levels: LevelIndex::new(alloc),
+            numbers: WidIndex::new(alloc),
+            levels: HashIndex::new(alloc),
         }
     }
 
@@ -96,7 +85,7 @@ impl Arena {
         let id = NodeId::of_place(self.slots.len()).ok_or(Memory)?;
         self.slots.reserve(1)?;
         self.levels.reserve()?;
-        note(&mut self.numbers, &slot.wid, id)?;
+        self.numbers.add(slot.wid.copy()?)?;
         self.levels.add(level_hash(slot.element, &slot.num));
         self.slots.push_reserved(slot);
         Ok(id)

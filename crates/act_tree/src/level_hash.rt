@@ -13,7 +13,8 @@ fn hash_with(hash: u32, byte: u8) -> u32
     hash.wrapping_mul(16_777_619).wrapping_add(u32::from(byte))
 }
 
-fn hash_on(hash: u32, bytes: &[u8]) -> u32
+/// The hash of bytes behind others, which have a hash already: 0 where there are none.
+pub fn hash_on(hash: u32, bytes: &[u8]) -> u32
     ensures { result ≡ spec.hash_on hash bytes.now }
 {
     let mut hash = hash;

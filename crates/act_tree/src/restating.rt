@@ -25,7 +25,7 @@ impl Arena {
     }
 
     /// Gives a provision another num. The index of levels is told; it needs no memory.
-    #[tactic(auto, using(crate::proofs::HashedLevels::rehashed))]
+    #[tactic(auto, using(crate::proofs::HashedLevels::rehashed, crate::proofs::HashedLevels::as_many_hashed))]
     pub fn set_num(&mut self, id: NodeId, num: Num)
         requires { id < size self.old }
         ensures numbers { self.new.numbers ≡ self.old.numbers }

@@ -14,7 +14,7 @@ impl Arena {
     ghost use Rattle.act_tree.specs.Arena.{provision_in};
     ghost use Rattle.act_tree.specs.EidLevels.{own_level};
     ghost use Rattle.act_tree.specs.LevelHashes.{level_hash};
-    ghost use Rattle.act_tree.specs.LevelIndex.{EndsIn};
+    ghost use Rattle.act_tree.specs.HashIndex.{EndsIn};
     ghost use Rattle.act_tree.specs.LevelsOfNodes.{latest_at};
     ghost use Rattle.act_tree.specs.Slots.{at, size};
 

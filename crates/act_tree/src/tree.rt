@@ -1,13 +1,13 @@
 //! Tree: the text of an act. A clause sees one as its numbering, its provisions and the number of its changes.
 
 ghost use Rattle.std.specs.Prelude.{◌≡◌, None, Some, if◌then◌else◌};
-ghost use Rattle.act_tree.specs.Arena.{IsWhole};
+ghost use Rattle.act_tree.specs.Arena.{IsWhole, below_in, branches_below};
 ghost use Rattle.act_tree.specs.Single.{IsWhole-prop};
 ghost use Rattle.act_tree.specs.EidsOfWids.{level_of_own};
 ghost use Rattle.act_tree.specs.Slots.{at, number, provision_of, size};
 
 use crate::arena::{Arena, Slot};
-use crate::copying::lay_again;
+use crate::copying::arena_of_text;
 use crate::depths::count_up;
 use crate::eid_ways::go_on;
 use crate::eids::eid_of_number;
@@ -17,7 +17,6 @@ use crate::levels::{are_alike, goes_on};
 use crate::survey::Survey;
 use crate::surveying::fault_of;
 use crate::walks::{count, survey};
-use crate::wid_bytes::WidBytes;
 use crate::{BuildFail, BuildFault, Cause, NONE_THROUGHOUT, NodeId, Nodes, Refs};
 use desk_base::{Id, Memory, Steps, Text};
 use eid_paths::{Eid, Element, Level, Num, Numbering, parse_eid};
@@ -146,19 +145,28 @@ impl Tree {
         })
     }
 
-    /// The same tree. Only the text that stands is laid down again, from the root down, and what its provisions say is
-    /// shared. A node has another id there: it is found by its wId.
+    /// The same tree. What its provisions say is shared. Where most of the slots are of what was taken off, only the text
+    /// that stands is laid down again; a node may have another id then, so it is found by its wId.
     pub fn copy(&self, alloc: Global) -> Result<Tree, Memory>
         ensures { IfOk result (λ t. tree_view t ≡ tree_view self.now) }
     {
-        let mut arena = Arena::new(alloc);
-        let root = self.root();
-        let _root = lay_again(alloc, &mut arena, self, root)?;
         Ok(Tree {
             numbering: self.numbering,
             changes: self.changes,
-            arena,
+            arena: self.copy_arena(alloc)?,
         })
+    }
+
+    // An arena of the same text: the same slots, or the text alone where more than half of them are of what was taken off.
+    fn copy_arena(&self, alloc: Global) -> Result<Arena, Memory>
+        ensures whole { IfOk result (λ a. IsWhole (at a) (number a) (size a)) }
+        ensures reads { IfOk result (λ a. branches_below (size a) (at a) (below_in (at a 0)) ≡ (tree_view self.now).body) }
+    {
+        if self.arena.is_mostly_gone() {
+            return arena_of_text(alloc, self);
+        }
+        let arena = self.arena.copy(alloc)?;
+        Ok(arena)
     }
 
     /// Which elements are numbered throughout.
@@ -188,7 +196,7 @@ impl Tree {
         ensures branch { IfSome result (λ id. (id ≡ 0 → ⊥)
             → found wid.now (tree_view self.now).body ≡ Some (branch_at self.now id)) }
     {
-        let id = *self.arena.numbers.get(WidBytes { bytes: wid })?;
+        let id = self.arena.numbers.last(wid)?;
         if self.arena.climbs(id) {
             Some(id)
         } else {

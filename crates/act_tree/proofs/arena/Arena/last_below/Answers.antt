@@ -1,9 +1,9 @@
 use Rattle.std.proofs.Common.{◌≡◌, ◌∙◌, ◌-◌, ◌<◌, ◌≤◌, ℕ, false, List, ap, arith}
 use Rattle.eid_paths.specs.Levels.{level_text}
 use Rattle.act_tree.specs.LevelHashes.{level_hash}
-use Rattle.act_tree.specs.LevelIndex.{bucket_of, buckets, latest}
+use Rattle.act_tree.specs.HashIndex.{bucket_of, buckets, latest}
 use Rattle.act_tree.specs.Slots.{size}
-use Rattle.act_tree.proofs.LevelIndexWalks.{walk_has}
+use Rattle.act_tree.proofs.HashIndexWalks.{walk_has}
 use Rattle.act_tree.proofs.SoughtLevels.{has, said, step_on}
 use Rattle.act_tree.proofs.arena.Arena.last_below.Goals as goal
 

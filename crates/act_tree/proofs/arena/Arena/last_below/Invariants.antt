@@ -2,7 +2,7 @@
 use Rattle.std.proofs.Common.{◌≡◌, ◌≤◌}
 use Rattle.eid_paths.specs.Levels.{level_text}
 use Rattle.act_tree.specs.LevelHashes.{level_hash}
-use Rattle.act_tree.specs.LevelIndex.{EndsIn}
+use Rattle.act_tree.specs.HashIndex.{EndsIn}
 use Rattle.act_tree.specs.LevelsOfNodes.{latest_at}
 use Rattle.act_tree.specs.Slots.{at, size}
 use Rattle.act_tree.proofs.arena.Arena.last_below.Given as goal

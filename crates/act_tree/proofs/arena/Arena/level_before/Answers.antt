@@ -1,10 +1,10 @@
 use Rattle.std.proofs.Common.{◌≡◌, ◌∙◌, ℕ, List, get_or, sym, ap, arith}
 use Rattle.eid_paths.specs.Levels.{level_text}
 use Rattle.act_tree.specs.LevelHashes.{level_hash}
-use Rattle.act_tree.specs.LevelIndex.{bucket_of, buckets, latest}
+use Rattle.act_tree.specs.HashIndex.{bucket_of, buckets, latest}
 use Rattle.act_tree.specs.LevelsOfNodes.{latest_at}
 use Rattle.act_tree.specs.Slots.{at}
-use Rattle.act_tree.proofs.LevelIndexWalks.{walk_has}
+use Rattle.act_tree.proofs.HashIndexWalks.{walk_has}
 use Rattle.act_tree.proofs.SoughtLevels.{as_many_hashes, latest_in, shares}
 use Rattle.act_tree.proofs.arena.Arena.level_before.Goals as goal
 

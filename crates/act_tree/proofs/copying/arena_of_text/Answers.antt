@@ -1,0 +1,10 @@
+use Rattle.act_tree.proofs.CopiedTrees.{text_laid}
+use Rattle.act_tree.proofs.copying.arena_of_text.Goals as goal
+
+pub returns-clause-whole : goal.returns-clause-whole
+returns-clause-whole c =
+    (text_laid c.args.tree.now c.new-arena.result c.lay_again.new.arena c.root-root.result c.in_ok-_root._root c.new-arena.ensures.slots c.new-arena.ensures.numbers c.root-root.ensures.root c.in_ok-_root.ensures).whole
+
+pub returns-clause-reads : goal.returns-clause-reads
+returns-clause-reads c =
+    (text_laid c.args.tree.now c.new-arena.result c.lay_again.new.arena c.root-root.result c.in_ok-_root._root c.new-arena.ensures.slots c.new-arena.ensures.numbers c.root-root.ensures.root c.in_ok-_root.ensures).reads
