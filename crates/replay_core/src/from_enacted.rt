@@ -1,6 +1,6 @@
 //! FromEnacted: the replayer that keeps nothing.
 
-use crate::answering::{answer, flag_at};
+use crate::answering::{answer, answer_lent, flag_at};
 use crate::breakpoints::breakpoints;
 use crate::order::order_at;
 use crate::replaying::replay;
@@ -60,5 +60,15 @@ impl Replayer for FromEnacted {
         question: &Question,
     ) -> Result<Answer, AskFault> {
         answer(alloc, known, version, question)
+    }
+
+    fn answer_lent(
+        &self,
+        alloc: Global,
+        known: &Known,
+        version: &Version,
+        question: &Question,
+    ) -> Result<Answer, AskFault> {
+        answer_lent(alloc, known, version, question)
     }
 }

@@ -11,6 +11,5 @@ mod replaying;
 mod showing;
 mod touched;
 
-pub use answering::answer_lent;
 pub use from_enacted::FromEnacted;
 pub use touched::touched_day;

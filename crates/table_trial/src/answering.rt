@@ -18,7 +18,7 @@ use akn_json::{put_answer, put_query_rule};
 use desk_base::{Day, Memory, Steps};
 use frbr_names::WorkName;
 use law_register::{Answer, AskFault, Known, Question, Reading, Register, Replayer, Version};
-use replay_core::{FromEnacted, answer_lent};
+use replay_core::FromEnacted;
 use std::alloc::Global;
 use std::sync::ledger::Ledger;
 
@@ -66,7 +66,7 @@ fn line_of_version(
     ensures { IfOk result (λ line. line.items ≡ spec.line_on work.now known.now reading day) }
 {
     let question = question_on(work, known, reading, day)?;
-    let told = answer_lent(alloc, known, version, &question);
+    let told = FromEnacted.answer_lent(alloc, known, version, &question);
     answer_line(alloc, told)
 }
 

@@ -23,7 +23,7 @@ impl Dated for Table {
         Table::make(alloc, replayer, known, reading, steps)
     }
 
-    fn at(&self, alloc: Global, day: Day) -> Result<Version, Memory> {
-        Table::at(self, alloc, day)
+    fn on(&self, day: Day) -> &Version {
+        Table::on(self, day)
     }
 }

@@ -2,7 +2,7 @@
 use Rattle.std.specs.Prelude.{ℕ, ◌≡◌, ◌⊎◌, List, [], ◌∷◌, ◌++◌, length, Option, Some, None, IsSome, Result, Ok, Err}
 use Rattle.desk_base.specs.Clocks.{GivesDay}
 use Rattle.desk_base.specs.Crashes.{Crashes, LeavesOnly}
-use Rattle.desk_base.specs.Streams.{Rose}
+use Rattle.desk_base.specs.Streams.{risen}
 use Rattle.law_register.specs.declared.desk.command_fault.CommandFault.{CommandFault}
 use Rattle.law_register.specs.declared.desk.command_fault.CommandFault.TheVariants as fails
 use Rattle.law_register.specs.declared.desk.fault_mark.FaultMark.{FaultMark}
@@ -82,11 +82,11 @@ marks_after marks mark (Err (fails.Rule rule)) = marks
 marks_after marks mark (Err fails.KeeperFault) = marks ++ mark ∷ []
 marks_after marks mark (Err fails.Memory) = marks
 
--- a fault of the keeper is answered only where its count of faults rose; else the count is as it was
+-- a fault of the keeper is one more in its count of faults; else the count is as it was
 abbrev pub HasCommandCause : {T : Type 0} → ℕ → ℕ → Result T CommandFault → Type 0
 HasCommandCause before now (Ok value) = now ≡ before
 HasCommandCause before now (Err (fails.Rule rule)) = now ≡ before
-HasCommandCause before now (Err fails.KeeperFault) = Rose before now
+HasCommandCause before now (Err fails.KeeperFault) = now ≡ risen before
 HasCommandCause before now (Err fails.Memory) = now ≡ before
 
 -- what is found after a crash in the midst of a command: what a desk had before it, or what it has behind it, in both

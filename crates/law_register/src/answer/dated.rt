@@ -29,7 +29,7 @@ pub trait Dated: Sized {
         ensures versions { IfOk result (λ dated. (day : ℕ) → version_on dated day ≡ replay_on known.now reading day) }
         ensures steps { steps.new ≤ steps.old + revision_cost known.now reading 0 };
 
-    /// The version of a day, in memory of its own.
-    fn at(&self, alloc: Global, day: Day) -> Result<Version, Memory>
-        ensures { IfOk result (λ version. version_view version ≡ version_on self.now day) };
+    /// The version of a day. It takes no memory.
+    fn on(&self, day: Day) -> &Version
+        ensures { version_view result.now ≡ version_on self.now day };
 }

@@ -73,4 +73,16 @@ pub trait Replayer {
         requires { version_view version
             ≡ replay_on known.now question.now.reading (answers.asked_day question.now.version known.now.act) }
         ensures { answers.Answers result (answers.answer_on known.now question.now) };
+
+    /// The same from a version that is lent, so that who keeps it copies no tree; what provisions say is shared.
+    fn answer_lent(
+        &self,
+        alloc: Global,
+        known: &Known,
+        version: &Version,
+        question: &Question,
+    ) -> Result<Answer, AskFault>
+        requires { version_view version.now
+            ≡ replay_on known.now question.now.reading (answers.asked_day question.now.version known.now.act) }
+        ensures { answers.Answers result (answers.answer_on known.now question.now) };
 }
