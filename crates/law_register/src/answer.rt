@@ -2,6 +2,7 @@
 
 mod answer;
 mod answer_node;
+mod answering;
 mod dated;
 mod due;
 mod ids;
@@ -13,6 +14,7 @@ mod version;
 
 pub use answer::Answer;
 pub use answer_node::{AnswerNode, AnswerNodes};
+pub use answering::{answer_by, answer_dated};
 pub use dated::Dated;
 pub use due::Due;
 pub use ids::{Days, Ids, Unapplied};

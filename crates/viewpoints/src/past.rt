@@ -1,13 +1,13 @@
 //! Past: answers at every viewpoint, by what the law entries up to it make known.
 
 ghost use Rattle.std.specs.Prelude.{◌≡◌, ◌+◌, ◌≤◌, IfOk, IfSome};
-ghost use Rattle.law_register.specs.Answer.Answers.{Answers, answer_on};
+ghost use Rattle.law_register.specs.Answer.Answers.{Answers};
 ghost use Rattle.law_register.specs.Answer.Asking.{answer_at, known_for};
-ghost use Rattle.law_register.specs.Answer.Costs.{bearing_at, bearing_by};
+ghost use Rattle.law_register.specs.Answer.Costs.{bearing_at};
 ghost use Rattle.law_register.specs.Answer.Soundness.{IsSound};
 
 use desk_base::{Memory, Steps};
-use law_register::{Answer, AskFault, Known, QueryRule, Question, Register, Replayer, known_at};
+use law_register::{Answer, AskFault, Known, Question, Register, Replayer, answer_by, known_at};
 use std::alloc::Global;
 use std::sync::ledger::Ledger;
 
@@ -35,29 +35,6 @@ fn known_for(
     }
 }
 
-// The answer to a question, by what is known of its work.
-#[tactic(auto, unfolding(law_register::specs::Answer::Answers::answer_on))]
-fn answer_known<P: Replayer, L: Ledger>(
-    alloc: Global,
-    replayer: &P,
-    known: &Known,
-    question: &Question,
-    steps: &mut Steps<L>,
-) -> Result<Answer, AskFault>
-    requires { IsSound known.now }
-    ensures answer { Answers result (answer_on known.now question.now) }
-    ensures steps { steps.new ≤ steps.old + bearing_by question.now known.now }
-{
-    match question.first_rule(known)? {
-        Some(rule) => Err(AskFault::Query(rule)),
-        None => {
-            let day = question.asked_day(&known.act);
-            let version = replayer.replay(alloc, known, question.reading, day, steps)?;
-            replayer.answer_of(alloc, known, version, question)
-        }
-    }
-}
-
 impl Past {
     /// Nothing is kept at first.
     pub fn new(_alloc: Global) -> Result<Past, Memory> {
@@ -78,12 +55,7 @@ impl Past {
         ensures answer { Answers result (answer_at register.now.entries question.now) }
         ensures steps { steps.new ≤ steps.old + bearing_at register.now.entries question.now }
     {
-        match known_for(alloc, register, question)? {
-            Some(known) => answer_known(alloc, replayer, &known, question, steps),
-            None => {
-                let work = question.work.copy()?;
-                Err(AskFault::Query(QueryRule::UnknownWork(work)))
-            }
-        }
+        let known = known_for(alloc, register, question)?;
+        answer_by(alloc, replayer, known.as_ref(), question, steps)
     }
 }
