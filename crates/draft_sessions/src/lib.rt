@@ -2,7 +2,6 @@
 #![tactic(auto)]
 
 mod previewing;
-mod recording;
 
 pub use law_register::known_at;
 pub use previewing::{draft_of, preview};

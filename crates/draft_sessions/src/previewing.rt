@@ -1,18 +1,16 @@
 //! Previewing: a drafter's draft, and the answer by what is known with it.
 
-ghost use Rattle.std.specs.Prelude.{◌≡◌, ◌+◌, ◌≤◌, IfOk, IfSome, IsSome};
-ghost use Rattle.law_register.specs.Answer.Answers.{Answers, answer_on};
-ghost use Rattle.law_register.specs.Answer.Costs.{bearing_by};
-ghost use Rattle.law_register.specs.Answer.Previews.{known_previewed, law_previewed, preview_at, previewing_at, question_by};
+ghost use Rattle.std.specs.Prelude.{◌≡◌, ◌+◌, ◌≤◌, IfOk, IfSome, IsSome, length};
+ghost use Rattle.law_register.specs.Answer.Answers.{Answers};
+ghost use Rattle.law_register.specs.Answer.Previews.{known_previewed, law_previewed, preview_at, previewing_at, question_by, with_items};
 ghost use Rattle.law_register.specs.Answer.Soundness.{IsSound};
 ghost use Rattle.law_register.specs.Register.Drafts.{draft_of as items_drafted};
 
-use crate::recording::with_items;
 use desk_base::{Memory, Steps};
 use frbr_names::WorkName;
 use law_register::preview_laws::{previews_add_items, previews_are_sound};
 use law_register::{
-    Answer, AskFault, Draft, Drafter, Known, QueryRule, Question, Register, Replayer, known_at,
+    Answer, AskFault, Draft, Drafter, Known, Question, Register, Replayer, answer_by, known_at,
 };
 use std::alloc::Global;
 use std::sync::ledger::Ledger;
@@ -22,6 +20,20 @@ pub fn draft_of(alloc: Global, register: &Register, drafter: &Drafter) -> Result
     ensures { IfOk result (λ draft. draft ≡ items_drafted drafter.now register.now.entries) }
 {
     register.draft(alloc, drafter)
+}
+
+// What is known of a work once one more law entry records these items in it; without items, what was known.
+fn with_items(alloc: Global, known: Known, items: Draft) -> Result<Known, Memory>
+    requires few { length items ≤ 64 }
+    requires front { known.front ≤ 65535 }
+    ensures { IfOk result (λ all. all ≡ with_items items known) }
+{
+    let mut known = known;
+    let bodies = items.into_bodies(alloc)?;
+    if !bodies.as_slice().is_empty() {
+        known.record(bodies)?;
+    }
+    Ok(known)
 }
 
 // What a drafter's preview knows of a work: what the whole register knows of it, with the items of his draft that modify it.
@@ -40,32 +52,9 @@ fn known_previewed(
     match known_at(alloc, register, work, register.front())? {
         Some(known) => {
             let items = register.draft_on(alloc, drafter, work)?;
-            Ok(Some(with_items(alloc, known, &items)?))
+            Ok(Some(with_items(alloc, known, items)?))
         }
         None => Ok(None),
-    }
-}
-
-// The answer to a question, by what is known of its work.
-#[tactic(auto, unfolding(law_register::specs::Answer::Answers::answer_on))]
-fn answer_known<P: Replayer, L: Ledger>(
-    alloc: Global,
-    replayer: &P,
-    known: &Known,
-    question: &Question,
-    steps: &mut Steps<L>,
-) -> Result<Answer, AskFault>
-    requires { IsSound known.now }
-    ensures answer { Answers result (answer_on known.now question.now) }
-    ensures steps { steps.new ≤ steps.old + bearing_by question.now known.now }
-{
-    match question.first_rule(known)? {
-        Some(rule) => Err(AskFault::Query(rule)),
-        None => {
-            let day = question.asked_day(&known.act);
-            let version = replayer.replay(alloc, known, question.reading, day, steps)?;
-            replayer.answer_of(alloc, known, version, question)
-        }
     }
 }
 
@@ -97,11 +86,8 @@ pub fn preview<P: Replayer, L: Ledger>(
     match known_previewed(alloc, register, drafter, &question.work)? {
         Some(known) => {
             let asked = question_at(question, known.viewpoint)?;
-            answer_known(alloc, replayer, &known, &asked, steps)
+            answer_by(alloc, replayer, Some(&known), &asked, steps)
         }
-        None => {
-            let work = question.work.copy()?;
-            Err(AskFault::Query(QueryRule::UnknownWork(work)))
-        }
+        None => answer_by(alloc, replayer, None, question, steps),
     }
 }

@@ -66,6 +66,8 @@ pub record Keeps (entries : List Entry) (drafter : List ℕ) (command : Command)
   pub law : v.law_full entries command ≡ None
   pub register : v.register_full entries drafter command ≡ None
   pub tree : v.bad_tree command ≡ None
+  pub known : v.unknown_work (laws entries) command ≡ None
+  pub new : v.work_exists (laws entries) command ≡ None
 
 pub kept_rules : (es : List Entry) (d : List ℕ) (c : Command) → first_rule es d c ≡ None → Keeps es d c
 kept_rules es d c h =
@@ -90,6 +92,8 @@ kept_rules es d c h =
       law = first_kept (v.law_full es c) (v.register_full es d c) h15;
       register = second_kept (v.law_full es c) (v.register_full es d c) h15;
       tree = first_kept (v.bad_tree c) _ h4;
+      known = first_kept (v.unknown_work (laws es) c) _ h2;
+      new = first_kept (v.work_exists (laws es) c) _ h3;
     }
 
 -- what holds of no entries, and of one accepted entry more, holds of a legal register

@@ -28,6 +28,8 @@ pub mod ApartIds
 pub mod Continuing
 pub mod DueOnce
 pub mod NamedDays
+pub mod Next
+pub mod Grown
 pub mod Previews
 pub mod Apart
 pub mod ApartVerdicts

@@ -7,10 +7,9 @@ use Rattle.law_register.specs.declared.register.draft.DraftItem.{DraftItem}
 use Rattle.law_register.specs.declared.register.entry.Entry.{Entry}
 use Rattle.law_register.specs.declared.register.indexes.EnactedMark.{EnactedMark}
 use Rattle.law_register.specs.declared.register.indexes.ItemMark.{ItemMark}
-use Rattle.law_register.specs.declared.register.indexes.RequestMark.{RequestMark}
 use Rattle.law_register.specs.declared.register.verdict.Reply.{Reply}
 use Rattle.law_register.specs.Register.Drafts.{items_of}
-use Rattle.law_register.specs.Register.Indexes.{told_at, work_named, act_of, body_of, marks_work, RequestStands, ItemsStand, EnactedStands}
+use Rattle.law_register.specs.Register.Indexes.{told_at, work_named, act_of, body_of, marks_work, ItemsStand, EnactedStands}
 use Rattle.law_register.specs.Register.Concerns.{is_named}
 use Rattle.law_register.specs.Register.Listing.{item_told, items_marked}
 use Rattle.law_register.specs.declared.law.modification.Modification.{Modification}

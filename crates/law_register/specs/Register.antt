@@ -4,6 +4,7 @@ pub mod Drafts
 pub mod Entering
 pub mod Indexes
 pub mod KnownIds
+pub mod KnownNext
 pub mod LawList
 pub mod Listing
 pub mod Marks

@@ -6,6 +6,7 @@ ghost use Rattle.law_register.specs.declared.register.entry.Entry.{Entry};
 ghost use Rattle.law_register.specs.declared.register.limits.TheConstants as limits;
 ghost use Rattle.law_register.specs.Register.Drafters.{is_drafter};
 ghost use Rattle.law_register.specs.Register.KnownIds.{ids_of};
+ghost use Rattle.law_register.specs.Register.KnownNext.{known_next, known_now};
 ghost use Rattle.law_register.specs.Register.LawList.{laws, front, law_numbers, first_numbers};
 ghost use Rattle.law_register.specs.Law.Same.{same_command};
 ghost use Rattle.law_register.specs.Law.Sizes.{entry_size};
@@ -129,3 +130,9 @@ pub fn ids_are_few(register: &Register, _work: &WorkName)
 {
     let _ = &register.entries;
 }
+
+/// Behind legal entries one entry more makes known of each work what it is to the law, from what was known of it.
+pub fn knowledge_grows()
+    ensures { (entries : List Entry) (entry : Entry) (work : List ℕ) → is_legal entries ≡ true
+        → known_now (entries ++ entry ∷ []) work ≡ known_next entries entry work (known_now entries work) }
+{}

@@ -18,6 +18,6 @@ pub use desk::{CommandFault, Damage, Desk, FaultMark, OpenFault};
 pub use law::{Act, Command, Destination, Kind, ModSource, Modification, Mods, entry_size};
 pub use register::{
     Draft, DraftItem, Drafter, EnterFault, Entry, Known, KnownMod, KnownMods, Register, Reply,
-    Rule, Standing, Verdict, known_at,
+    Rule, Standing, Verdict, known_after, known_at, known_enacted,
 };
 pub use series::Series;

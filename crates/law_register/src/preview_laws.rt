@@ -7,8 +7,8 @@ ghost use Rattle.law_register.specs.Answer.Asking.{answer_at};
 ghost use Rattle.law_register.specs.Answer.Previews.{known_previewed, own_entries, preview_at, with_items};
 ghost use Rattle.law_register.specs.Answer.Soundness.{IsSound};
 ghost use Rattle.law_register.specs.Register.Drafts.{draft_of, items_of};
-ghost use Rattle.law_register.specs.Register.KnownIds.{known_at};
-ghost use Rattle.law_register.specs.Register.LawList.{front, laws};
+ghost use Rattle.law_register.specs.Register.KnownNext.{known_now};
+ghost use Rattle.law_register.specs.Register.LawList.{laws};
 ghost use Rattle.law_register.specs.Register.Room.{finds_no_room};
 ghost use Rattle.law_register.specs.Register.Verdicts.{verdict};
 
@@ -20,7 +20,7 @@ use frbr_names::WorkName;
 pub fn previews_add_items(register: &Register, _drafter: &Drafter, _work: &WorkName)
     ensures { known_previewed register.now.entries _drafter.now _work.now
         ≡ option_map (with_items (items_of _work.now (draft_of _drafter.now register.now.entries)))
-        (known_at register.now.entries _work.now (front register.now.entries)) }
+        (known_now register.now.entries _work.now) }
 {
     let _ = &register.entries;
 }

@@ -1,5 +1,5 @@
 -- Previews: what an act will say with a drafter's draft, before it is filed.
-use Rattle.std.specs.Prelude.{ℕ, ◌+◌, true, List, [], ◌∷◌, ◌++◌, length, map, filter, Option, Result}
+use Rattle.std.specs.Prelude.{ℕ, List, [], ◌∷◌, ◌++◌, length, map, filter, Option, Result}
 use Rattle.law_register.specs.declared.answer.answer.Answer.{Answer}
 use Rattle.law_register.specs.declared.answer.question.Question.{Question}
 use Rattle.law_register.specs.declared.answer.queries.QueryRule.{QueryRule}
@@ -8,11 +8,11 @@ use Rattle.law_register.specs.declared.law.command.Command.TheVariants.{Record}
 use Rattle.law_register.specs.declared.register.draft.DraftItem.{DraftItem}
 use Rattle.law_register.specs.declared.register.entry.Entry.{Entry}
 use Rattle.law_register.specs.declared.register.known.Known.{Known}
-use Rattle.law_register.specs.declared.register.known.KnownMod.{KnownMod}
 use Rattle.law_register.specs.Answer.Asking.{answer_by}
 use Rattle.law_register.specs.Answer.Costs.{bearing_for}
 use Rattle.law_register.specs.Register.Drafts.{draft_of, is_by, items_of}
 use Rattle.law_register.specs.Register.KnownIds.{enacted, known_by}
+use Rattle.law_register.specs.Register.KnownNext.{with_bodies}
 use Rattle.law_register.specs.Register.LawList.{laws}
 
 -- the law with one more entry, which records these items of a draft in a work and is not judged; without items, the law as it is
@@ -47,20 +47,10 @@ unfoldable pub previewing_at : List Entry → List ℕ → Question → ℕ
 previewing_at entries drafter q =
     bearing_for (question_by (law_previewed entries drafter q.work) q) (known_previewed entries drafter q.work)
 
--- items of a draft as they are known once a law entry of this number records them, the first of them as this item
-abbrev pub items_known : ℕ → ℕ → List DraftItem → List KnownMod
-items_known law item [] = []
-items_known law item (i ∷ items) =
-    record { id = record { law = law; item = item }; live = true; body = i.body } ∷ items_known law (item + 1) items
-
 -- what is known of a work once one more law entry records these items in it; without items, what was known
 abbrev pub with_items : List DraftItem → Known → Known
 with_items [] known = known
-with_items (i ∷ items) known = record known {
-  viewpoint = known.front + 1;
-  front = known.front + 1;
-  mods = known.mods ++ items_known (known.front + 1) 1 (i ∷ items);
-}
+with_items (i ∷ items) known = with_bodies (map (λ i. i.body) (i ∷ items)) known
 
 -- the entries of a drafter
 abbrev pub own_entries : List ℕ → List Entry → List Entry

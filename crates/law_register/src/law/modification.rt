@@ -159,3 +159,18 @@ impl Modification {
 
 /// Modifications in order.
 pub type Mods = Series<Modification>;
+
+impl Mods {
+    ghost use Rattle.std.specs.Prelude.{IfOk};
+
+    /// The same modifications; their texts and nodes are shared.
+    pub fn copy(&self, alloc: Global) -> Result<Mods, Memory>
+        ensures { IfOk result (λ copy. copy ≡ self.now) }
+    {
+        let mut copies = Mods::new(alloc);
+        for body in self.as_slice() {
+            copies.push(body.copy(alloc)?)?;
+        }
+        Ok(copies)
+    }
+}

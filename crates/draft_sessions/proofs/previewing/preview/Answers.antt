@@ -1,8 +1,7 @@
-use Rattle.std.proofs.Common.{◌≡◌, ◌∙◌, ◌+◌, ◌≤◌, ap, sym, subst, ℕ, Some, None, Result, Err}
+use Rattle.std.proofs.Common.{◌≡◌, ◌∙◌, ◌+◌, ◌≤◌, ap, sym, subst, ℕ, Some, None, Result}
 use Rattle.law_register.specs.declared.answer.answer.Answer.{Answer}
 use Rattle.law_register.specs.declared.answer.question.Question.{Question}
 use Rattle.law_register.specs.declared.answer.queries.QueryRule.{QueryRule}
-use Rattle.law_register.specs.declared.answer.queries.QueryRule.TheVariants.{UnknownWork}
 use Rattle.law_register.specs.Answer.Answers.{Answers, answer_on}
 use Rattle.law_register.specs.Answer.Costs.{bearing_by}
 use Rattle.law_register.specs.Answer.Previews.{known_previewed}
@@ -18,8 +17,8 @@ returns-in_ok-asked-in-Some-clause-answer g c =
     let told = c.in_ok-known.ensures.known in
     let is = c.in-Some.is in
     let same : known_previewed es d q.work ≡ Some known = cc in
-    let P : Result Answer QueryRule → Type 0 = λ answer. Answers c.answer_known.result answer in
-    subst P (ap (answer_on known) c.in_ok-asked-in-Some.ensures ∙ sym (preview_is es d q known same)) c.answer_known.ensures.answer
+    let P : Result Answer QueryRule → Type 0 = λ answer. Answers c.answer_by.result answer in
+    subst P (ap (answer_on known) c.in_ok-asked-in-Some.ensures ∙ sym (preview_is es d q known same)) c.answer_by.ensures.answer
 
 pub returns-in_ok-asked-in-Some-clause-steps : goal.returns-in_ok-asked-in-Some-clause-steps
 returns-in_ok-asked-in-Some-clause-steps g c =
@@ -30,15 +29,16 @@ returns-in_ok-asked-in-Some-clause-steps g c =
     let told = c.in_ok-known.ensures.known in
     let is = c.in-Some.is in
     let same : known_previewed es d q.work ≡ Some known = cc in
-    let P : ℕ → Type 0 = λ cost. c.answer_known.new.steps ≤ c.args.steps.now + cost in
-    subst P (ap (λ (asked : Question). bearing_by asked known) c.in_ok-asked-in-Some.ensures ∙ sym (cost_is es d q known same)) c.answer_known.ensures.steps
+    let P : ℕ → Type 0 = λ cost. c.answer_by.new.steps ≤ c.args.steps.now + cost in
+    subst P (ap (λ (asked : Question). bearing_by asked known) c.in_ok-asked-in-Some.ensures ∙ sym (cost_is es d q known same)) c.answer_by.ensures.steps
 
-pub returns-in_ok-work-in-None-clause-answer : goal.returns-in_ok-work-in-None-clause-answer
-returns-in_ok-work-in-None-clause-answer g c =
+pub returns-in-None-clause-answer : goal.returns-in-None-clause-answer
+returns-in-None-clause-answer g c =
     let es = c.args.register.now.entries in
     let d = c.args.drafter.now in
     let q = c.args.question.now in
     let told = c.in_ok-known.ensures.known in
     let is = c.in-None.is in
     let same : known_previewed es d q.work ≡ None = cc in
-    unknown_is es d q same ∙ sym (ap (λ w. Err (UnknownWork w)) c.in_ok-work-in-None.ensures)
+    let P : Result Answer QueryRule → Type 0 = λ answer. Answers c.answer_by-in-None.result answer in
+    subst P (sym (unknown_is es d q same)) c.answer_by-in-None.ensures.answer
