@@ -30,6 +30,7 @@ pub mod DueOnce
 pub mod NamedDays
 pub mod Next
 pub mod Grown
+pub mod TouchedWorks
 pub mod Previews
 pub mod Apart
 pub mod ApartVerdicts

@@ -17,7 +17,7 @@ pub use answer_node::{AnswerNode, AnswerNodes};
 pub use answering::{answer_by, answer_dated};
 pub use dated::Dated;
 pub use due::Due;
-pub use ids::{Days, Ids, Unapplied};
+pub use ids::{Days, Ids, Touched, Unapplied};
 pub use queries::{AskFault, QueryRule};
 pub use question::{Question, Reading};
 pub use replayer::Replayer;

@@ -1,13 +1,16 @@
 //! What holds of commands and of registers. Each law is a function that does nothing, whose clause is the law.
 
-ghost use Rattle.std.specs.Prelude.{◌≡◌, ◌≤◌, ◌↔◌, ◌++◌, ◌∷◌, [], ◌&&◌, ℕ, List, IsTrue, true, length, slice_get, Some};
+ghost use Rattle.std.specs.Prelude.{◌≡◌, ◌≤◌, ◌↔◌, ◌++◌, ◌∷◌, [], ◌&&◌, ℕ, List, IsTrue, true, length, map, slice_get, Some};
+ghost use Rattle.std.specs.List.{AllByRecursion};
+ghost use Rattle.std.specs.Option.{option_to_list};
 ghost use Rattle.law_register.specs.declared.law.command.Command.{Command as CommandValue};
 ghost use Rattle.law_register.specs.declared.register.entry.Entry.{Entry};
 ghost use Rattle.law_register.specs.declared.register.limits.TheConstants as limits;
+ghost use Rattle.law_register.specs.Answer.Touched.{touched_day, touched_days, work_entered};
 ghost use Rattle.law_register.specs.Register.Drafters.{is_drafter};
 ghost use Rattle.law_register.specs.Register.KnownIds.{ids_of};
 ghost use Rattle.law_register.specs.Register.KnownNext.{known_next, known_now};
-ghost use Rattle.law_register.specs.Register.LawList.{laws, front, law_numbers, first_numbers};
+ghost use Rattle.law_register.specs.Register.LawList.{laws, law_of, front, law_numbers, first_numbers};
 ghost use Rattle.law_register.specs.Law.Same.{same_command};
 ghost use Rattle.law_register.specs.Law.Sizes.{entry_size};
 ghost use Rattle.law_register.specs.Law.Spellable.{can_all_be_spelled, can_be_spelled};
@@ -135,4 +138,12 @@ pub fn ids_are_few(register: &Register, _work: &WorkName)
 pub fn knowledge_grows()
     ensures { (entries : List Entry) (entry : Entry) (work : List ℕ) → is_legal entries ≡ true
         → known_now (entries ++ entry ∷ []) work ≡ known_next entries entry work (known_now entries work) }
+{}
+
+/// An entry touches works exactly where it touches a day; then that is the day of each, and each is the work that it concerns.
+pub fn touched_days_are_of_the_work_concerned()
+    ensures days { (entries : List Entry) (entry : Entry)
+        → map (λ touched. touched.1) (touched_days entries entry) ≡ option_to_list (touched_day entries entry) }
+    ensures works { (entries : List Entry) (entry : Entry)
+        → AllByRecursion (λ touched. work_entered entries (law_of entries entry) ≡ Some touched.0) (touched_days entries entry) }
 {}

@@ -1,17 +1,18 @@
-//! The touched day of an entry: before it, the entry leaves everything that was applied as it was.
+//! The touched day of an entry, and the works that it touches: before it, the entry leaves everything that was applied as it was.
 
-ghost use Rattle.std.specs.Prelude.{◌≡◌, IfOk, None, Some, if◌then◌else◌, map};
+ghost use Rattle.std.specs.Prelude.{◌≡◌, IfOk, None, Some, if◌then◌else◌, map, option_map};
 ghost use Rattle.law_register.specs.Answer.Counted.{is_same};
 ghost use Rattle.law_register.specs.Answer.Touched as spec;
 ghost use Rattle.law_register.specs.Register.Drafts.{draft_of, items_of};
 ghost use Rattle.law_register.specs.Register.KnownIds.{facts_of};
-ghost use Rattle.law_register.specs.Register.LawList.{laws};
+ghost use Rattle.law_register.specs.Register.LawList.{law_of, laws};
 ghost use Rattle.law_register.specs.declared.law.modification.Destination.TheVariants as to;
 
 use desk_base::{Day, Id, Memory};
 use frbr_names::WorkName;
 use law_register::{
-    Command, Destination, DraftItem, Drafter, Entry, KnownMod, Modification, Register, known_at,
+    Command, Destination, DraftItem, Drafter, Entry, KnownMod, Modification, Register, Touched,
+    known_at,
 };
 use std::alloc::Global;
 
@@ -198,4 +199,34 @@ pub fn touched_day(alloc: Global, register: &Register, entry: &Entry) -> Result<
         Command::Withdraw { id } | Command::Restore { id } => day_known(alloc, register, *id),
         Command::Enact { .. } | Command::DraftAdd { .. } | Command::DraftDrop { .. } => Ok(None),
     }
+}
+
+// The work that an entry concerns.
+fn work_entered<'a>(register: &'a Register, entry: &'a Entry) -> Option<&'a WorkName>
+    ensures { option_map (λ work. work.now) result
+        ≡ spec.work_entered register.now.entries (law_of register.now.entries entry.now) }
+{
+    match &entry.command {
+        Command::Enact { act } => Some(&act.work),
+        Command::Record { work, .. } | Command::File { work, .. } => Some(work),
+        Command::Correct { id, .. } | Command::Withdraw { id } | Command::Restore { id } => {
+            register.work_of(*id)
+        }
+        Command::DraftAdd { .. } | Command::DraftDrop { .. } => None,
+    }
+}
+
+/// The works that an entry touches which comes behind those of a register, each with its touched day: the one that it concerns,
+/// where it touches a day. In every other work nothing changes on any day.
+#[tactic(auto, unfolding(law_register::specs::Answer::Touched::touched_days))]
+pub fn touched_days(alloc: Global, register: &Register, entry: &Entry) -> Result<Touched, Memory>
+    ensures { IfOk result (λ touched. touched ≡ spec.touched_days register.now.entries entry.now) }
+{
+    let mut touched = Touched::new(alloc);
+    if let Some(day) = touched_day(alloc, register, entry)?
+        && let Some(work) = work_entered(register, entry)
+    {
+        touched.push((work.copy()?, day))?;
+    }
+    Ok(touched)
 }

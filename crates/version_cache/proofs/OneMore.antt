@@ -1,5 +1,5 @@
 -- What is known of a work by one entry more agrees with what was known before the touched day.
-use Rattle.std.proofs.Common.{◌≡◌, ◌∙◌, sym, ap, subst, ℕ, zero, suc, ◌+◌, ◌-◌, ◌≤◌, ◌==◌, Bool, true, false, cond, List, [], ◌∷◌, ◌++◌, append_assoc, length, map, Option, Some, None, option_map, refl, inl, inr, ◌⊎◌, arith}
+use Rattle.std.proofs.Common.{◌≡◌, ◌∙◌, sym, ap, subst, ℕ, zero, suc, ◌+◌, ◌-◌, ◌≤◌, ◌==◌, Bool, true, false, cond, List, [], ◌∷◌, ◌++◌, append_assoc, length, Option, Some, None, option_map, refl, inl, inr, ◌⊎◌, arith}
 use Rattle.std.proofs.lemmas.Bool.Decides.{nat_tests}
 use Rattle.std.proofs.lemmas.List.{append-nil, length-append}
 use Rattle.std.specs.List.{AllByRecursion}
@@ -11,20 +11,21 @@ use Rattle.law_register.specs.declared.law.act.Act.{Act}
 use Rattle.law_register.specs.declared.law.command.Command.{Command}
 use Rattle.law_register.specs.declared.law.command.Command.TheVariants.{Enact, Record, Correct, Withdraw, Restore, DraftAdd, DraftDrop, File}
 use Rattle.law_register.specs.declared.law.modification.Modification.{Modification}
-use Rattle.law_register.specs.declared.register.draft.DraftItem.{DraftItem}
 use Rattle.law_register.specs.declared.register.entry.Entry.{Entry}
 use Rattle.law_register.specs.declared.register.known.Known.{Known}
 use Rattle.law_register.specs.declared.register.known.KnownMod.{KnownMod}
 use Rattle.law_register.specs.declared.register.standing.Standing.TheVariants.{Live, Withdrawn}
 use Rattle.law_register.specs.Answer.Counted.{is_same_id}
-use Rattle.law_register.specs.Answer.Touched.{day_changed, day_corrected, day_entered, day_known, day_recorded, day_saying, first_on, mods_in, mods_of, own_day, touched_day}
-use Rattle.law_register.specs.Register.Drafts.{draft_of, items_of}
+use Rattle.law_register.specs.Register.Concerns.{is_named, is_of}
+use Rattle.law_register.specs.Answer.Touched.{day_among, day_changed, day_corrected, day_entered, day_known, day_recorded, day_saying, first_on, mods_in, mods_of, own_day, touched_day, touched_days, with_day, work_entered}
+use Rattle.law_register.specs.Register.Drafts.{draft_of}
 use Rattle.law_register.specs.Register.KnownIds.{IdFacts, corrected, enacted, enacted_by, enacted_or, facts_after, facts_of, first_facts, ids_from_item, ids_of, ids_recorded, item_at, known_as, known_at, known_by, known_ids, marked}
-use Rattle.law_register.specs.Register.LawList.{front, law_command, law_of, laws}
+use Rattle.law_register.specs.Register.LawList.{front, law_of, laws}
 use Rattle.law_register.specs.Register.Standings.{is_live}
 use Rattle.law_register.specs.Register.Verdicts.{is_legal}
 use Rattle.law_register.proofs.IdSteps.{fresh}
 use Rattle.law_register.proofs.Lists.{take_all}
+use Rattle.law_register.proofs.Next.{one_at_most}
 use Rattle.law_register.proofs.Puts.{bytes_same, id_same, number_is}
 use Rattle.law_register.proofs.Snoc.{enacted_more, facts_more, first_act, ids_more, laws_more}
 use Rattle.version_cache.specs.Agreement.{Agree, AgreeOn, IsBefore}
@@ -243,7 +244,7 @@ module _ (es : List Entry) (legal : is_legal es ≡ true) (w : List ℕ) (r : Re
       agree_on day no_change was was [] (unchanged day was) tt (λ id h. absurd (let wrong : false ≡ true = h in cc)) tt r old new old_is (is ∙ sym (append-nil was))
 
   record_agrees : (other : List ℕ) (bodies : List Modification) (new : Known) → new.mods ≡ known_ids (ls ++ Record other bodies ∷ []) (ids_of w (ls ++ Record other bodies ∷ []))
-      → IsBefore day (day_recorded bodies) → AgreeOn old new r day
+      → (bytes_eq other w ≡ true → IsBefore day (day_recorded bodies)) → AgreeOn old new r day
   record_agrees other bodies new new_is before =
       let l : Command = Record other bodies in
       let now : List Command = ls ++ l ∷ [] in
@@ -258,11 +259,18 @@ module _ (es : List Entry) (legal : is_legal es ≡ true) (w : List ℕ) (r : Re
       said_new : (id : Id) → id.law ≡ length ls + 1 → facts_of id (ls ++ Record other bodies ∷ []) ≡ first_facts other (item_at id.item bodies)
       said_new id is = facts_more id ls (Record other bodies) ∙ ap (λ b. cond b (first_facts other (item_at id.item bodies)) (facts_of id ls)) (number_is id.law (length ls + 1) is)
 
-      mute : AllByRecursion (λ (m : KnownMod). IsMute day m.body) (known_ids (ls ++ Record other bodies ∷ []) (ids_recorded (length ls + 1) w (Record other bodies)))
-      mute = known_all (λ m. IsMute day m.body) (ls ++ Record other bodies ∷ []) (ids_recorded (length ls + 1) w (Record other bodies))
+      brought_mute : IsBefore day (day_recorded bodies) → AllByRecursion (λ (m : KnownMod). IsMute day m.body) (known_ids (ls ++ Record other bodies ∷ []) (ids_from_item (length ls + 1) 1 bodies))
+      brought_mute early = known_all (λ m. IsMute day m.body) (ls ++ Record other bodies ∷ []) (ids_from_item (length ls + 1) 1 bodies)
           (all_weaker (IsNew w ls) (λ id. (f : IdFacts) → facts_of id (ls ++ Record other bodies ∷ []) ≡ Some f → IsMute day f.body)
-          (λ id is f says. body_in (IsMute day) other (item_at id.item bodies) f (λ x at. item_in (IsMute day) bodies id.item x (bodies_mute day bodies before) at) (sym (said_new id is) ∙ says))
-          (ids_recorded (length ls + 1) w (Record other bodies)) (recorded_new w ls (Record other bodies)))
+          (λ id is f says. body_in (IsMute day) other (item_at id.item bodies) f (λ x at. item_in (IsMute day) bodies id.item x (bodies_mute day bodies early) at) (sym (said_new id is) ∙ says))
+          (ids_from_item (length ls + 1) 1 bodies) (items_new w ls (length ls + 1) 1 bodies refl))
+
+      mute : AllByRecursion (λ (m : KnownMod). IsMute day m.body) (known_ids (ls ++ Record other bodies ∷ []) (ids_recorded (length ls + 1) w (Record other bodies)))
+      mute = by (bytes_eq other w) refl
+        where
+          by : (b : Bool) → bytes_eq other w ≡ b → AllByRecursion (λ (m : KnownMod). IsMute day m.body) (known_ids (ls ++ Record other bodies ∷ []) (cond b (ids_from_item (length ls + 1) 1 bodies) []))
+          by true own = brought_mute (before own)
+          by false own = tt
 
       none_there : (id : Id) → id.law ≡ length ls + 1 → NoneCounted (known_ids ls ids) day id
       none_there id is =
@@ -278,7 +286,7 @@ module _ (es : List Entry) (legal : is_legal es ≡ true) (w : List ℕ) (r : Re
   module _ (other : Id) (g : IdFacts → IdFacts) (l : Command) (none : ids_recorded (length (laws es) + 1) w l ≡ [])
       (after : (id : Id) → facts_of id (laws es ++ l ∷ []) ≡ cond (is_same_id other id) (option_map g (facts_of id (laws es))) (facts_of id (laws es)))
       (new : Known) (new_is : new.mods ≡ known_ids (laws es ++ l ∷ []) (ids_of w (laws es ++ l ∷ [])))
-      (touches : (f : IdFacts) → facts_of other (laws es) ≡ Some f → IsBefore day (day_saying (mods_of es f.work) other f.body) × IsMute day (g f).body) where
+      (touches : (f : IdFacts) → facts_of other (laws es) ≡ Some f → bytes_eq f.work w ≡ true → IsBefore day (day_saying (mods_of es f.work) other f.body) × IsMute day (g f).body) where
     now_is : new.mods ≡ known_ids (ls ++ l ∷ []) ids
     now_is = new_is ∙ ap (known_ids (ls ++ l ∷ [])) (ids_more w ls l ∙ ap (λ more. ids ++ more) none ∙ append-nil ids)
 
@@ -290,9 +298,10 @@ module _ (es : List Entry) (legal : is_legal es ≡ true) (w : List ℕ) (r : Re
         by id none_of true is = ap (option_map g) (none_of is) ∙ sym (none_of is)
         by id none_of false is = refl
 
-    touched : (f : IdFacts) → facts_of other (laws es) ≡ Some f → f.work ≡ w → AgreeOn old new r day
-    touched f is of_w =
-        let says = touches f is in
+    touched : (f : IdFacts) → facts_of other (laws es) ≡ Some f → bytes_eq f.work w ≡ true → AgreeOn old new r day
+    touched f is own =
+        let of_w = bytes_same f.work w own in
+        let says = touches f is own in
         let both = before_both day (own_day f.body) (first_on other (mods_of es f.work)) says.0 in
         let known : mods_of es f.work ≡ was = ap (mods_of es) of_w ∙ ap mods_in here ∙ old_is in
         let before : IsBefore day (first_on other was) = subst (λ ms. IsBefore day (first_on other ms)) known both.1 in
@@ -311,7 +320,7 @@ module _ (es : List Entry) (legal : is_legal es ≡ true) (w : List ℕ) (r : Re
     change_agrees = by (facts_of other ls) refl
       where
         of_work : (f : IdFacts) → facts_of other (laws es) ≡ Some f → (b : Bool) → bytes_eq f.work w ≡ b → AgreeOn old new r day
-        of_work f is true own = touched f is (bytes_same f.work w own)
+        of_work f is true own = touched f is own
         of_work f is false own =
             untouched (all_weaker (IsOwn w ls) (λ id. is_same_id other id ≡ true → facts_of id ls ≡ None)
             (λ id mine same. absurd (let wrong : false ≡ true = sym own ∙ subst (OfWork w) (sym (ap (λ i. facts_of i ls) (id_same other id same)) ∙ is) mine.1 in cc)) ids (all_own w ls))
@@ -331,21 +340,26 @@ module _ (es : List Entry) (legal : is_legal es ≡ true) (w : List ℕ) (r : Re
       → IsBefore day (day_saying (mods_of es f.work) other f.body)
   both_in other f is before = subst (λ k. IsBefore day (day_known es other k)) is before
 
-  law_agrees : (l : Command) (new : Known) → new.mods ≡ known_ids (laws es ++ l ∷ []) (ids_of w (laws es ++ l ∷ [])) → IsBefore day (day_changed es l) → AgreeOn old new r day
+  -- the work of an id that is recorded is the one that is concerned
+  own_id : (id : Id) (f : IdFacts) → facts_of id (laws es) ≡ Some f → bytes_eq f.work w ≡ true → is_of w (facts_of id (laws es)) ≡ true
+  own_id id f is own = ap (is_of w) is ∙ own
+
+  law_agrees : (l : Command) (new : Known) → new.mods ≡ known_ids (laws es ++ l ∷ []) (ids_of w (laws es ++ l ∷ []))
+      → (is_named w (work_entered es (l ∷ [])) ≡ true → IsBefore day (day_changed es l)) → AgreeOn old new r day
   law_agrees (Record other bodies) new new_is before = record_agrees other bodies new new_is before
   law_agrees (Correct other body) new new_is before =
-      let both = before_both day (day_known es other (facts_of other ls)) (day_corrected es other body (facts_of other ls)) before in
       change_agrees other (corrected body) (Correct other body) refl (λ id. facts_more id ls (Correct other body)) new new_is
-      (λ f is. (
+      (λ f is own.
+      let both = before_both day (day_known es other (facts_of other ls)) (day_corrected es other body (facts_of other ls)) (before (own_id other f is own)) in (
         both_in other f is both.0,
         (before_both day (own_day body) (first_on other (mods_of es f.work)) (subst (λ k. IsBefore day (day_corrected es other body k)) is both.1)).0,
       ))
   law_agrees (Withdraw other) new new_is before =
       change_agrees other (marked (Withdrawn (length ls + 1))) (Withdraw other) refl (λ id. facts_more id ls (Withdraw other)) new new_is
-      (λ f is. (both_in other f is before, (before_both day (own_day f.body) (first_on other (mods_of es f.work)) (both_in other f is before)).0))
+      (λ f is own. let known = both_in other f is (before (own_id other f is own)) in (known, (before_both day (own_day f.body) (first_on other (mods_of es f.work)) known).0))
   law_agrees (Restore other) new new_is before =
       change_agrees other (marked Live) (Restore other) refl (λ id. facts_more id ls (Restore other)) new new_is
-      (λ f is. (both_in other f is before, (before_both day (own_day f.body) (first_on other (mods_of es f.work)) (both_in other f is before)).0))
+      (λ f is own. let known = both_in other f is (before (own_id other f is own)) in (known, (before_both day (own_day f.body) (first_on other (mods_of es f.work)) known).0))
   law_agrees (Enact act) new new_is before = kept_mods (Enact act) new refl (λ id. refl) new_is
   law_agrees (DraftAdd work body) new new_is before = kept_mods (DraftAdd work body) new refl (λ id. refl) new_is
   law_agrees (DraftDrop item) new new_is before = kept_mods (DraftDrop item) new refl (λ id. refl) new_is
@@ -373,22 +387,26 @@ parts_of es w k is =
     parts_by w (front es) (front es) (laws es) (enacted w (laws es)) k refl
     (sym (ap (λ ls. known_by w (front es) (front es) ls (enacted w ls)) (take_all (laws es) (front es) (omega arith))) ∙ is)
 
--- an entry is one law entry at most
-one_at_most : (draft : List DraftItem) (c : Command) → (law_command draft c ≡ []) ⊎ ((l : Command) × (law_command draft c ≡ l ∷ []))
-one_at_most draft (DraftAdd work body) = inl refl
-one_at_most draft (DraftDrop item) = inl refl
-one_at_most draft (Enact act) = inr (Enact act, refl)
-one_at_most draft (Record work ms) = inr (Record work ms, refl)
-one_at_most draft (Correct id body) = inr (Correct id body, refl)
-one_at_most draft (Withdraw id) = inr (Withdraw id, refl)
-one_at_most draft (Restore id) = inr (Restore id, refl)
-one_at_most draft (File work seen) = inr (Record work (map (λ i. i.body) (items_of work draft)), refl)
+-- the days before that of the work among those that are touched
+before_named : (day : ℕ) (w : List ℕ) (named : Option (List ℕ)) (touched : Option ℕ) → IsBefore day (day_among (with_day named touched) w) → is_named w named ≡ true → IsBefore day touched
+before_named day w None touched before own = absurd (let wrong : false ≡ true = own in cc)
+before_named day w (Some v) None before own = tt
+before_named day w (Some v) (Some t) before own = subst (λ b. IsBefore day (cond b (Some t) None)) own before
 
--- before the touched day of an entry, what a register knows of a work and what it knows with the entry agree
-pub one_more : (es : List Entry) (e : Entry) → is_legal es ≡ true → (w : List ℕ) (r : Reading) (old new : Known) → known_at es w (front es) ≡ Some old
-    → known_at (es ++ e ∷ []) w (front (es ++ e ∷ [])) ≡ Some new → Agree old new r (touched_day es e)
-unfolding touched_day
-one_more es e legal w r old new was is =
+before_any : (day : ℕ) (w : List ℕ) (named : Option (List ℕ)) (touched : Option ℕ) → IsBefore day touched → IsBefore day (day_among (with_day named touched) w)
+before_any day w None touched before = tt
+before_any day w (Some v) None before = tt
+before_any day w (Some v) (Some t) before = by (bytes_eq v w)
+  where
+    by : (b : Bool) → IsBefore day (cond b (Some t) None)
+    by true = before
+    by false = tt
+
+-- before the touched day of the work, what a register knows of it and what it knows with the entry agree
+pub one_more_of : (es : List Entry) (e : Entry) → is_legal es ≡ true → (w : List ℕ) (r : Reading) (old new : Known) → known_at es w (front es) ≡ Some old
+    → known_at (es ++ e ∷ []) w (front (es ++ e ∷ [])) ≡ Some new → Agree old new r (day_among (touched_days es e) w)
+unfolding touched_days touched_day
+one_more_of es e legal w r old new was is =
     let before = parts_of es w old was in
     let after = parts_of (es ++ e ∷ []) w new is in
     by (one_at_most (draft_of e.drafter es) e.command) before after
@@ -396,7 +414,7 @@ one_more es e legal w r old new was is =
     same_found : (a b : ℕ × Act) → Some a ≡ Some b → a ≡ b
     same_found a b h = cc
 
-    by : (law_of es e ≡ []) ⊎ ((l : Command) × (law_of es e ≡ l ∷ [])) → Parts w (laws es) old → Parts w (laws (es ++ e ∷ [])) new → Agree old new r (day_entered es (law_of es e))
+    by : (law_of es e ≡ []) ⊎ ((l : Command) × (law_of es e ≡ l ∷ [])) → Parts w (laws es) old → Parts w (laws (es ++ e ∷ [])) new → Agree old new r (day_among (with_day (work_entered es (law_of es e)) (day_entered es (law_of es e))) w)
     by (inl none) before after =
         let same : laws (es ++ e ∷ []) ≡ laws es = laws_more es e ∙ ap (λ l. laws es ++ l) none ∙ append-nil (laws es) in
         let found : before.found ≡ after.found = same_found before.found after.found (sym before.enacts ∙ sym (ap (enacted w) same) ∙ after.enacts) in
@@ -414,5 +432,13 @@ one_more es e legal w r old new was is =
           act = before.act ∙ ap (λ (x : ℕ × Act). x.1) found ∙ sym after.act;
           days = λ day h.
               law_agrees es legal w r day old was before.mods l new (after.mods ∙ ap (λ ls. known_ids ls (ids_of w ls)) same)
-              (subst (λ k. IsBefore day (day_entered es k)) one h);
+              (before_named day w (work_entered es (l ∷ [])) (day_changed es l) (subst (λ k. IsBefore day (day_among (with_day (work_entered es k) (day_entered es k)) w)) one h));
         }
+
+-- before the touched day of the entry, all works agree
+pub one_more : (es : List Entry) (e : Entry) → is_legal es ≡ true → (w : List ℕ) (r : Reading) (old new : Known) → known_at es w (front es) ≡ Some old
+    → known_at (es ++ e ∷ []) w (front (es ++ e ∷ [])) ≡ Some new → Agree old new r (touched_day es e)
+unfolding touched_days
+one_more es e legal w r old new was is =
+    let agree = one_more_of es e legal w r old new was is in
+    record { act = agree.act; days = λ day h. agree.days day (before_any day w (work_entered es (law_of es e)) (touched_day es e) h) }

@@ -6,9 +6,8 @@ ghost use Rattle.law_register.specs.declared.register.entry.Entry.{Entry};
 ghost use Rattle.law_register.specs.declared.register.known.Known.{Known as KnownValue};
 ghost use Rattle.law_register.specs.Answer.Breakpoints.{breakpoints};
 ghost use Rattle.law_register.specs.Answer.Order.{order};
-ghost use Rattle.law_register.specs.Answer.Touched.{touched_day};
-ghost use Rattle.law_register.specs.Register.KnownIds.{known_at};
-ghost use Rattle.law_register.specs.Register.LawList.{front};
+ghost use Rattle.law_register.specs.Answer.Touched.{day_among, touched_day, touched_days};
+ghost use Rattle.law_register.specs.Register.KnownNext.{known_now};
 ghost use Rattle.law_register.specs.Register.Verdicts.{is_legal};
 ghost use Rattle.version_cache.specs.Agreement.{Agree};
 ghost use Rattle.version_cache.specs.Days.{last_until, order_by};
@@ -49,7 +48,16 @@ pub fn agreeing_views_share_tables(
 pub fn nothing_changes_before_the_touched_day()
     ensures { (entries : List Entry) (entry : Entry) (work : List ℕ) (reading : ReadingValue) (old new : KnownValue)
         → is_legal entries ≡ true
-        → known_at entries work (front entries) ≡ Some old
-        → known_at (entries ++ entry ∷ []) work (front (entries ++ entry ∷ [])) ≡ Some new
+        → known_now entries work ≡ Some old
+        → known_now (entries ++ entry ∷ []) work ≡ Some new
         → Agree old new reading (touched_day entries entry) }
+{}
+
+/// Nothing changes in a work before its touched day, and in one that an entry does not touch nothing changes on any day.
+pub fn works_change_from_their_touched_days()
+    ensures { (entries : List Entry) (entry : Entry) (work : List ℕ) (reading : ReadingValue) (old new : KnownValue)
+        → is_legal entries ≡ true
+        → known_now entries work ≡ Some old
+        → known_now (entries ++ entry ∷ []) work ≡ Some new
+        → Agree old new reading (day_among (touched_days entries entry) work) }
 {}

@@ -1,5 +1,6 @@
 -- The touched day of an entry: before it, the entry leaves everything that was applied as it was.
-use Rattle.std.specs.Prelude.{ℕ, min, List, [], ◌∷◌, Option, Some, None, if◌then◌else◌}
+use Rattle.std.specs.Prelude.{ℕ, min, List, [], ◌∷◌, Option, Some, None, option_map, if◌then◌else◌}
+use Rattle.std.specs.Str.{bytes_eq}
 use Rattle.desk_base.specs.declared.id.Id.{Id}
 use Rattle.law_register.specs.declared.law.command.Command.{Command}
 use Rattle.law_register.specs.declared.law.command.Command.TheVariants.{Correct, Record, Restore, Withdraw}
@@ -11,8 +12,10 @@ use Rattle.law_register.specs.declared.register.entry.Entry.{Entry}
 use Rattle.law_register.specs.declared.register.known.Known.{Known}
 use Rattle.law_register.specs.declared.register.known.KnownMod.{KnownMod}
 use Rattle.law_register.specs.Answer.Counted.{is_same}
-use Rattle.law_register.specs.Register.KnownIds.{IdFacts, facts_of, known_at}
-use Rattle.law_register.specs.Register.LawList.{front, law_of, laws}
+use Rattle.law_register.specs.Register.Concerns.{concerned}
+use Rattle.law_register.specs.Register.KnownIds.{IdFacts, facts_of}
+use Rattle.law_register.specs.Register.KnownNext.{known_now}
+use Rattle.law_register.specs.Register.LawList.{law_of, laws}
 
 -- the earlier of two days, or the one that there is
 abbrev pub sooner : Option ℕ → Option ℕ → Option ℕ
@@ -59,7 +62,7 @@ mods_in (Some known) = known.mods
 
 -- the modifications of a work, as a register knows them at its front
 abbrev pub mods_of : List Entry → List ℕ → List KnownMod
-mods_of entries work = mods_in (known_at entries work (front entries))
+mods_of entries work = mods_in (known_now entries work)
 
 -- the day that an id touches by what it says, if it is recorded
 abbrev pub day_known : List Entry → Id → Option IdFacts → Option ℕ
@@ -89,3 +92,23 @@ day_entered entries (command ∷ _) = day_changed entries command
 -- the touched day of an entry that comes behind others, if it touches any
 unfoldable pub touched_day : List Entry → Entry → Option ℕ
 touched_day entries entry = day_entered entries (law_of entries entry)
+
+-- the work that an entry concerns by what it is to the law; an entry of a draft concerns none
+abbrev pub work_entered : List Entry → List Command → Option (List ℕ)
+work_entered entries [] = None
+work_entered entries (command ∷ _) = concerned (λ id. option_map (λ f. f.work) (facts_of id (laws entries))) command
+
+-- a work with its day, where both are there
+abbrev pub with_day : Option (List ℕ) → Option ℕ → List (List ℕ × ℕ)
+with_day None day = []
+with_day (Some work) None = []
+with_day (Some work) (Some day) = (work, day) ∷ []
+
+-- the works that an entry touches which comes behind others, each with its touched day
+unfoldable pub touched_days : List Entry → Entry → List (List ℕ × ℕ)
+touched_days entries entry = with_day (work_entered entries (law_of entries entry)) (touched_day entries entry)
+
+-- the touched day of a work among these, if it is one of them
+abbrev pub day_among : List (List ℕ × ℕ) → List ℕ → Option ℕ
+day_among [] work = None
+day_among (touched ∷ others) work = if bytes_eq touched.0 work then Some touched.1 else day_among others work

@@ -1,10 +1,11 @@
-//! What an answer lists: ids, what was not applied with its cause, and days.
+//! What an answer lists: ids, what was not applied with its cause, and days; and the works that an entry touches.
 
 ghost use Rattle.std.specs.Prelude.{◌≡◌, IfOk};
 
 use crate::series::Series;
 use act_tree::Cause;
 use desk_base::{Day, Id, Memory};
+use frbr_names::WorkName;
 
 /// Ids in order.
 pub type Ids = Series<Id>;
@@ -14,6 +15,9 @@ pub type Unapplied = Series<(Id, Cause)>;
 
 /// Days in order. A clause sees their numbers.
 pub type Days = Series<Day>;
+
+/// Works, each with the day from which it is touched.
+pub type Touched = Series<(WorkName, Day)>;
 
 impl Ids {
     /// The same ids.
