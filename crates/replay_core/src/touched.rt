@@ -11,8 +11,8 @@ ghost use Rattle.law_register.specs.declared.law.modification.Destination.TheVar
 use desk_base::{Day, Id, Memory};
 use frbr_names::WorkName;
 use law_register::{
-    Command, Destination, DraftItem, Drafter, Entry, KnownMod, Modification, Register, Touched,
-    known_at,
+    Command, Destination, DraftItem, Drafter, Entry, KnownMod, KnownMods, Modification, Register,
+    Touched, known_at,
 };
 use std::alloc::Global;
 
@@ -127,34 +127,13 @@ fn day_filed(items: &[DraftItem], work: &WorkName) -> Option<Day>
     first
 }
 
-// The day that an id touches once it says this, by what is known of the work that it modifies.
-fn day_in_work(
-    alloc: Global,
-    register: &Register,
-    work: &WorkName,
-    id: Id,
-    body: &Modification,
-) -> Result<Option<Day>, Memory>
-    ensures { IfOk result (λ day. day ≡ spec.day_saying (spec.mods_of register.now.entries work.now) id body.now) }
+// The modifications of a work, as a register knows them at its front.
+fn mods_of(alloc: Global, register: &Register, work: &WorkName) -> Result<KnownMods, Memory>
+    ensures { IfOk result (λ mods. mods ≡ spec.mods_of register.now.entries work.now) }
 {
     match known_at(alloc, register, work, register.front())? {
-        Some(known) => Ok(day_saying(known.mods.as_slice(), id, body)),
-        None => Ok(day_saying(&[], id, body)),
-    }
-}
-
-fn day_corrected(
-    alloc: Global,
-    register: &Register,
-    id: Id,
-    body: &Modification,
-) -> Result<Option<Day>, Memory>
-    ensures { IfOk result
-        (λ day. day ≡ spec.day_corrected register.now.entries id body.now (facts_of id (laws register.now.entries))) }
-{
-    match register.work_of(id) {
-        Some(work) => day_in_work(alloc, register, work, id, body),
-        None => Ok(None),
+        Some(known) => Ok(known.mods),
+        None => Ok(KnownMods::new(alloc)),
     }
 }
 
@@ -162,10 +141,31 @@ fn day_known(alloc: Global, register: &Register, id: Id) -> Result<Option<Day>, 
     ensures { IfOk result
         (λ day. day ≡ spec.day_known register.now.entries id (facts_of id (laws register.now.entries))) }
 {
-    match register.body_of(id) {
-        Some(body) => day_corrected(alloc, register, id, body),
-        None => Ok(None),
-    }
+    let (Some(work), Some(body)) = (register.work_of(id), register.body_of(id)) else {
+        return Ok(None);
+    };
+    let mods = mods_of(alloc, register, work)?;
+    Ok(day_saying(mods.as_slice(), id, body))
+}
+
+// The day that an id touches by what it says and by what it is to say. What is known of its work is copied once.
+fn day_of_correction(
+    alloc: Global,
+    register: &Register,
+    id: Id,
+    body: &Modification,
+) -> Result<Option<Day>, Memory>
+    ensures { IfOk result (λ day. day ≡ spec.sooner
+        (spec.day_known register.now.entries id (facts_of id (laws register.now.entries)))
+        (spec.day_corrected register.now.entries id body.now (facts_of id (laws register.now.entries)))) }
+{
+    let (Some(work), Some(said)) = (register.work_of(id), register.body_of(id)) else {
+        return Ok(None);
+    };
+    let mods = mods_of(alloc, register, work)?;
+    let old = day_saying(mods.as_slice(), id, said);
+    let new = day_saying(mods.as_slice(), id, body);
+    Ok(sooner(old, new))
 }
 
 fn day_of_filing(
@@ -191,11 +191,7 @@ pub fn touched_day(alloc: Global, register: &Register, entry: &Entry) -> Result<
     match &entry.command {
         Command::Record { mods, .. } => Ok(day_recorded(mods.as_slice())),
         Command::File { work, .. } => day_of_filing(alloc, register, &entry.drafter, work),
-        Command::Correct { id, body } => {
-            let old = day_known(alloc, register, *id)?;
-            let new = day_corrected(alloc, register, *id, body)?;
-            Ok(sooner(old, new))
-        }
+        Command::Correct { id, body } => day_of_correction(alloc, register, *id, body),
         Command::Withdraw { id } | Command::Restore { id } => day_known(alloc, register, *id),
         Command::Enact { .. } | Command::DraftAdd { .. } | Command::DraftDrop { .. } => Ok(None),
     }
