@@ -16,3 +16,7 @@ pub mod Points
 pub mod Adding
 pub mod LateDays
 pub mod Revised
+pub mod Ahead
+pub mod Renewed
+pub mod Alike
+pub mod Following

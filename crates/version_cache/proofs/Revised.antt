@@ -16,7 +16,7 @@ use Rattle.version_cache.proofs.Parted.{ascending}
 use Rattle.version_cache.proofs.Right.{last_by, replay_by_last, version_or}
 use Rattle.version_cache.proofs.RowFronts.{by_next}
 
-last_joined_rows : (before : VersionValue) (xs ys : List RowValue) → last_version before (xs ++ ys) ≡ last_version (last_version before xs) ys
+pub last_joined_rows : (before : VersionValue) (xs ys : List RowValue) → last_version before (xs ++ ys) ≡ last_version (last_version before xs) ys
 last_joined_rows before [] ys = refl
 last_joined_rows before (x ∷ xs) ys = last_joined_rows x.version xs ys
 

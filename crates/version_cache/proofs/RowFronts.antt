@@ -20,7 +20,7 @@ by_next day (row ∷ rows) =
     ap (λ b. cond b (row ∷ filter (λ row. nat_lt row.day (suc day)) rows) (filter (λ row. nat_lt row.day (suc day)) rows)) (up_to row.day day)
     ∙ ap (λ rest. cond (nat_le row.day day) (row ∷ rest) rest) (by_next day rows)
 
-seen_ascend : (rows : List Row) → is_ascending (days_in rows) ≡ true → is_ascending (map (λ row. row.day) (rows_view rows)) ≡ true
+pub seen_ascend : (rows : List Row) → is_ascending (days_in rows) ≡ true → is_ascending (map (λ row. row.day) (rows_view rows)) ≡ true
 seen_ascend rows up = sym (ap is_ascending (days_seen rows)) ∙ up
 
 -- before a day
@@ -102,7 +102,7 @@ fewer_after x touched (row ∷ rows) h =
         (both_left (nat_lt x row.day) (list_all (λ e. nat_lt x e) (map (λ row. row.day) rows)) h) below
     by false below = below
 
-fewer_ascend : (touched : ℕ) (rows : List RowValue) → is_ascending (map (λ row. row.day) rows) ≡ true → is_ascending (map (λ row. row.day) (rows_before touched rows)) ≡ true
+pub fewer_ascend : (touched : ℕ) (rows : List RowValue) → is_ascending (map (λ row. row.day) rows) ≡ true → is_ascending (map (λ row. row.day) (rows_before touched rows)) ≡ true
 fewer_ascend touched [] up = refl
 fewer_ascend touched (row ∷ rows) up =
     by (nat_lt row.day touched) (fewer_ascend touched rows (both_right (list_all (λ e. nat_lt row.day e) (map (λ row. row.day) rows)) (is_ascending (map (λ row. row.day) rows)) up))

@@ -4,3 +4,4 @@ pub mod Tables
 pub mod Kept
 pub mod Rows
 pub mod Seen
+pub mod Works

@@ -1,9 +1,13 @@
 -- Tables, as a clause sees them.
+use Rattle.std.specs.Prelude.{option_map}
 use Rattle.law_register.specs.Answer.Versions.{version_view}
 use Rattle.version_cache.specs.declared.table.Table.{Table}
 use Rattle.version_cache.specs.declared.revision.Revision.{Revision}
+use Rattle.version_cache.specs.declared.work_revision.WorkRevision.{WorkRevision}
+use Rattle.version_cache.specs.declared.work_tables.WorkTables.{WorkTables}
 use Rattle.version_cache.specs.Rows.{rows_view}
 use Rattle.version_cache.specs.Tables.{RevisionValue, TableValue}
+use Rattle.version_cache.specs.Works.{WorkRevisionValue, WorkValue}
 
 -- a table's reading, its act as enacted, and its rows
 abbrev pub table_view : Table → TableValue
@@ -16,3 +20,19 @@ table_view table = record {
 -- a revision's day, how many rows stay, and its rows
 abbrev pub revision_view : Revision → RevisionValue
 revision_view revision = record { touched = revision.touched; kept = revision.kept; rows = rows_view revision.rows.items }
+
+-- what is known of a work, and its tables
+abbrev pub work_view : WorkTables → WorkValue
+work_view tables = record {
+  known = tables.known;
+  force = table_view tables.force;
+  efficacy = table_view tables.efficacy;
+}
+
+-- the revisions of both tables
+abbrev pub both_view : Revision × Revision → RevisionValue × RevisionValue
+both_view both = (revision_view both.0, revision_view both.1)
+
+-- what is known now of a work, and the revisions of its tables
+abbrev pub work_revision_view : WorkRevision → WorkRevisionValue
+work_revision_view revision = record { known = revision.known; tables = option_map both_view revision.tables }

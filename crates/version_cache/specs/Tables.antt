@@ -63,6 +63,10 @@ revision_of table known touched = record {
   rows = rows_on known table.reading (breakpoints_from known touched);
 }
 
+-- a revision is of this table: as many rows stay as it has before the touched day
+abbrev pub IsRevisionOf : TableValue → RevisionValue → Type 0
+IsRevisionOf table revision = revision.kept ≡ length (rows_before revision.touched table.rows)
+
 -- a table after a revision: the rows before the touched day stay, and the new ones stand behind them
 abbrev pub committed : TableValue → RevisionValue → TableValue
 committed table revision = record table { rows = rows_before revision.touched table.rows ++ revision.rows }

@@ -5,12 +5,12 @@ ghost use Rattle.act_tree.specs.Seen.{tree_view};
 ghost use Rattle.law_register.specs.Answer.Versions.{version_view};
 ghost use Rattle.version_cache.specs.Days.{is_ascending};
 ghost use Rattle.version_cache.specs.Rows.{days_in, rows_view};
-ghost use Rattle.version_cache.specs.Seen.{table_view};
-ghost use Rattle.version_cache.specs.Tables.{rows_until, version_on};
+ghost use Rattle.version_cache.specs.Seen.{revision_view, table_view};
+ghost use Rattle.version_cache.specs.Tables.{IsRevisionOf, committed, last_version, rows_until, version_on};
 
 use crate::kept_version::KeptVersion;
 use crate::making::last_kept;
-use crate::{Row, Table};
+use crate::{Revision, Row, Table};
 use desk_base::{Day, Memory};
 use law_register::{Reading, Version};
 use std::alloc::Global;
@@ -25,6 +25,17 @@ fn count_until(rows: &[Row], day: Day) -> usize
             ensures { result ≡ nat_le row.now.day day }
         { row.day <= day },
     )
+}
+
+// The version of the last of these rows that is not after a day, or the one before them.
+fn last_by<'a>(before: &'a KeptVersion, rows: &'a [Row], day: Day) -> &'a KeptVersion
+    requires { is_ascending (days_in rows.now) ≡ true }
+    ensures { version_view result.now.version
+        ≡ last_version (version_view before.now.version) (rows_until day (rows_view rows.now)) }
+{
+    let count = count_until(rows, day);
+    let parts = rows.split_at(count);
+    last_kept(before, parts.0)
 }
 
 impl Table {
@@ -45,10 +56,17 @@ impl Table {
     pub(crate) fn kept_on(&self, day: Day) -> &KeptVersion
         ensures { version_view result.now.version ≡ version_on (table_view self.now) day }
     {
-        let rows = self.rows.as_slice();
-        let count = count_until(rows, day);
-        let parts = rows.split_at(count);
-        last_kept(&self.enacted, parts.0)
+        last_by(&self.enacted, self.rows.as_slice(), day)
+    }
+
+    fn kept_after<'a>(&'a self, revision: &'a Revision, day: Day) -> &'a KeptVersion
+        requires { IsRevisionOf (table_view self.now) (revision_view revision.now) }
+        ensures { version_view result.now.version
+            ≡ version_on (committed (table_view self.now) (revision_view revision.now)) day }
+    {
+        let parts = self.rows.as_slice().split_at(revision.kept);
+        let before = last_by(&self.enacted, parts.0, day);
+        last_by(before, revision.rows.as_slice(), day)
     }
 
     /// The version of a day. It takes no memory.
@@ -57,6 +75,15 @@ impl Table {
         ensures changes { (tree_view result.now.tree).changes ≡ min (length result.now.applied) (2 ^ 64 - 1) }
     {
         &self.kept_on(day).version
+    }
+
+    /// The version that `on` gives once a revision of this table is committed. It takes no memory.
+    pub fn on_after<'a>(&'a self, revision: &'a Revision, day: Day) -> &'a Version
+        requires { IsRevisionOf (table_view self.now) (revision_view revision.now) }
+        ensures version { version_view result.now
+            ≡ version_on (committed (table_view self.now) (revision_view revision.now)) day }
+    {
+        &self.kept_after(revision, day).version
     }
 
     /// The version of a day, in memory of its own.

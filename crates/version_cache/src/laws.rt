@@ -11,10 +11,11 @@ ghost use Rattle.law_register.specs.Register.KnownNext.{known_now};
 ghost use Rattle.law_register.specs.Register.Verdicts.{is_legal};
 ghost use Rattle.version_cache.specs.Agreement.{Agree};
 ghost use Rattle.version_cache.specs.Days.{last_until, order_by};
-ghost use Rattle.version_cache.specs.Seen.{table_view};
+ghost use Rattle.version_cache.specs.Seen.{table_view, work_view};
 ghost use Rattle.version_cache.specs.Tables.{IsRight, IsRightUntil, table_of};
+ghost use Rattle.version_cache.specs.Works.{AreRightIf, IsAlike, IsFor, IsForIf};
 
-use crate::Table;
+use crate::{Table, WorkTables};
 use desk_base::Day;
 use law_register::{Known, Reading};
 
@@ -60,4 +61,21 @@ pub fn works_change_from_their_touched_days()
         → known_now entries work ≡ Some old
         → known_now (entries ++ entry ∷ []) work ≡ Some new
         → Agree old new reading (day_among (touched_days entries entry) work) }
+{}
+
+/// Entries on other works move how many law entries there are, and how many are known: what is kept of a work is for it still.
+pub fn other_works_leave_tables(_old: &Known, _new: &Known, _tables: &WorkTables)
+    requires alike { IsAlike _old.now _new.now }
+    requires was { IsFor _old.now (work_view _tables.now) }
+    ensures { IsFor _new.now (work_view _tables.now) }
+{}
+
+/// What is kept of a work for what entries, each accepted behind those before it, make known of it: with one entry more the work is
+/// known still, and the tables are right before the day that the entry touches; on all days, where it touches none.
+pub fn tables_follow_an_entry(_tables: &WorkTables)
+    ensures { (entries : List Entry) (entry : Entry) (work : List ℕ)
+        → is_legal entries ≡ true
+        → IsForIf (known_at entries work (front entries)) (work_view _tables.now)
+        → AreRightIf (known_at (entries ++ entry ∷ []) work (front (entries ++ entry ∷ []))) (touched_day entries entry)
+        (work_view _tables.now) }
 {}

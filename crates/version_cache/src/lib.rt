@@ -11,7 +11,11 @@ mod revision;
 mod row;
 mod table;
 mod tabling;
+mod work_revision;
+mod work_tables;
 
 pub use revision::Revision;
 pub use row::Row;
 pub use table::Table;
+pub use work_revision::WorkRevision;
+pub use work_tables::WorkTables;

@@ -6,7 +6,7 @@ ghost use Rattle.law_register.specs.Answer.Soundness.{IsSound};
 ghost use Rattle.version_cache.specs.Days.{days_before, last_day, order_by};
 ghost use Rattle.version_cache.specs.Rows.{rows_view};
 ghost use Rattle.version_cache.specs.Seen.{revision_view, table_view};
-ghost use Rattle.version_cache.specs.Tables.{IsRight, IsRightBefore, committed, revision_of, rows_before};
+ghost use Rattle.version_cache.specs.Tables.{IsRevisionOf, IsRight, IsRightBefore, committed, revision_of, rows_before};
 
 use crate::making::{Course, Start, add_rows, last_kept};
 use crate::{Revision, Row, Table};
@@ -117,8 +117,7 @@ impl Table {
 
     /// Takes a revision that was made from this table. It takes no memory.
     pub fn commit(&mut self, revision: Revision)
-        requires { (revision_view revision).kept
-            ≡ length (rows_before (revision_view revision).touched (table_view self.old).rows) }
+        requires { IsRevisionOf (table_view self.old) (revision_view revision) }
         ensures { table_view self.new ≡ committed (table_view self.old) (revision_view revision) }
     {
         let Revision { kept, rows, .. } = revision;

@@ -1,0 +1,6 @@
+use Rattle.version_cache.specs.Seen.{table_view}
+use Rattle.version_cache.proofs.Renewed.{made_for}
+use Rattle.version_cache.proofs.work_tables.WorkTables.make.Goals as goal
+
+pub returns-in-Ok-clause-right : goal.returns-in-Ok-clause-right
+returns-in-Ok-clause-right g c = made_for c.args.known (table_view c.in-Ok.force) (table_view c.in-Ok.efficacy) c.in-Ok.ensures.force c.in-Ok.ensures.efficacy

@@ -1,0 +1,187 @@
+//! WorkTables: what is kept of an enacted work. A clause sees what is known of it, and its tables in both readings (`work_view`).
+
+ghost use Rattle.std.specs.Prelude.{◌≡◌, ◌+◌, ◌≤◌, IfOk, Some, option_map};
+ghost use Rattle.act_tree.specs.Seen.{tree_view};
+ghost use Rattle.law_register.specs.declared.register.known.Known.{Known as KnownValue};
+ghost use Rattle.law_register.specs.Answer.Replay.{replay_on};
+ghost use Rattle.law_register.specs.Answer.Soundness.{IsSound};
+ghost use Rattle.law_register.specs.Answer.Versions.{version_view};
+ghost use Rattle.version_cache.specs.Seen.{both_view, table_view, work_revision_view, work_view};
+ghost use Rattle.version_cache.specs.Tables.{IsRight, table_of, version_on};
+ghost use Rattle.version_cache.specs.Works as works;
+
+use crate::{Revision, Table, WorkRevision};
+use desk_base::{Day, Memory, Steps};
+use law_register::{Known, Reading, Replayer, Version};
+use std::alloc::Global;
+use std::sync::ledger::Ledger;
+
+/// What a desk keeps of an enacted work: what is known of it at the front, and its versions by day in both readings.
+#[derive(Debug, Drop)]
+pub struct WorkTables {
+    pub(crate) known: Known,
+    pub(crate) force: Table,
+    pub(crate) efficacy: Table,
+}
+
+// The tables of force and of efficacy.
+fn make_both<P: Replayer, L: Ledger>(
+    alloc: Global,
+    replayer: &P,
+    known: &Known,
+    steps: &mut Steps<L>,
+) -> Result<(Table, Table), Memory>
+    requires { IsSound known.now }
+    ensures force { IfOk result (λ both. table_view both.0 ≡ table_of known.now Reading.Force) }
+    ensures efficacy { IfOk result (λ both. table_view both.1 ≡ table_of known.now Reading.Efficacy) }
+    ensures steps { steps.new ≤ steps.old + works.both_costs known.now (Some 0) }
+{
+    let force = Table::make(alloc, replayer, known, Reading::Force, steps)?;
+    let efficacy = Table::make(alloc, replayer, known, Reading::Efficacy, steps)?;
+    Ok((force, efficacy))
+}
+
+impl WorkTables {
+    /// What is to be kept of a work of which this is known.
+    pub fn make<P: Replayer, L: Ledger>(
+        alloc: Global,
+        replayer: &P,
+        known: Known,
+        steps: &mut Steps<L>,
+    ) -> Result<WorkTables, Memory>
+        requires { IsSound known }
+        ensures known { IfOk result (λ made. (work_view made).known ≡ known) }
+        ensures right { IfOk result (λ made. works.IsFor known (work_view made)) }
+        ensures steps { steps.new ≤ steps.old + works.both_costs known (Some 0) }
+    {
+        match make_both(alloc, replayer, &known, steps) {
+            Ok((force, efficacy)) => Ok(WorkTables {
+                known,
+                force,
+                efficacy,
+            }),
+            Err(Memory) => {
+                drop(known);
+                Err(Memory)
+            }
+        }
+    }
+
+    /// What is known of the work.
+    pub fn known(&self) -> &Known
+        ensures { result.now ≡ (work_view self.now).known }
+    {
+        &self.known
+    }
+
+    /// Its table in a reading.
+    pub fn table(&self, reading: Reading) -> &Table
+        ensures { table_view result.now ≡ works.table_in reading (work_view self.now) }
+    {
+        match reading {
+            Reading::Force => &self.force,
+            Reading::Efficacy => &self.efficacy,
+        }
+    }
+
+    /// The version of a day, in a reading. It takes no memory.
+    pub fn on(&self, reading: Reading, day: Day) -> &Version
+        ensures version { version_view result.now ≡ version_on (works.table_in reading (work_view self.now)) day }
+        ensures replay { (known : KnownValue) → works.IsFor known (work_view self.now)
+            → version_view result.now ≡ replay_on known reading day }
+    {
+        self.table(reading).on(day)
+    }
+
+    fn revise_both<P: Replayer, L: Ledger>(
+        &self,
+        alloc: Global,
+        replayer: &P,
+        known: &Known,
+        touched: Option<Day>,
+        steps: &mut Steps<L>,
+    ) -> Result<Option<(Revision, Revision)>, Memory>
+        requires sound { IsSound known.now }
+        requires right { works.AreRightUntil known.now touched (work_view self.now) }
+        ensures revisions { IfOk result (λ tables. option_map both_view tables
+            ≡ works.revisions_of (work_view self.now) known.now touched) }
+        ensures steps { steps.new ≤ steps.old + works.both_costs known.now touched }
+    {
+        let Some(day) = touched else {
+            return Ok(None);
+        };
+        let force = self.force.revise(alloc, replayer, known, day, steps)?;
+        let efficacy = self.efficacy.revise(alloc, replayer, known, day, steps)?;
+        Ok(Some((force, efficacy)))
+    }
+
+    /// What is to be kept for what is known now, where the tables are right for that before the touched day: both revised from that
+    /// day on. Where no day is touched the tables stay, and what is known is renewed.
+    pub fn revise<P: Replayer, L: Ledger>(
+        &self,
+        alloc: Global,
+        replayer: &P,
+        known: Known,
+        touched: Option<Day>,
+        steps: &mut Steps<L>,
+    ) -> Result<WorkRevision, Memory>
+        requires sound { IsSound known }
+        requires right { works.AreRightUntil known touched (work_view self.now) }
+        ensures revision { IfOk result (λ revision. work_revision_view revision
+            ≡ works.work_revision_of (work_view self.now) known touched) }
+        ensures fits { IfOk result
+            (λ revision. works.AreRevisionsOf (work_view self.now) (work_revision_view revision).tables) }
+        ensures right { IfOk result
+            (λ revision. works.IsFor known (works.renewed (work_view self.now) (work_revision_view revision))) }
+        ensures steps { steps.new ≤ steps.old + works.both_costs known touched }
+    {
+        match self.revise_both(alloc, replayer, &known, touched, steps) {
+            Ok(tables) => Ok(WorkRevision { known, tables }),
+            Err(Memory) => {
+                drop(known);
+                Err(Memory)
+            }
+        }
+    }
+
+    /// Takes a revision that was made from these tables. It takes no memory.
+    pub fn commit(&mut self, revision: WorkRevision)
+        requires { works.AreRevisionsOf (work_view self.old) (work_revision_view revision).tables }
+        ensures { work_view self.new ≡ works.renewed (work_view self.old) (work_revision_view revision) }
+    {
+        let WorkRevision { known, tables } = revision;
+        if let Some((force, efficacy)) = tables {
+            self.force.commit(force);
+            self.efficacy.commit(efficacy);
+        }
+        self.known = known;
+    }
+
+    /// The version that `on` gives once a revision is committed, if there is one. It takes no memory.
+    pub fn on_after<'a>(
+        &'a self,
+        revision: Option<&'a WorkRevision>,
+        reading: Reading,
+        day: Day,
+    ) -> &'a Version
+        requires { works.IsRevisionIf (work_view self.now) (option_map (λ r. work_revision_view r.now) revision) }
+        ensures version { let taken = option_map (λ r. work_revision_view r.now) revision.entry in
+            version_view result.now ≡ version_on (works.table_in reading (works.renewed_if (work_view self.now) taken)) day }
+        ensures replay { let taken = option_map (λ r. work_revision_view r.now) revision.entry in
+            (known : KnownValue) → works.IsFor known (works.renewed_if (work_view self.now) taken)
+            → version_view result.now ≡ replay_on known reading day }
+    {
+        match revision {
+            Some(
+                WorkRevision {
+                    tables: Some((force, efficacy)),
+                    ..
+                },
+            ) => match reading {
+                Reading::Force => self.force.on_after(force, day),
+                Reading::Efficacy => self.efficacy.on_after(efficacy, day),
+            },
+            _ => self.on(reading, day),
+        }
+    }
+}
