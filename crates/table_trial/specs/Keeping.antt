@@ -1,38 +1,27 @@
--- The table that is kept, beside the entries of a register.
-use Rattle.std.specs.Prelude.{◌≡◌, ℕ, true, List, Option, Some, None}
+-- What is kept of a work, beside the entries of a register.
+use Rattle.std.specs.Prelude.{◌≡◌, ℕ, true, List, Option, IfSome}
 use Rattle.law_register.specs.declared.register.entry.Entry.{Entry}
-use Rattle.law_register.specs.declared.register.known.Known.{Known}
 use Rattle.law_register.specs.Register.KnownIds.{known_at}
 use Rattle.law_register.specs.Register.LawList.{front}
 use Rattle.law_register.specs.Register.Verdicts.{is_legal}
-use Rattle.version_cache.specs.Seen.{table_view}
-use Rattle.version_cache.specs.Tables.{TableValue, IsRightUntil}
+use Rattle.version_cache.specs.Seen.{work_view}
+use Rattle.version_cache.specs.Works.{AreRightIf, IsForIf}
 use Rattle.table_trial.specs.declared.kept.Kept.{Kept}
 
--- a table is right for what is known of its work, on each day before one; on all days, where there is no such day. A work that is not
--- known has no table
-abbrev pub IsRightFor : Option Known → Option ℕ → TableValue → Type 0
-IsRightFor None until table = ⊥
-IsRightFor (Some known) until table = IsRightUntil known until table
-
--- the table of a work is right before a day for what the entries make known of it
+-- the tables that are kept are right before a day for what the entries make known of their work
 abbrev pub IsHeldUntil : List Entry → Option ℕ → Kept → Type 0
-IsHeldUntil entries until kept = IsRightFor (known_at entries kept.work (front entries)) until (table_view kept.table)
+IsHeldUntil entries until kept = AreRightIf (known_at entries kept.work (front entries)) until (work_view kept.tables)
 
--- the table of a work is right on all days
+-- what is kept is for what the entries make known of its work
 abbrev pub IsHeld : List Entry → Kept → Type 0
-IsHeld entries kept = IsHeldUntil entries None kept
+IsHeld entries kept = IsForIf (known_at entries kept.work (front entries)) (work_view kept.tables)
 
--- the table that is kept, if one is, is right before a day
-abbrev pub IsHeldIf : List Entry → Option ℕ → Option Kept → Type 0
-IsHeldIf entries until None = Unit {0}
-IsHeldIf entries until (Some kept) = IsHeldUntil entries until kept
-
--- each entry was accepted behind those before it, and the table that is kept, if one is, is right for them before a day
+-- each entry was accepted behind those before it, and what is kept, if anything is, is right for them before a day
 pub record HoldsUntil (entries : List Entry) (until : Option ℕ) (kept : Option Kept) : Type 0 where
   pub legal : is_legal entries ≡ true
-  pub right : IsHeldIf entries until kept
+  pub right : IfSome kept (IsHeldUntil entries until)
 
--- the same, where it is right on all days
-abbrev pub Holds : List Entry → Option Kept → Type 0
-Holds entries kept = HoldsUntil entries None kept
+-- each entry was accepted behind those before it, and what is kept, if anything is, is for them
+pub record Holds (entries : List Entry) (kept : Option Kept) : Type 0 where
+  pub legal : is_legal entries ≡ true
+  pub held : IfSome kept (IsHeld entries)

@@ -7,8 +7,8 @@ ghost use Rattle.law_register.specs.Answer.Soundness.{IsSound};
 ghost use Rattle.law_register.specs.Answer.Versions.{version_view};
 ghost use Rattle.law_register.specs.declared.answer.answer.Answer.{Answer};
 ghost use Rattle.law_register.specs.declared.answer.queries.QueryRule.{QueryRule};
-ghost use Rattle.version_cache.specs.Seen.{table_view};
-ghost use Rattle.version_cache.specs.Tables.{IsRight};
+ghost use Rattle.version_cache.specs.Seen.{work_view};
+ghost use Rattle.version_cache.specs.Works.{IsFor, table_in};
 ghost use Rattle.table_trial.specs.Answering as spec;
 ghost use Rattle.table_trial.specs.Keeping.{IsHeld};
 
@@ -72,12 +72,12 @@ fn line_of_version(
 
 // The line of what a table gives on a day.
 fn line_of_table(alloc: Global, known: &Known, kept: &Kept, day: Day) -> Result<Vec<u8>, Memory>
-    requires { IsRight known.now (table_view kept.now.table) }
+    requires { IsFor known.now (work_view kept.now.tables) }
     ensures { IfOk result
-        (λ line. line.items ≡ spec.line_on kept.now.work known.now (table_view kept.now.table).reading day) }
+        (λ line. line.items ≡ spec.line_on kept.now.work known.now kept.now.reading day) }
 {
-    let reading = kept.table.reading();
-    line_of_version(alloc, known, kept.table.on(day), &kept.work, reading, day)
+    let version = kept.tables.on(kept.reading, day);
+    line_of_version(alloc, known, version, &kept.work, kept.reading, day)
 }
 
 // The line of what a replay from scratch gives on a day.
@@ -90,15 +90,14 @@ fn line_of_replay<L: Ledger>(
 ) -> Result<Vec<u8>, Memory>
     requires { IsSound known.now }
     ensures { IfOk result
-        (λ line. line.items ≡ spec.line_on kept.now.work known.now (table_view kept.now.table).reading day) }
+        (λ line. line.items ≡ spec.line_on kept.now.work known.now kept.now.reading day) }
 {
-    let reading = kept.table.reading();
-    let version = FromEnacted.replay(alloc, known, reading, day, steps)?;
-    line_of_version(alloc, known, &version, &kept.work, reading, day)
+    let version = FromEnacted.replay(alloc, known, kept.reading, day, steps)?;
+    line_of_version(alloc, known, &version, &kept.work, kept.reading, day)
 }
 
 /// The line of what the table that is kept gives on a day.
-#[tactic(auto, using(crate::proofs::Holding::right_now))]
+#[tactic(auto, using(crate::proofs::Holding::for_now))]
 pub fn told_by_table(
     alloc: Global,
     register: &Register,
@@ -107,7 +106,7 @@ pub fn told_by_table(
 ) -> Result<Vec<u8>, Memory>
     requires { IsHeld register.now.entries kept.now }
     ensures { IfOk result (λ line. line.items
-        ≡ spec.told_on register.now.entries kept.now.work (table_view kept.now.table).reading day) }
+        ≡ spec.told_on register.now.entries kept.now.work kept.now.reading day) }
 {
     match known_now(alloc, register, &kept.work)? {
         Some(known) => line_of_table(alloc, &known, kept, day),
@@ -124,7 +123,7 @@ pub fn told_by_replay<L: Ledger>(
     steps: &mut Steps<L>,
 ) -> Result<Vec<u8>, Memory>
     ensures { IfOk result (λ line. line.items
-        ≡ spec.told_on register.now.entries kept.now.work (table_view kept.now.table).reading day) }
+        ≡ spec.told_on register.now.entries kept.now.work kept.now.reading day) }
 {
     match known_now(alloc, register, &kept.work)? {
         Some(known) => line_of_replay(alloc, &known, kept, day, steps),
@@ -141,7 +140,7 @@ fn is_same_on<L: Ledger>(
     steps: &mut Steps<L>,
 ) -> Result<bool, Memory>
     requires sound { IsSound known.now }
-    requires right { IsRight known.now (table_view kept.now.table) }
+    requires right { IsFor known.now (work_view kept.now.tables) }
     ensures { IfOk result (λ same. same ≡ true) }
 {
     let kept_line = line_of_table(alloc, known, kept, day)?;
@@ -158,7 +157,7 @@ fn is_same_about<L: Ledger>(
     steps: &mut Steps<L>,
 ) -> Result<bool, Memory>
     requires sound { IsSound known.now }
-    requires right { IsRight known.now (table_view kept.now.table) }
+    requires right { IsFor known.now (work_view kept.now.tables) }
 {
     let before = day.number() - 1;
     for shift in 0..3 {
@@ -179,7 +178,7 @@ fn comparison_line<L: Ledger>(
     steps: &mut Steps<L>,
 ) -> Result<Vec<u8>, Memory>
     requires sound { IsSound known.now }
-    requires right { IsRight known.now (table_view kept.now.table) }
+    requires right { IsFor known.now (work_view kept.now.tables) }
 {
     let days = FromEnacted.breakpoints(alloc, known)?;
     for day in days.as_slice() {
@@ -194,7 +193,7 @@ fn comparison_line<L: Ledger>(
 
 /// The line of whether the table that is kept gives what a replay from scratch gives on each breakpoint, the day before it and the day
 /// after.
-#[tactic(auto, using(crate::proofs::Holding::right_now))]
+#[tactic(auto, using(crate::proofs::Holding::for_now))]
 pub fn told_of_comparison<L: Ledger>(
     alloc: Global,
     register: &Register,
@@ -251,15 +250,15 @@ pub fn told_of_scratch<L: Ledger>(
     steps: &mut Steps<L>,
 ) -> Result<Vec<u8>, Memory> {
     match known_now(alloc, register, &kept.work)? {
-        Some(known) => scratch_line(alloc, &known, kept.table.reading(), steps),
+        Some(known) => scratch_line(alloc, &known, kept.reading, steps),
         None => said(alloc, "none"),
     }
 }
 
 /// The line of how many rows the table that is kept has by a day.
 pub fn told_of_rows(alloc: Global, kept: &Kept, day: Day) -> Result<Vec<u8>, Memory>
-    ensures { IfOk result (λ line. line.items ≡ spec.rows_line (table_view kept.now.table) day) }
+    ensures { IfOk result (λ line. line.items ≡ spec.rows_line (table_in kept.now.reading (work_view kept.now.tables)) day) }
 {
-    let rows = kept.table.breakpoint(day);
+    let rows = kept.table().breakpoint(day);
     Ok(format!(in alloc; "rows {rows}")?.into_bytes())
 }

@@ -40,3 +40,16 @@ pub fn cost_from(
     }
     Ok(cost)
 }
+
+/// What it costs to revise them from the touched day on, if there is one.
+pub fn cost_touched(
+    alloc: Global,
+    known: &Known,
+    reading: Reading,
+    touched: &Option<Day>,
+) -> Result<u64, Memory> {
+    match touched {
+        Some(day) => cost_from(alloc, known, reading, *day),
+        None => Ok(0),
+    }
+}

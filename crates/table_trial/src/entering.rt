@@ -1,11 +1,12 @@
-//! Entering: a command is judged, and where it is accepted the table that is kept is revised from the day that it touches.
+//! Entering: a command is judged, and where it is accepted what is kept is revised from the day that it touches.
 
-ghost use Rattle.std.specs.Prelude.{◌≡◌, ◌++◌, ◌∷◌, [], true, IfOk, OnOk, Some};
+ghost use Rattle.std.specs.Prelude.{◌≡◌, ◌++◌, ◌∷◌, [], true, IfOk, OnOk};
 ghost use Rattle.law_register.specs.Answer.Touched as spec;
 ghost use Rattle.law_register.specs.Law.Spelling.{is_well_spelled};
 ghost use Rattle.law_register.specs.Register.Verdicts.{is_accepted, verdict};
 ghost use Rattle.table_trial.specs.Keeping.{Holds, HoldsUntil, IsHeld, IsHeldUntil};
 
+use crate::costs::cost_touched;
 use crate::kept::{Kept, known_now, revise};
 use crate::replies::{repeat_line, touching_line, untouched_line};
 use akn_json::{Asked, ReadFail, put_form_fault, put_rule, read_command};
@@ -63,33 +64,37 @@ fn append_touching(
     }
 }
 
-// Revises the table of a work from a day on, and gives what it costs.
-#[tactic(auto, using(crate::proofs::Holding::right_before_now, crate::proofs::Holding::held_now, crate::proofs::Holding::none_now))]
+// Revises the tables of a work from the touched day on, if there is one, and gives what that costs in the reading that is asked.
+#[tactic(auto, using(crate::proofs::Holding::right_until_now, crate::proofs::Holding::held_now, crate::proofs::Holding::none_now))]
 fn revise_kept<L: Ledger>(
     alloc: Global,
     register: &Register,
     kept: &mut Kept,
-    touched: Day,
+    touched: Option<Day>,
     steps: &mut Steps<L>,
 ) -> Result<u64, Memory>
-    requires { IsHeldUntil register.now.entries (Some touched) kept.old }
+    requires { IsHeldUntil register.now.entries touched kept.old }
     ensures { OnOk result (IsHeld register.now.entries kept.new) }
 {
     match known_now(alloc, register, &kept.work)? {
-        Some(known) => revise(alloc, &known, &mut kept.table, touched, steps),
+        Some(known) => {
+            let cost = cost_touched(alloc, &known, kept.reading, &touched)?;
+            revise(alloc, known, &mut kept.tables, touched, steps)?;
+            Ok(cost)
+        }
         None => Ok(0),
     }
 }
 
-// Revises the table that is kept, if one is, from the touched day on; and gives what it costs.
+// Revises what is kept, if anything is, from the touched day on; and gives what it costs.
 fn follow<L: Ledger>(
     alloc: Global,
     register: &Register,
     kept: &mut Option<Kept>,
-    touched: Day,
+    touched: Option<Day>,
     steps: &mut Steps<L>,
 ) -> Result<u64, Memory>
-    requires { HoldsUntil register.now.entries (Some touched) kept.old }
+    requires { HoldsUntil register.now.entries touched kept.old }
     ensures { OnOk result (Holds register.now.entries kept.new) }
 {
     match kept {
@@ -98,7 +103,7 @@ fn follow<L: Ledger>(
     }
 }
 
-// The line of an entry that was appended, once the table that is kept is revised from the day that it touches, if there is one.
+// The line of an entry that was appended, once what is kept is revised from the day that it touches, if there is one.
 fn told_of_touched<L: Ledger>(
     alloc: Global,
     register: &Register,
@@ -112,10 +117,13 @@ fn told_of_touched<L: Ledger>(
 {
     match touched {
         Some(day) => {
-            let cost = follow(alloc, register, kept, day, steps)?;
+            let cost = follow(alloc, register, kept, Some(day), steps)?;
             touching_line(alloc, reply, day, cost)
         }
-        None => untouched_line(alloc, reply),
+        None => {
+            let _ = follow(alloc, register, kept, None, steps)?;
+            untouched_line(alloc, reply)
+        }
     }
 }
 

@@ -1,29 +1,38 @@
-//! Kept: a table of a work, which is revised with each entry.
+//! Kept: what is kept of a work, which is revised with each entry.
 
 ghost use Rattle.std.specs.Prelude.{◌≡◌, ◌+◌, ◌≤◌, Some, IfOk, IfSome, OnOk};
-ghost use Rattle.law_register.specs.Answer.Costs.{revision_cost};
 ghost use Rattle.law_register.specs.Answer.Soundness.{IsSound};
 ghost use Rattle.law_register.specs.Register.KnownIds as known;
 ghost use Rattle.law_register.specs.Register.LawList.{front};
-ghost use Rattle.version_cache.specs.Seen.{table_view};
-ghost use Rattle.version_cache.specs.Tables.{IsRight, IsRightBefore};
+ghost use Rattle.version_cache.specs.Seen.{table_view, work_view};
+ghost use Rattle.version_cache.specs.Works.{AreRightUntil, IsFor, both_costs, table_in};
 
-use crate::costs::cost_from;
 use desk_base::{Day, Memory, Steps};
 use frbr_names::WorkName;
 use law_register::{Known, Reading, Register, known_at};
 use replay_core::FromEnacted;
 use std::alloc::Global;
 use std::sync::ledger::Ledger;
-use version_cache::Table;
+use version_cache::{Table, WorkTables};
 
-/// A work, and a table of it.
+/// A work, its tables, and the reading in which they are asked.
 #[derive(Debug, Drop)]
 pub struct Kept {
     /// The work.
     pub work: WorkName,
-    /// Its table.
-    pub table: Table,
+    /// The reading.
+    pub reading: Reading,
+    /// What is kept of the work.
+    pub tables: WorkTables,
+}
+
+impl Kept {
+    /// The table that is asked.
+    pub fn table(&self) -> &Table
+        ensures { table_view result.now ≡ table_in self.now.reading (work_view self.now.tables) }
+    {
+        self.tables.table(self.reading)
+    }
 }
 
 /// What a register knows of a work at its front.
@@ -39,38 +48,46 @@ pub fn known_now(
     known_at(alloc, register, work, register.front())
 }
 
-/// The table of a work.
+/// What is kept of a work of which this is known.
 pub fn make<L: Ledger>(
     alloc: Global,
-    known: &Known,
+    known: Known,
     work: WorkName,
     reading: Reading,
     steps: &mut Steps<L>,
 ) -> Result<Kept, Memory>
-    requires { IsSound known.now }
+    requires { IsSound known }
     ensures work { IfOk result (λ kept. kept.work ≡ work) }
-    ensures right { IfOk result (λ kept. IsRight known.now (table_view kept.table)) }
-    ensures steps { steps.new ≤ steps.old + revision_cost known.now reading 0 }
+    ensures right { IfOk result (λ kept. IsFor known (work_view kept.tables)) }
+    ensures steps { steps.new ≤ steps.old + both_costs known (Some 0) }
 {
-    let table = Table::make(alloc, &FromEnacted, known, reading, steps)?;
-    Ok(Kept { work, table })
+    match WorkTables::make(alloc, &FromEnacted, known, steps) {
+        Ok(tables) => Ok(Kept {
+            work,
+            reading,
+            tables,
+        }),
+        Err(Memory) => {
+            drop(work);
+            Err(Memory)
+        }
+    }
 }
 
-/// Revises a table from a day on, and gives what it costs.
+/// Revises tables from the touched day on, if there is one, for what is known now.
 pub fn revise<L: Ledger>(
     alloc: Global,
-    known: &Known,
-    table: &mut Table,
-    touched: Day,
+    known: Known,
+    tables: &mut WorkTables,
+    touched: Option<Day>,
     steps: &mut Steps<L>,
-) -> Result<u64, Memory>
-    requires sound { IsSound known.now }
-    requires right { IsRightBefore known.now touched (table_view table.old) }
-    ensures right { OnOk result (IsRight known.now (table_view table.new)) }
-    ensures steps { steps.new ≤ steps.old + revision_cost known.now (table_view table.old).reading touched }
+) -> Result<(), Memory>
+    requires sound { IsSound known }
+    requires right { AreRightUntil known touched (work_view tables.old) }
+    ensures right { OnOk result (IsFor known (work_view tables.new)) }
+    ensures steps { steps.new ≤ steps.old + both_costs known touched }
 {
-    let cost = cost_from(alloc, known, table.reading(), touched)?;
-    let revision = table.revise(alloc, &FromEnacted, known, touched, steps)?;
-    table.commit(revision);
-    Ok(cost)
+    let revision = tables.revise(alloc, &FromEnacted, known, touched, steps)?;
+    tables.commit(revision);
+    Ok(())
 }

@@ -22,7 +22,8 @@ fn no_such_line(alloc: Global) -> Result<Vec<u8>, Memory> {
     said(alloc, "no such line")
 }
 
-// Makes the table of a work, which is kept in the place of another; and tells how many rows it has, and what it costs.
+// Makes the tables of a work, which are kept in the place of others; and tells how many rows the one in this reading has, and what
+// it costs.
 #[tactic(auto, using(crate::proofs::Holding::held_now))]
 fn told_of_making<L: Ledger>(
     alloc: Global,
@@ -38,8 +39,10 @@ fn told_of_making<L: Ledger>(
     match known_now(alloc, register, &work)? {
         Some(known) => {
             let cost = cost_from(alloc, &known, reading, Day::from_number(1).unwrap())?;
-            let made = make(alloc, &known, work, reading, steps)?;
-            let rows = made.table.breakpoint(Day::from_number(3_652_059).unwrap());
+            let made = make(alloc, known, work, reading, steps)?;
+            let rows = made
+                .table()
+                .breakpoint(Day::from_number(3_652_059).unwrap());
             *kept = Some(made);
             Ok(format!(in alloc; "rows {rows} cost {cost}")?.into_bytes())
         }

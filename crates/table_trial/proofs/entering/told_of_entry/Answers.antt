@@ -1,4 +1,3 @@
-use Rattle.std.proofs.Common.{◌≡◌}
 use Rattle.table_trial.proofs.Following.{held_then}
 use Rattle.table_trial.proofs.entering.told_of_entry.Goals as goal
 
