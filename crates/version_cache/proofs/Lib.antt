@@ -20,3 +20,5 @@ pub mod Ahead
 pub mod Renewed
 pub mod Alike
 pub mod Following
+pub mod OneOrder
+pub mod OneVersion

@@ -5,8 +5,8 @@ use Rattle.law_register.specs.declared.answer.question.Reading.TheVariants.{Forc
 use Rattle.law_register.specs.declared.register.known.Known.{Known}
 use Rattle.law_register.specs.Answer.Costs.{revision_cost}
 use Rattle.law_register.specs.Answer.Replay.{replay_on}
-use Rattle.version_cache.specs.Tables.{IsRight, IsRightBefore, IsRightUntil, RevisionValue, TableValue, table_of, version_on}
-use Rattle.version_cache.specs.Works.{AreRightUntil, IsAlike, IsFor, WorkValue, both_costs, renewed_by, revisions_of, table_in}
+use Rattle.version_cache.specs.Tables.{IsRight, RevisionValue, TableValue, table_of, version_on}
+use Rattle.version_cache.specs.Works.{AreRightUntil, IsAlike, IsFor, WorkValue, both_costs, renewed_by, revisions_of, table_in, work_of}
 use Rattle.version_cache.proofs.Revised.{revised_right}
 use Rattle.version_cache.proofs.Right.{made_right}
 
@@ -18,21 +18,24 @@ in_both P force efficacy Efficacy = efficacy
 itself : (known : Known) → IsAlike known known
 itself known = record { act = refl; enacted = refl; mods = refl }
 
--- the tables made of what is known are for it
-pub made_for : (known : Known) (force efficacy : TableValue) → force ≡ table_of known Force → efficacy ≡ table_of known Efficacy
-    → IsFor known (record { known = known; force = force; efficacy = efficacy })
-made_for known force efficacy is also = record {
+-- what is made of what is known is for it
+made_for : (known : Known) → IsFor known (work_of known)
+made_for known = record {
   alike = itself known;
   tables = record {
-    readings = in_both (λ r. (table_in r work).reading ≡ r) (ap (λ (t : TableValue). t.reading) is) (ap (λ (t : TableValue). t.reading) also);
-    right =
-        in_both (λ r. IsRight known (table_in r work)) (subst (IsRight known) (sym is) (made_right known Force))
-        (subst (IsRight known) (sym also) (made_right known Efficacy));
+    readings = in_both (λ r. (table_in r (work_of known)).reading ≡ r) refl refl;
+    right = in_both (λ r. IsRight known (table_in r (work_of known))) (made_right known Force) (made_right known Efficacy);
   };
 }
-  where
-    work : WorkValue
-    work = record { known = known; force = force; efficacy = efficacy }
+
+pub made_is : (known : Known) (force efficacy : TableValue) → force ≡ table_of known Force → efficacy ≡ table_of known Efficacy
+    → (let made : WorkValue = record { known = known; force = force; efficacy = efficacy } in made) ≡ work_of known
+made_is known force efficacy is also =
+    ap (λ (t : TableValue). let made : WorkValue = record { known = known; force = t; efficacy = efficacy } in made) is
+    ∙ ap (λ (t : TableValue). let made : WorkValue = record { known = known; force = table_of known Force; efficacy = t } in made) also
+
+pub made_is_for : (known : Known) (work : WorkValue) → work ≡ work_of known → IsFor known work
+made_is_for known work is = subst (IsFor known) (sym is) (made_for known)
 
 -- tables that are right before the touched day are for what is known, once they are revised
 pub renewed_for : (known : Known) (touched : Option ℕ) (work : WorkValue) → AreRightUntil known touched work → IsFor known (renewed_by work known (revisions_of work known touched))
@@ -63,26 +66,20 @@ pub renewed_is_for : (known : Known) (touched : Option ℕ) (work : WorkValue) (
     → tables ≡ revisions_of work known touched → IsFor known (renewed_by work known tables)
 renewed_is_for known touched work tables right is = subst (λ t. IsFor known (renewed_by work known t)) (sym is) (renewed_for known touched work right)
 
--- each table is right before the day that is touched
-pub right_before : (known : Known) (touched : Option ℕ) (day : ℕ) (work : WorkValue) (reading : Reading) → touched ≡ Some day → AreRightUntil known touched work
-    → IsRightBefore known day (table_in reading work)
-right_before known touched day work reading is right = subst (λ until. IsRightUntil known until (table_in reading work)) is (right.right reading)
+-- the tables are right before the day that is touched
+pub right_before : (known : Known) (touched : Option ℕ) (day : ℕ) (work : WorkValue) → touched ≡ Some day → AreRightUntil known touched work → AreRightUntil known (Some day) work
+right_before known touched day work is right = subst (λ until. AreRightUntil known until work) is right
 
 -- the steps of both revisions
 pub both_steps : (known : Known) (touched : Option ℕ) (day : ℕ) (work : WorkValue) (old mid now : ℕ) → touched ≡ Some day → AreRightUntil known touched work
-    → mid ≤ old + revision_cost known work.force.reading day → now ≤ mid + revision_cost known work.efficacy.reading day → now ≤ old + both_costs known touched
+    → mid ≤ old + revision_cost known work.force.reading day → now ≤ mid + revision_cost known Efficacy day → now ≤ old + both_costs known touched
 both_steps known touched day work old mid now is right first then =
-    subst (λ (cost : ℕ). now ≤ old + cost) (ap (λ a. a + revision_cost known work.efficacy.reading day) (ap (λ r. revision_cost known r day) (right.readings Force))
-    ∙ ap (λ b. revision_cost known Force day + b) (ap (λ r. revision_cost known r day) (right.readings Efficacy)) ∙ sym (ap (both_costs known) is))
-    (sum old mid now (revision_cost known work.force.reading day) (revision_cost known work.efficacy.reading day) first then)
+    subst (λ (cost : ℕ). now ≤ old + cost)
+    (ap (λ r. revision_cost known r day + revision_cost known Efficacy day) (right.readings Force) ∙ sym (ap (both_costs known) is))
+    (sum old mid now (revision_cost known work.force.reading day) (revision_cost known Efficacy day) first then)
   where
     sum : (old mid now a b : ℕ) → mid ≤ old + a → now ≤ mid + b → now ≤ old + (a + b)
     sum old mid now a b h k = omega arith
-
--- the steps of the first alone
-pub first_steps : (known : Known) (touched : Option ℕ) (day : ℕ) (work : WorkValue) (old mid : ℕ) → touched ≡ Some day → AreRightUntil known touched work
-    → mid ≤ old + revision_cost known work.force.reading day → mid ≤ old + both_costs known touched
-first_steps known touched day work old mid is right first = both_steps known touched day work old mid mid is right first (omega arith)
 
 -- what is for a work gives on each day what a replay from scratch gives
 pub gives_replay : (known : Known) (work : WorkValue) (reading : Reading) (day : ℕ) → IsFor known work → version_on (table_in reading work) day ≡ replay_on known reading day

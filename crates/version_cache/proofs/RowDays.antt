@@ -1,5 +1,5 @@
 -- The days of rows.
-use Rattle.std.proofs.Common.{◌≡◌, ◌∙◌, ap, refl, ℕ, true, List, [], ◌∷◌, map}
+use Rattle.std.proofs.Common.{◌≡◌, ◌∙◌, sym, ap, refl, ℕ, true, List, [], ◌∷◌, map}
 use Rattle.law_register.specs.declared.answer.question.Reading.{Reading}
 use Rattle.law_register.specs.declared.register.known.Known.{Known}
 use Rattle.law_register.specs.Answer.Breakpoints.{breakpoints}
@@ -13,6 +13,10 @@ use Rattle.version_cache.proofs.Parted.{ascending}
 pub days_seen : (rows : List Row) → days_in rows ≡ map (λ row. row.day) (rows_view rows)
 days_seen [] = refl
 days_seen (row ∷ rows) = ap (λ days. row.day ∷ days) (days_seen rows)
+
+-- rows that are seen alike have the same days
+pub same_days : (xs ys : List Row) → rows_view xs ≡ rows_view ys → days_in xs ≡ days_in ys
+same_days xs ys h = days_seen xs ∙ ap (map (λ row. row.day)) h ∙ sym (days_seen ys)
 
 pub days_of_rows : (known : Known) (r : Reading) (days : List ℕ) → map (λ row. row.day) (rows_on known r days) ≡ days
 days_of_rows known r [] = refl

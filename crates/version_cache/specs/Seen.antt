@@ -1,11 +1,10 @@
 -- Tables, as a clause sees them.
 use Rattle.std.specs.Prelude.{option_map}
-use Rattle.law_register.specs.Answer.Versions.{version_view}
 use Rattle.version_cache.specs.declared.table.Table.{Table}
 use Rattle.version_cache.specs.declared.revision.Revision.{Revision}
 use Rattle.version_cache.specs.declared.work_revision.WorkRevision.{WorkRevision}
 use Rattle.version_cache.specs.declared.work_tables.WorkTables.{WorkTables}
-use Rattle.version_cache.specs.Rows.{rows_view}
+use Rattle.version_cache.specs.Rows.{kept_view, rows_view}
 use Rattle.version_cache.specs.Tables.{RevisionValue, TableValue}
 use Rattle.version_cache.specs.Works.{WorkRevisionValue, WorkValue}
 
@@ -13,7 +12,7 @@ use Rattle.version_cache.specs.Works.{WorkRevisionValue, WorkValue}
 abbrev pub table_view : Table → TableValue
 table_view table = record {
   reading = table.reading;
-  enacted = version_view table.enacted.version;
+  enacted = kept_view table.enacted;
   rows = rows_view table.rows.items;
 }
 

@@ -63,6 +63,14 @@ revision_of table known touched = record {
   rows = rows_on known table.reading (breakpoints_from known touched);
 }
 
+-- the revision of a table that has the rows of another one's
+abbrev pub revision_like : TableValue → RevisionValue → RevisionValue
+revision_like table other = record {
+  touched = other.touched;
+  kept = length (rows_before other.touched table.rows);
+  rows = other.rows;
+}
+
 -- a revision is of this table: as many rows stay as it has before the touched day
 abbrev pub IsRevisionOf : TableValue → RevisionValue → Type 0
 IsRevisionOf table revision = revision.kept ≡ length (rows_before revision.touched table.rows)

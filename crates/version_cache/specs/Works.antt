@@ -4,13 +4,17 @@ use Rattle.law_register.specs.declared.answer.question.Reading.{Reading}
 use Rattle.law_register.specs.declared.answer.question.Reading.TheVariants.{Force, Efficacy}
 use Rattle.law_register.specs.declared.register.known.Known.{Known}
 use Rattle.law_register.specs.Answer.Costs.{revision_cost}
-use Rattle.version_cache.specs.Tables.{IsRevisionOf, IsRightUntil, RevisionValue, TableValue, committed, revision_of}
+use Rattle.version_cache.specs.Tables.{IsRevisionOf, IsRightUntil, RevisionValue, TableValue, committed, revision_of, table_of}
 
 -- what is known of a work, and a table for each reading
 pub record WorkValue : Type 0 where
   pub known : Known
   pub force : TableValue
   pub efficacy : TableValue
+
+-- what is kept of a work of which this is known
+abbrev pub work_of : Known → WorkValue
+work_of known = record { known = known; force = table_of known Force; efficacy = table_of known Efficacy }
 
 -- the table of a reading
 abbrev pub table_in : Reading → WorkValue → TableValue

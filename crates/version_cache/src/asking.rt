@@ -4,7 +4,7 @@ ghost use Rattle.std.specs.Prelude.{◌≡◌, ◌≤◌, ◌-◌, ◌^◌, IfOk
 ghost use Rattle.act_tree.specs.Seen.{tree_view};
 ghost use Rattle.law_register.specs.Answer.Versions.{version_view};
 ghost use Rattle.version_cache.specs.Days.{is_ascending};
-ghost use Rattle.version_cache.specs.Rows.{days_in, rows_view};
+ghost use Rattle.version_cache.specs.Rows.{days_in, kept_view, rows_view};
 ghost use Rattle.version_cache.specs.Seen.{revision_view, table_view};
 ghost use Rattle.version_cache.specs.Tables.{IsRevisionOf, committed, last_version, rows_until, version_on};
 
@@ -30,8 +30,8 @@ fn count_until(rows: &[Row], day: Day) -> usize
 // The version of the last of these rows that is not after a day, or the one before them.
 fn last_by<'a>(before: &'a KeptVersion, rows: &'a [Row], day: Day) -> &'a KeptVersion
     requires { is_ascending (days_in rows.now) ≡ true }
-    ensures { version_view result.now.version
-        ≡ last_version (version_view before.now.version) (rows_until day (rows_view rows.now)) }
+    ensures { kept_view result.now
+        ≡ last_version (kept_view before.now) (rows_until day (rows_view rows.now)) }
 {
     let count = count_until(rows, day);
     let parts = rows.split_at(count);
@@ -54,14 +54,14 @@ impl Table {
     }
 
     pub(crate) fn kept_on(&self, day: Day) -> &KeptVersion
-        ensures { version_view result.now.version ≡ version_on (table_view self.now) day }
+        ensures { kept_view result.now ≡ version_on (table_view self.now) day }
     {
         last_by(&self.enacted, self.rows.as_slice(), day)
     }
 
     fn kept_after<'a>(&'a self, revision: &'a Revision, day: Day) -> &'a KeptVersion
         requires { IsRevisionOf (table_view self.now) (revision_view revision.now) }
-        ensures { version_view result.now.version
+        ensures { kept_view result.now
             ≡ version_on (committed (table_view self.now) (revision_view revision.now)) day }
     {
         let parts = self.rows.as_slice().split_at(revision.kept);
@@ -74,7 +74,7 @@ impl Table {
         ensures version { version_view result.now ≡ version_on (table_view self.now) day }
         ensures changes { (tree_view result.now.tree).changes ≡ min (length result.now.applied) (2 ^ 64 - 1) }
     {
-        &self.kept_on(day).version
+        self.kept_on(day).version()
     }
 
     /// The version that `on` gives once a revision of this table is committed. It takes no memory.
@@ -83,7 +83,7 @@ impl Table {
         ensures version { version_view result.now
             ≡ version_on (committed (table_view self.now) (revision_view revision.now)) day }
     {
-        &self.kept_after(revision, day).version
+        self.kept_after(revision, day).version()
     }
 
     /// The version of a day, in memory of its own.

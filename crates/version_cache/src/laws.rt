@@ -1,7 +1,8 @@
 //! What holds of the days of a work, and of tables. Each law is a function that does nothing, whose clause is the law.
 
-ghost use Rattle.std.specs.Prelude.{◌≡◌, ◌++◌, ◌∷◌, [], ℕ, List, Some, true};
+ghost use Rattle.std.specs.Prelude.{◌≡◌, ◌++◌, ◌∷◌, [], ℕ, List, Some, false, true};
 ghost use Rattle.law_register.specs.declared.answer.question.Reading.{Reading as ReadingValue};
+ghost use Rattle.law_register.specs.declared.answer.question.Reading.TheVariants.{Efficacy, Force};
 ghost use Rattle.law_register.specs.declared.register.entry.Entry.{Entry};
 ghost use Rattle.law_register.specs.declared.register.known.Known.{Known as KnownValue};
 ghost use Rattle.law_register.specs.Answer.Breakpoints.{breakpoints};
@@ -11,6 +12,7 @@ ghost use Rattle.law_register.specs.Register.KnownNext.{known_now};
 ghost use Rattle.law_register.specs.Register.Verdicts.{is_legal};
 ghost use Rattle.version_cache.specs.Agreement.{Agree};
 ghost use Rattle.version_cache.specs.Days.{last_until, order_by};
+ghost use Rattle.version_cache.specs.Readings.{has_efficacy};
 ghost use Rattle.version_cache.specs.Seen.{table_view, work_view};
 ghost use Rattle.version_cache.specs.Tables.{IsRight, IsRightUntil, table_of};
 ghost use Rattle.version_cache.specs.Works.{AreRightIf, IsAlike, IsFor, IsForIf};
@@ -24,6 +26,13 @@ use law_register::{Known, Reading};
 pub fn text_stands_still(_known: &Known, _reading: Reading)
     ensures { (day : ℕ) → order _known.now _reading day
         ≡ order_by _known.now _reading (last_until day (breakpoints _known.now)) }
+{}
+
+/// Where no modification that stands changes the efficacy of a textual one, the same modifications bear on each day in both readings,
+/// in the same order.
+pub fn readings_agree_without_efficacy(_known: &Known)
+    requires { has_efficacy _known.now.mods ≡ false }
+    ensures { (day : ℕ) → order _known.now Efficacy day ≡ order _known.now Force day }
 {}
 
 /// A table with a row for each breakpoint gives on every day what a replay from scratch gives.

@@ -9,6 +9,7 @@ mod making;
 mod revising;
 mod revision;
 mod row;
+mod sharing;
 mod table;
 mod tabling;
 mod work_revision;

@@ -4,8 +4,7 @@ ghost use Rattle.std.specs.Prelude.{◌≡◌, ◌+◌, ◌≤◌, ◌++◌, [],
 ghost use Rattle.law_register.specs.Answer.Costs as costs;
 ghost use Rattle.law_register.specs.Answer.Replay.{as_enacted, replayed};
 ghost use Rattle.law_register.specs.Answer.Soundness.{IsSound, id_twice};
-ghost use Rattle.law_register.specs.Answer.Versions.{version_view};
-ghost use Rattle.version_cache.specs.Rows.{rows_view};
+ghost use Rattle.version_cache.specs.Rows.{kept_view, rows_view};
 ghost use Rattle.version_cache.specs.Tables.{last_version, rows_on};
 
 use crate::Row;
@@ -38,10 +37,9 @@ pub struct Start<'a> {
 /// The act as enacted, kept.
 pub fn keep_enacted(alloc: Global, known: &Known) -> Result<KeptVersion, Memory>
     requires { IsSound known.now }
-    ensures { IfOk result (λ kept. version_view kept.version ≡ as_enacted known.now.act) }
+    ensures { IfOk result (λ kept. kept_view kept ≡ as_enacted known.now.act) }
 {
-    let version = enact(alloc, &known.act)?;
-    Ok(KeptVersion { version })
+    KeptVersion::new(alloc, enact(alloc, &known.act)?)
 }
 
 fn begins_with(firsts: &[Id], ids: &[Id]) -> bool
@@ -58,6 +56,7 @@ fn begins_with(firsts: &[Id], ids: &[Id]) -> bool
     true
 }
 
+// A version with these ids applied after it; the same one, shared, where there are none.
 fn continued<L: Ledger>(
     alloc: Global,
     known: &Known,
@@ -66,14 +65,17 @@ fn continued<L: Ledger>(
     steps: &mut Steps<L>,
 ) -> Result<KeptVersion, Memory>
     requires sound { IsSound known.now }
-    requires apart { id_twice (kept.now.version.applied ++ ids.now) ≡ false }
-    ensures version { IfOk result (λ k. version_view k.version
-        ≡ replayed known.now.mods (version_view kept.now.version) ids.now) }
+    requires apart { id_twice ((kept_view kept.now).applied ++ ids.now) ≡ false }
+    ensures version { IfOk result (λ k. kept_view k
+        ≡ replayed known.now.mods (kept_view kept.now) ids.now) }
     ensures steps { steps.new ≤ steps.old + length ids.now }
 {
-    let copy = kept.version.copy(alloc)?;
+    if ids.is_empty() {
+        return kept.share();
+    }
+    let copy = kept.version().copy(alloc)?;
     let version = continue_replay(alloc, &known.mods, copy, ids, steps)?;
-    Ok(KeptVersion { version })
+    KeptVersion::new(alloc, version)
 }
 
 fn version_after<L: Ledger>(
@@ -85,11 +87,11 @@ fn version_after<L: Ledger>(
     steps: &mut Steps<L>,
 ) -> Result<KeptVersion, Memory>
     requires sound { IsSound course.now.known.now }
-    requires enacted { version_view course.now.enacted.now.version ≡ as_enacted course.now.known.now.act }
-    requires last { version_view last.now.version
+    requires enacted { kept_view course.now.enacted.now ≡ as_enacted course.now.known.now.act }
+    requires last { kept_view last.now
         ≡ replayed course.now.known.now.mods (as_enacted course.now.known.now.act) before.now }
     requires once { id_twice ids.now ≡ false }
-    ensures version { IfOk result (λ kept. version_view kept.version
+    ensures version { IfOk result (λ kept. kept_view kept
         ≡ replayed course.now.known.now.mods (as_enacted course.now.known.now.act) ids.now) }
     ensures steps { steps.new ≤ steps.old + costs.ids_applied before.now ids.now }
 {
@@ -103,7 +105,7 @@ fn version_after<L: Ledger>(
 
 /// The version of the last of these rows, or the one before them.
 pub fn last_kept<'a>(last: &'a KeptVersion, rows: &'a [Row]) -> &'a KeptVersion
-    ensures { version_view result.now.version ≡ last_version (version_view last.now.version) (rows_view rows.now) }
+    ensures { kept_view result.now ≡ last_version (kept_view last.now) (rows_view rows.now) }
 {
     match rows.last() {
         Some(row) => &row.kept,
@@ -122,8 +124,8 @@ pub fn add_rows<P: Replayer, L: Ledger>(
     steps: &mut Steps<L>,
 ) -> Result<(), Memory>
     requires sound { IsSound course.now.known.now }
-    requires enacted { version_view course.now.enacted.now.version ≡ as_enacted course.now.known.now.act }
-    requires last { version_view start.last.now.version
+    requires enacted { kept_view course.now.enacted.now ≡ as_enacted course.now.known.now.act }
+    requires last { kept_view start.last.now
         ≡ replayed course.now.known.now.mods (as_enacted course.now.known.now.act) start.ids }
     requires none { rows_view rows.old.items ≡ [] }
     ensures rows { OnOk result (rows_view rows.new.items

@@ -28,7 +28,8 @@ fn count_days_before(days: &[Day], touched: Day) -> usize
     count
 }
 
-fn count_rows_before(rows: &[Row], touched: Day) -> usize
+// How many rows have a day before this one.
+pub fn count_rows_before(rows: &[Row], touched: Day) -> usize
     ensures count { result ≡ length (rows_before touched (rows_view rows.now)) }
     ensures most { result ≤ length rows.now }
 {

@@ -3,13 +3,15 @@
 ghost use Rattle.std.specs.Prelude.{◌≡◌, ◌+◌, ◌≤◌, IfOk, Some, option_map};
 ghost use Rattle.act_tree.specs.Seen.{tree_view};
 ghost use Rattle.law_register.specs.declared.register.known.Known.{Known as KnownValue};
+ghost use Rattle.law_register.specs.Answer.Costs.{revision_cost};
 ghost use Rattle.law_register.specs.Answer.Replay.{replay_on};
 ghost use Rattle.law_register.specs.Answer.Soundness.{IsSound};
 ghost use Rattle.law_register.specs.Answer.Versions.{version_view};
-ghost use Rattle.version_cache.specs.Seen.{both_view, table_view, work_revision_view, work_view};
-ghost use Rattle.version_cache.specs.Tables.{IsRight, table_of, version_on};
+ghost use Rattle.version_cache.specs.Seen.{both_view, revision_view, table_view, work_revision_view, work_view};
+ghost use Rattle.version_cache.specs.Tables.{revision_of, table_of, version_on};
 ghost use Rattle.version_cache.specs.Works as works;
 
+use crate::sharing::has_efficacy;
 use crate::{Revision, Table, WorkRevision};
 use desk_base::{Day, Memory, Steps};
 use law_register::{Known, Reading, Replayer, Version};
@@ -22,6 +24,26 @@ pub struct WorkTables {
     pub(crate) known: Known,
     pub(crate) force: Table,
     pub(crate) efficacy: Table,
+}
+
+// The table of efficacy, which shares the versions of that of force where both readings give the same.
+fn make_efficacy<P: Replayer, L: Ledger>(
+    alloc: Global,
+    replayer: &P,
+    known: &Known,
+    force: &Table,
+    steps: &mut Steps<L>,
+) -> Result<Table, Memory>
+    requires sound { IsSound known.now }
+    requires force { table_view force.now ≡ table_of known.now Reading.Force }
+    ensures table { IfOk result (λ table. table_view table ≡ table_of known.now Reading.Efficacy) }
+    ensures steps { steps.new ≤ steps.old + revision_cost known.now Reading.Efficacy 0 }
+{
+    if has_efficacy(known.mods.as_slice()) {
+        Table::make(alloc, replayer, known, Reading::Efficacy, steps)
+    } else {
+        force.share_in(alloc, Reading::Efficacy)
+    }
 }
 
 // The tables of force and of efficacy.
@@ -37,7 +59,7 @@ fn make_both<P: Replayer, L: Ledger>(
     ensures steps { steps.new ≤ steps.old + works.both_costs known.now (Some 0) }
 {
     let force = Table::make(alloc, replayer, known, Reading::Force, steps)?;
-    let efficacy = Table::make(alloc, replayer, known, Reading::Efficacy, steps)?;
+    let efficacy = make_efficacy(alloc, replayer, known, &force, steps)?;
     Ok((force, efficacy))
 }
 
@@ -50,7 +72,7 @@ impl WorkTables {
         steps: &mut Steps<L>,
     ) -> Result<WorkTables, Memory>
         requires { IsSound known }
-        ensures known { IfOk result (λ made. (work_view made).known ≡ known) }
+        ensures made { IfOk result (λ made. work_view made ≡ works.work_of known) }
         ensures right { IfOk result (λ made. works.IsFor known (work_view made)) }
         ensures steps { steps.new ≤ steps.old + works.both_costs known (Some 0) }
     {
@@ -93,6 +115,30 @@ impl WorkTables {
         self.table(reading).on(day)
     }
 
+    // The revision of the table of efficacy, which shares the versions of that of force where both readings give the same.
+    fn revise_efficacy<P: Replayer, L: Ledger>(
+        &self,
+        alloc: Global,
+        replayer: &P,
+        known: &Known,
+        day: Day,
+        force: &Revision,
+        steps: &mut Steps<L>,
+    ) -> Result<Revision, Memory>
+        requires sound { IsSound known.now }
+        requires right { works.AreRightUntil known.now (Some day) (work_view self.now) }
+        requires force { revision_view force.now ≡ revision_of (table_view self.now.force) known.now day }
+        ensures revision { IfOk result
+            (λ revision. revision_view revision ≡ revision_of (table_view self.now.efficacy) known.now day) }
+        ensures steps { steps.new ≤ steps.old + revision_cost known.now Reading.Efficacy day }
+    {
+        if has_efficacy(known.mods.as_slice()) {
+            self.efficacy.revise(alloc, replayer, known, day, steps)
+        } else {
+            self.efficacy.revise_like(alloc, force)
+        }
+    }
+
     fn revise_both<P: Replayer, L: Ledger>(
         &self,
         alloc: Global,
@@ -111,7 +157,7 @@ impl WorkTables {
             return Ok(None);
         };
         let force = self.force.revise(alloc, replayer, known, day, steps)?;
-        let efficacy = self.efficacy.revise(alloc, replayer, known, day, steps)?;
+        let efficacy = self.revise_efficacy(alloc, replayer, known, day, &force, steps)?;
         Ok(Some((force, efficacy)))
     }
 

@@ -4,10 +4,9 @@ use Rattle.law_register.specs.declared.answer.question.Reading.{Reading}
 use Rattle.law_register.specs.declared.register.known.Known.{Known}
 use Rattle.law_register.specs.Answer.Costs.{cost_after, ids_applied}
 use Rattle.law_register.specs.Answer.Soundness.{id_twice}
-use Rattle.law_register.specs.Answer.Versions.{version_view}
 use Rattle.law_register.proofs.DueOnce.{order_once}
 use Rattle.version_cache.specs.declared.row.Row.{Row}
-use Rattle.version_cache.specs.Rows.{rows_view}
+use Rattle.version_cache.specs.Rows.{kept_view, rows_view}
 use Rattle.version_cache.specs.Tables.{last_version, rows_on}
 use Rattle.version_cache.proofs.Adding.{cost_step, last_step, made_by, rows_step}
 use Rattle.version_cache.proofs.making.add_rows.Goals as goal
@@ -43,7 +42,7 @@ loop-day-preserved g c =
     let within : i < length days = search rules in
     let cut : drop i days ≡ day ∷ drop (i + 1) days = drop_more days i day within ∙ ap (λ d. d ∷ drop (i + 1) days) (sym c.day-item.is) in
     let row : Row = record { day = day; kept = c.in_ok-kept.kept } in
-    let made : version_view c.in_ok-kept.kept.version ≡ made_by known r c.in_ok-ids.ids =
+    let made : kept_view c.in_ok-kept.kept ≡ made_by known r c.in_ok-ids.ids =
     c.in_ok-kept.ensures.version ∙ ap (made_by known r) c.as_slice-in-loop-day-2.ensures in
     let same : ids_applied c.as_slice-in-loop-day.result.now c.as_slice-in-loop-day-2.result.now ≡ ids_applied c.loop-day.before c.in_ok-ids.ids =
     ap (λ ids. ids_applied ids c.as_slice-in-loop-day-2.result.now) c.as_slice-in-loop-day.ensures ∙ ap (ids_applied c.loop-day.before) c.as_slice-in-loop-day-2.ensures in
@@ -53,8 +52,8 @@ loop-day-preserved g c =
           ap (λ (rows : List Row). rows_view rows ++ rows_on known r (drop (i + 1) days)) c.in_ok-push.ensures.items
           ∙ rows_step known r c.loop-day.rows.items row c.in_ok-ids.ids (drop (i + 1) days) (drop i days) days cut c.in_ok-ids.ensures made c.loop-day.invariant.rows;
       last =
-          ap (λ (rows : List Row). last_version (version_view c.args.start.last.now.version) (rows_view rows)) c.in_ok-push.ensures.items
-          ∙ last_step known r (version_view c.args.start.last.now.version) c.loop-day.rows.items row c.in_ok-ids.ids made;
+          ap (λ (rows : List Row). last_version (kept_view c.args.start.last.now) (rows_view rows)) c.in_ok-push.ensures.items
+          ∙ last_step known r (kept_view c.args.start.last.now) c.loop-day.rows.items row c.in_ok-ids.ids made;
       steps =
           cost_step known r c.loop-day.before c.in_ok-ids.ids day (drop (i + 1) days) (drop i days) c.loop-day.steps c.version_after.new.steps
           (c.args.steps.now + cost_after known r 0 c.args.start.ids days) cut c.in_ok-ids.ensures c.loop-day.invariant.steps step;

@@ -2,8 +2,7 @@
 use Rattle.std.proofs.Common.{◌≡◌, ◌+◌, ◌≤◌, ◌++◌, drop}
 use Rattle.law_register.specs.Answer.Costs.{cost_after}
 use Rattle.law_register.specs.Answer.Replay.{as_enacted, replayed}
-use Rattle.law_register.specs.Answer.Versions.{version_view}
-use Rattle.version_cache.specs.Rows.{rows_view}
+use Rattle.version_cache.specs.Rows.{kept_view, rows_view}
 use Rattle.version_cache.specs.Tables.{last_version, rows_on}
 use Rattle.version_cache.proofs.making.add_rows.Given as goal
 
@@ -11,7 +10,7 @@ abbrev pub invariant-loop-day : goal.invariant-loop-day
 invariant-loop-day g l = record {
   rows : rows_view l.rows.items ++ rows_on l.course.known.now l.course.reading (drop l.day-index l.days)
       ≡ rows_on l.course.known.now l.course.reading l.days;
-  last : last_version (version_view l.last.version) (rows_view l.rows.items)
+  last : last_version (kept_view l.last) (rows_view l.rows.items)
       ≡ replayed l.course.known.now.mods (as_enacted l.course.known.now.act) l.before;
   steps : l.steps + cost_after l.course.known.now l.course.reading 0 l.before (drop l.day-index l.days)
       ≤ l.initial.steps + cost_after l.course.known.now l.course.reading 0 l.initial.before l.days;

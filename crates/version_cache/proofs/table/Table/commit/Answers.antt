@@ -1,5 +1,5 @@
 use Rattle.std.proofs.Common.{ap, List}
-use Rattle.law_register.specs.Answer.Versions.{version_view}
+use Rattle.version_cache.specs.Rows.{kept_view}
 use Rattle.version_cache.specs.Tables.{RowValue, TableValue}
 use Rattle.version_cache.proofs.RowFronts.{committed_ascend, committed_rows}
 use Rattle.version_cache.proofs.table.Table.commit.Goals as goal
@@ -14,6 +14,6 @@ invariant_of-self c = record {
 pub returns : goal.returns
 returns c =
     ap
-    (λ (rows : List RowValue). let table : TableValue = record { reading = c.args.self.now.reading; enacted = version_view c.args.self.now.enacted.version; rows = rows } in table)
+    (λ (rows : List RowValue). let table : TableValue = record { reading = c.args.self.now.reading; enacted = kept_view c.args.self.now.enacted; rows = rows } in table)
     (committed_rows c.args.revision.touched c.args.revision.kept c.args.self.now.rows.items c.args.revision.rows.items c.put_behind.new.rows.items c.args.self.now.ascending c.requires
     c.put_behind.ensures)

@@ -1,5 +1,5 @@
 use Rattle.std.proofs.Common.{◌∙◌, ◌≤◌, subst, sym, length, ℕ, List}
-use Rattle.law_register.specs.Answer.Versions.{version_view}
+use Rattle.version_cache.specs.Rows.{kept_view}
 use Rattle.version_cache.specs.declared.row.Row.{Row}
 use Rattle.version_cache.proofs.Ahead.{last_after, no_more, stay_ascend}
 use Rattle.version_cache.proofs.table.Table.kept_after.Goals as goal
@@ -18,5 +18,5 @@ pub returns : goal.returns
 returns c =
     c.last_by.ensures
     ∙ last_after c.args.revision.now.touched c.args.revision.now.kept c.args.day c.args.self.now.rows.items c.as_slice.result.now c.split_at-parts.result.0.now
-    c.args.revision.now.rows.items c.as_slice-2.result.now (version_view c.args.self.now.enacted.version) (version_view c.last_by-before.result.now.version)
+    c.args.revision.now.rows.items c.as_slice-2.result.now (kept_view c.args.self.now.enacted) (kept_view c.last_by-before.result.now)
     c.args.self.now.ascending c.as_slice.ensures.value c.as_slice-2.ensures.value c.requires c.split_at-parts.ensures.front c.last_by-before.ensures

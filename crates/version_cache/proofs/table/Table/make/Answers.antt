@@ -1,6 +1,5 @@
 use Rattle.std.proofs.Common.{◌∙◌, ap}
-use Rattle.law_register.specs.Answer.Versions.{version_view}
-use Rattle.version_cache.specs.Rows.{rows_view}
+use Rattle.version_cache.specs.Rows.{kept_view, rows_view}
 use Rattle.version_cache.specs.Tables.{rows_on}
 use Rattle.version_cache.proofs.Right.{made_is_right}
 use Rattle.version_cache.proofs.RowDays.{made_ascend}
@@ -15,5 +14,5 @@ invariant_of-result g c = record {
 
 pub returns-clause-right : goal.returns-clause-right
 returns-clause-right g c =
-    made_is_right c.args.known.now c.args.reading (version_view c.in_ok-enacted.enacted.version) (rows_view c.add_rows.new.rows.items) c.in_ok-enacted.ensures
+    made_is_right c.args.known.now c.args.reading (kept_view c.in_ok-enacted.enacted) (rows_view c.add_rows.new.rows.items) c.in_ok-enacted.ensures
     (c.in_ok-add_rows.ensures.rows ∙ ap (rows_on c.args.known.now c.args.reading) (c.as_slice.ensures ∙ c.in_ok-days.ensures))

@@ -4,10 +4,9 @@ use Rattle.law_register.specs.declared.answer.question.Reading.{Reading}
 use Rattle.law_register.specs.declared.register.known.Known.{Known}
 use Rattle.law_register.specs.Answer.Breakpoints.{breakpoints}
 use Rattle.law_register.specs.Answer.Replay.{as_enacted, replayed}
-use Rattle.law_register.specs.Answer.Versions.{version_view}
 use Rattle.version_cache.specs.declared.row.Row.{Row}
 use Rattle.version_cache.specs.Days.{days_before, last_day, order_by}
-use Rattle.version_cache.specs.Rows.{days_in, rows_view}
+use Rattle.version_cache.specs.Rows.{kept_view, days_in, rows_view}
 use Rattle.version_cache.specs.Seen.{table_view}
 use Rattle.version_cache.specs.Tables.{IsRight, RevisionValue, breakpoints_from, committed, last_version, rows_before, rows_on}
 use Rattle.version_cache.proofs.LateDays.{days_from, new_ascend, new_late, parted_before, parted_from, revised_cost}
@@ -23,7 +22,7 @@ add_rows-requires-clause-last g c =
     let r : Reading = c.args.self.now.reading in
     let t : ℕ = c.args.touched in
     c.last_kept.ensures
-    ∙ ap (last_version (version_view c.args.self.now.enacted.version))
+    ∙ ap (last_version (kept_view c.args.self.now.enacted))
     (stay_is t c.args.self.now.rows.items c.as_slice-3.result.now c.as_slice-4.result.now c.split_at-stay.result.0.now c.count_rows_before-kept.result c.args.self.now.ascending
     c.as_slice-3.ensures.value c.as_slice-4.ensures.value c.count_rows_before-kept.ensures.count c.split_at-stay.ensures.front)
     ∙ last_kept_is known (table_view c.args.self.now) t c.requires.right

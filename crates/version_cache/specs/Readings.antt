@@ -1,0 +1,23 @@
+-- When both readings give the same: no modification that stands changes the efficacy of a textual one.
+use Rattle.std.specs.Prelude.{Bool, true, false, ◌&&◌, List}
+use Rattle.std.specs.List.{list_any}
+use Rattle.law_register.specs.declared.law.modification.Destination.{Destination}
+use Rattle.law_register.specs.declared.law.modification.Destination.TheVariants as to
+use Rattle.law_register.specs.declared.law.modification.Modification.{Modification}
+use Rattle.law_register.specs.declared.law.modification.Modification.TheVariants.{Textual, Force, Efficacy}
+use Rattle.law_register.specs.declared.register.known.KnownMod.{KnownMod}
+
+-- this is a modification, and no provision
+abbrev pub is_modification : Destination → Bool
+is_modification (to.Modification id) = true
+is_modification (to.Node wid) = false
+
+-- a modification of efficacy that is directed at another modification
+abbrev pub changes_efficacy : Modification → Bool
+changes_efficacy (Textual source force edit) = false
+changes_efficacy (Force source destination on effect) = false
+changes_efficacy (Efficacy source destination on effect) = is_modification destination
+
+-- one of these stands, and changes the efficacy of another
+abbrev pub has_efficacy : List KnownMod → Bool
+has_efficacy mods = list_any (λ m. m.live && changes_efficacy m.body) mods
