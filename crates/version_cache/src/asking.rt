@@ -82,6 +82,7 @@ impl Table {
         requires { IsRevisionOf (table_view self.now) (revision_view revision.now) }
         ensures version { version_view result.now
             ≡ version_on (committed (table_view self.now) (revision_view revision.now)) day }
+        ensures changes { (tree_view result.now.tree).changes ≡ min (length result.now.applied) (2 ^ 64 - 1) }
     {
         self.kept_after(revision, day).version()
     }

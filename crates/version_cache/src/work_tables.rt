@@ -1,6 +1,6 @@
 //! WorkTables: what is kept of an enacted work. A clause sees what is known of it, and its tables in both readings (`work_view`).
 
-ghost use Rattle.std.specs.Prelude.{◌≡◌, ◌+◌, ◌≤◌, IfOk, Some, option_map};
+ghost use Rattle.std.specs.Prelude.{◌≡◌, ◌+◌, ◌-◌, ◌^◌, ◌≤◌, IfOk, Some, length, min, option_map};
 ghost use Rattle.act_tree.specs.Seen.{tree_view};
 ghost use Rattle.law_register.specs.declared.register.known.Known.{Known as KnownValue};
 ghost use Rattle.law_register.specs.Answer.Costs.{revision_cost};
@@ -111,6 +111,7 @@ impl WorkTables {
         ensures version { version_view result.now ≡ version_on (works.table_in reading (work_view self.now)) day }
         ensures replay { (known : KnownValue) → works.IsFor known (work_view self.now)
             → version_view result.now ≡ replay_on known reading day }
+        ensures changes { (tree_view result.now.tree).changes ≡ min (length result.now.applied) (2 ^ 64 - 1) }
     {
         self.table(reading).on(day)
     }
@@ -216,6 +217,7 @@ impl WorkTables {
         ensures replay { let taken = option_map (λ r. work_revision_view r.now) revision.entry in
             (known : KnownValue) → works.IsFor known (works.renewed_if (work_view self.now) taken)
             → version_view result.now ≡ replay_on known reading day }
+        ensures changes { (tree_view result.now.tree).changes ≡ min (length result.now.applied) (2 ^ 64 - 1) }
     {
         match revision {
             Some(
