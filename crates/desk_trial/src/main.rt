@@ -53,7 +53,7 @@ fn write_line<W: Write + Drop>(
 // Tells of a line that an office answers. After the line `front` what was written is handed on.
 fn tell_line<W: Write + Drop, L: Ledger>(
     alloc: Global,
-    office: &mut Office<'_, MapKeeper, ListClock>,
+    office: &mut Office<'_, '_, MapKeeper, ListClock>,
     line: &[u8],
     out: &mut BufWriter<W>,
     steps: &mut Steps<L>,
@@ -69,7 +69,7 @@ fn tell_line<W: Write + Drop, L: Ledger>(
 // Tells of each line that is left, in order.
 fn tell_lines<R: Read + Drop, W: Write + Drop, L: Ledger>(
     alloc: Global,
-    office: &mut Office<'_, MapKeeper, ListClock>,
+    office: &mut Office<'_, '_, MapKeeper, ListClock>,
     lines: io::Split<BufReader<R>>,
     out: &mut BufWriter<W>,
     steps: &mut Steps<L>,
@@ -84,7 +84,7 @@ fn tell_lines<R: Read + Drop, W: Write + Drop, L: Ledger>(
 // Tells of the first line, which is that of the office where it opened what the keeper has, and then of each line that is left.
 fn tell_all<R: Read + Drop, W: Write + Drop, L: Ledger>(
     alloc: Global,
-    office: &mut Office<'_, MapKeeper, ListClock>,
+    office: &mut Office<'_, '_, MapKeeper, ListClock>,
     first: Option<&[u8]>,
     lines: io::Split<BufReader<R>>,
     out: &mut BufWriter<W>,

@@ -27,11 +27,6 @@ pub record OfficeState (K C : Type 0) : Type 0 where
 abbrev pub names_of : ℕ → ℕ → List ℕ
 names_of keeper clock = keeper ∷ clock ∷ []
 
--- the first of these names is that of the keeper
-abbrev pub IsNamed : List ℕ → ℕ → Type 0
-IsNamed [] name = ⊥
-IsNamed (keeper ∷ others) name = name ≡ keeper
-
 -- the entry that is pending, if there is one
 abbrev pub pending_of : Option Pending → Option Entry
 pending_of pending = option_map (λ p. p.entry) pending

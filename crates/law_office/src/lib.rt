@@ -11,4 +11,4 @@ mod sent;
 mod writing;
 
 pub use book::{Book, Pending};
-pub use office::{Office, OpenRefused};
+pub use office::{Closed, Office, OpenRefused};

@@ -13,7 +13,7 @@ ghost use Rattle.law_register.specs.Law.Spelling.{is_well_spelled};
 ghost use Rattle.law_register.specs.Register.LawList.{front};
 ghost use Rattle.law_office.specs.Crashing.{crashes_of};
 ghost use Rattle.law_office.specs.Lists.{EndsOver};
-ghost use Rattle.law_office.specs.Offices.{HoldsBook, IsNamed, IsRight, Spells, desk_of, names_of, pending_of};
+ghost use Rattle.law_office.specs.Offices.{HoldsBook, IsRight, Spells, desk_of, names_of, pending_of};
 ghost use Rattle.law_office.specs.Opening.{HasRefusalCause, Refuses, opened_of};
 
 use crate::acting::command as do_command;
@@ -34,22 +34,33 @@ use viewpoints::Past;
 
 /// A keeper of which no office could be opened, and why.
 #[derive(Drop)]
-pub struct OpenRefused<'a, K: Keeper> {
+pub struct OpenRefused<'k, 'c, K: Keeper, C: Clock> {
     /// The keeper.
-    pub keeper: &'a mut K,
+    pub keeper: &'k mut K,
+    /// The clock, which was asked nothing.
+    pub clock: &'c mut C,
     /// Why.
     pub fault: OpenFault,
 }
 
+/// What an office was lent, which it gives back when it is closed.
+#[derive(Drop)]
+pub struct Closed<'k, 'c, K: Keeper, C: Clock> {
+    /// The keeper.
+    pub keeper: &'k mut K,
+    /// The clock.
+    pub clock: &'c mut C,
+}
+
 /// A desk whose entries a keeper keeps.
 #[derive(Drop)]
-pub struct Office<'a, K: Keeper, C: Clock> {
-    keeper: &'a mut K,
-    clock: &'a mut C,
+pub struct Office<'k, 'c, K: Keeper, C: Clock> {
+    keeper: &'k mut K,
+    clock: &'c mut C,
     book: Book,
 }
 
-impl<'a, K: Keeper, C: Clock> Model for Office<'a, K, C> {
+impl<'k, 'c, K: Keeper, C: Clock> Model for Office<'k, 'c, K, C> {
     ghost use Rattle.law_office.specs.Offices.{HoldsBook, IsRight, OfficeState, names_of, pending_of};
 
     ghost Value = { OfficeState K C };
@@ -72,14 +83,15 @@ impl<'a, K: Keeper, C: Clock> Model for Office<'a, K, C> {
     ghost invariant = { λ o. IsRight o.book × HoldsBook (K.holding o.keeper.now) (K.readiness o.keeper.now) o.book };
 }
 
-impl<'a, K: Keeper, C: Clock> Office<'a, K, C> {
-    /// Opens a keeper, and the office of what it has. A refusal gives the keeper back. No payload changes, and a crash
-    /// at any moment leaves a list that it could leave before, or the list itself.
+impl<'k, 'c, K: Keeper, C: Clock> Office<'k, 'c, K, C> {
+    /// Opens a keeper, and the office of what it has. A refusal gives keeper and clock back, and the clock was
+    /// asked nothing. No payload changes, and a crash at any moment leaves a list that it could leave before, or the
+    /// list itself.
     pub fn open(
         alloc: Global,
-        keeper: &'a mut K,
-        clock: &'a mut C,
-    ) -> Result<Office<'a, K, C>, OpenRefused<'a, K>>
+        keeper: &'k mut K,
+        clock: &'c mut C,
+    ) -> Result<Office<'k, 'c, K, C>, OpenRefused<'k, 'c, K, C>>
         ensures opened { (K.holding keeper.old).tells
             → IfOk result (λ office. opened_of (K.holding keeper.old).list ≡ Ok office.entries) }
         ensures refused { (K.holding keeper.old).tells
@@ -89,7 +101,10 @@ impl<'a, K: Keeper, C: Clock> Office<'a, K, C> {
             LeavesOldOrSame (K.holding keeper.old) (K.holding refused.keeper.now)) }
         ensures cause_refused { IfErr result (λ refused.
             HasRefusalCause (K.faults keeper.old) (K.faults refused.keeper.now) refused.fault) }
-        ensures name_refused { IfErr result (λ refused. refused.keeper.ghost_name ≡ keeper.entry.ghost_name) }
+        ensures clock_refused { IfErr result (λ refused. refused.clock.now ≡ clock.old) }
+        ensures names_refused { IfErr result (λ refused.
+            names_of refused.keeper.ghost_name refused.clock.ghost_name
+            ≡ names_of keeper.entry.ghost_name clock.entry.ghost_name) }
         ensures pending { IfOk result (λ office. office.pending ≡ None) }
         ensures marks { IfOk result (λ office. office.marks ≡ []) }
         ensures same { IfOk result (λ office. Keeps (K.holding keeper.old) (K.holding office.keeper)) }
@@ -101,12 +116,16 @@ impl<'a, K: Keeper, C: Clock> Office<'a, K, C> {
     {
         match Book::open(alloc, keeper) {
             Ok(book) => Ok(Office::new(keeper, clock, book)),
-            Err(fault) => Err(OpenRefused { keeper, fault }),
+            Err(fault) => Err(OpenRefused {
+                keeper,
+                clock,
+                fault,
+            }),
         }
     }
 
     /// The office of a book that the keeper holds. It takes no memory.
-    pub fn new(keeper: &'a mut K, clock: &'a mut C, book: Book) -> Office<'a, K, C>
+    pub fn new(keeper: &'k mut K, clock: &'c mut C, book: Book) -> Office<'k, 'c, K, C>
         requires right { IsRight book }
         requires held { HoldsBook (K.holding keeper.old) (K.readiness keeper.old) book }
         ensures entries { result.entries ≡ book.register.entries }
@@ -123,26 +142,27 @@ impl<'a, K: Keeper, C: Clock> Office<'a, K, C> {
         }
     }
 
-    /// Gives the keeper back. Its list spells the entries, with the one that is pending behind them or not, and that
-    /// list, and what a crash leaves of it, is opened so.
-    pub fn close(self) -> &'a mut K
-        ensures keeper { result.now ≡ self.entry.keeper }
-        ensures name { IsNamed self.entry.origin result.ghost_name }
-        ensures list { (K.holding result.now).tells → Spells self.entry.entries self.entry.pending
-            (K.holding result.now).list }
-        ensures found { (K.holding result.now).tells → IsFoundOf self.entry.entries self.entry.pending
-            (opened_of (K.holding result.now).list) }
-        ensures durable { let crashes = crashes_of (K.holding result.now) in
+    /// Gives keeper and clock back. The keeper's list spells the entries, with the one that is pending behind them or
+    /// not, and that list, and what a crash leaves of it, is opened so.
+    pub fn close(self) -> Closed<'k, 'c, K, C>
+        ensures keeper { result.keeper.now ≡ self.entry.keeper }
+        ensures clock { result.clock.now ≡ self.entry.clock }
+        ensures names { names_of result.keeper.ghost_name result.clock.ghost_name ≡ self.entry.origin }
+        ensures list { (K.holding result.keeper.now).tells → Spells self.entry.entries self.entry.pending
+            (K.holding result.keeper.now).list }
+        ensures found { (K.holding result.keeper.now).tells → IsFoundOf self.entry.entries self.entry.pending
+            (opened_of (K.holding result.keeper.now).list) }
+        ensures durable { let crashes = crashes_of (K.holding result.keeper.now) in
             crashes.tells → (found : Found) → crashes.may_leave found
             → IsFoundOf self.entry.entries self.entry.pending found }
     {
         let Office {
             keeper,
-            clock: _,
+            clock,
             book,
         } = self;
         drop(book);
-        keeper
+        Closed { keeper, clock }
     }
 
     /// What stands between an office and its keeper at each moment between two calls. The keeper's list spells the
@@ -171,7 +191,7 @@ impl<'a, K: Keeper, C: Clock> Office<'a, K, C> {
     }
 }
 
-impl<'a, K: Keeper, C: Clock> Desk for Office<'a, K, C> {
+impl<'k, 'c, K: Keeper, C: Clock> Desk for Office<'k, 'c, K, C> {
     ghost use Rattle.law_office.specs.Crashing.{crashes_are, crashes_of};
     ghost use Rattle.law_office.specs.Offices.{desk_of};
 

@@ -202,7 +202,8 @@ module _ {S W K C : Type 0} (left : S → Option (List ℕ)) (read_faults : S �
       → Keeps (holding keeper) (holding opened)
       → LeavesOldOrSame (holding keeper) (holding opened)
       → keeper_faults opened ≡ keeper_faults keeper
-      → ServesOver left written holding keeper_faults days source source_new sink sink_new opened keeper_new clock steps later entries served
+      → ServesOver left written holding keeper_faults days source source_new sink sink_new opened keeper_new clock clock_new steps later entries
+      served
       → HasReadCause served.end (read_faults source) (read_faults source_new)
       → HasWriteCause served.end (write_faults sink) (write_faults sink_new)
       → status ≡ stream_status served.end served.faulted
@@ -224,7 +225,7 @@ module _ {S W K C : Type 0} (left : S → Option (List ℕ)) (read_faults : S �
           stand_for = stand_for;
           same = same;
           crash = since_began left written holding keeper_faults days source source_new sink sink_new keeper opened keeper_new
-              clock steps later entries served stand_for same crash serves;
+              clock clock_new steps later entries served stand_for same crash serves;
           faults = faults;
           served = served;
           serves = serves;

@@ -24,11 +24,11 @@ outlive_whole state crashes all (e ∷ es) old new served outlive = outlive.0
 
 module _ {S W K C : Type 0} (left : S → Option (List ℕ)) (written : W → Option (List ℕ))
     (holding : K → Holding) (keeper_faults : K → ℕ) (days : C → Option (ℕ → ℕ))
-    (source source_new : S) (sink sink_new : W) (keeper opened keeper_new : K) (clock : C) (steps later : ℕ)
+    (source source_new : S) (sink sink_new : W) (keeper opened keeper_new : K) (clock clock_new : C) (steps later : ℕ)
     (entries : List Entry) (served : Served)
     (stand_for : (holding keeper).tells → opened_of (holding keeper).list ≡ Ok entries)
     (same : Keeps (holding keeper) (holding opened)) (crash : LeavesOldOrSame (holding keeper) (holding opened))
-    (serves : ServesOver left written holding keeper_faults days source source_new sink sink_new opened keeper_new clock
+    (serves : ServesOver left written holding keeper_faults days source source_new sink sink_new opened keeper_new clock clock_new
     steps later entries served) where
   -- a crash leaves this
   abbrev pub IsLeft : Found → Type 0

@@ -48,16 +48,16 @@ module _ {S W K C : Type 0} (left : S → Option (List ℕ)) (written : W → Op
     owed = owed_none all office.entries office.pending new.none_pending;
   }
 
-  pub serves_over : (source source_new : S) (sink sink_new : W) (keeper_new : K) (steps later : ℕ) (served : Served)
+  pub serves_over : (source source_new : S) (sink sink_new : W) (keeper_new : K) (clock_new : C) (steps later : ℕ) (served : Served)
       (closed : OfficeState K C)
       → IsStreamed (desk_of keeper_faults days) (λ (o : OfficeState K C). crashes_of (holding o.keeper))
       (left source) (left source_new) (written sink) (written sink_new) office closed steps later served
-      → keeper_new ≡ closed.keeper
+      → keeper_new ≡ closed.keeper → clock_new ≡ closed.clock
       → ((holding keeper_new).tells → Spells closed.entries closed.pending (holding keeper_new).list)
       → ((holding keeper_new).tells → IsFoundOf closed.entries closed.pending (opened_of (holding keeper_new).list))
-      → ServesOver left written holding keeper_faults days source source_new sink sink_new keeper keeper_new clock steps later
+      → ServesOver left written holding keeper_faults days source source_new sink sink_new keeper keeper_new clock clock_new steps later
       book.register.entries served
-  serves_over source source_new sink sink_new keeper_new steps later served closed streamed kept list found = record {
+  serves_over source source_new sink sink_new keeper_new clock_new steps later served closed streamed kept ticked list found = record {
     office = office;
     closed = closed;
     is_new = new;
@@ -66,6 +66,7 @@ module _ {S W K C : Type 0} (left : S → Option (List ℕ)) (written : W → Op
         (served_begins (desk_of keeper_faults days) (λ (o : OfficeState K C). crashes_of (holding o.keeper))
         streamed.exchanges office closed streamed.answered);
     kept = kept;
+    ticked = ticked;
     list = list;
     found = found;
     outlives = λ told crash.

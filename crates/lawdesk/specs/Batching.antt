@@ -62,7 +62,7 @@ pub record IsNewOffice {K C : Type 0} (keeper : K) (clock : C) (entries : List E
 -- so many steps were taken before, and after
 pub record ServesOver {S W K C : Type 0} (left : S → Option (List ℕ)) (written : W → Option (List ℕ))
     (holding : K → Holding) (keeper_faults : K → ℕ) (days : C → Option (ℕ → ℕ))
-    (source source_new : S) (sink sink_new : W) (keeper keeper_new : K) (clock : C) (steps later : ℕ)
+    (source source_new : S) (sink sink_new : W) (keeper keeper_new : K) (clock clock_new : C) (steps later : ℕ)
     (entries : List Entry) (served : Served) : Type 0 where
   -- the office as it was opened, and as it was closed
   pub office : OfficeState K C
@@ -72,10 +72,12 @@ pub record ServesOver {S W K C : Type 0} (left : S → Option (List ℕ)) (writt
   -- of the source failed, what it has left stands behind what was heard
   pub streamed : IsStreamed (desk_of keeper_faults days) (λ o. crashes_of (holding o.keeper))
       (left source) (left source_new) (written sink) (written sink_new) office closed steps later served
+  -- the keeper and the clock are left as the stream left them: neither was asked for more
+  pub kept : keeper_new ≡ closed.keeper
+  pub ticked : clock_new ≡ closed.clock
   -- at the end the entries begin with those that were opened, the keeper's list spells them, with the one that is
   -- pending behind them or without it, and an opening would find them so
   pub begin : BeginWith closed.entries entries
-  pub kept : keeper_new ≡ closed.keeper
   pub list : (holding keeper_new).tells → Spells closed.entries closed.pending (holding keeper_new).list
   pub found : (holding keeper_new).tells
       → IsFoundOf closed.entries closed.pending (opened_of (holding keeper_new).list)
@@ -114,7 +116,7 @@ module _ {S W K C : Type 0} (left : S → Option (List ℕ)) (read_faults : S �
     pub faults : keeper_faults opened ≡ keeper_faults keeper
     pub served : Served
     pub serves : ServesOver left written holding keeper_faults days
-        source source_new sink sink_new opened keeper_new clock steps later entries served
+        source source_new sink sink_new opened keeper_new clock clock_new steps later entries served
     -- where the keeper tells it, a crash at any moment since the run began, in the midst of the opening too, leaves what
     -- it could leave before, or the entries that were opened with a front of those that came behind them, or with one
     -- more that was answered 503

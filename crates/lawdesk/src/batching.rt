@@ -10,7 +10,7 @@ use crate::checking::report_damage;
 use desk_base::{Clock, Memory, Pair, Sink, Source, Steps};
 use law_http::{Served, StreamEnd, serve_stream};
 use law_keeper::Keeper;
-use law_office::{Book, Office};
+use law_office::{Book, Closed, Office};
 use law_register::{Damage, Desk, OpenFault};
 use std::alloc::Global;
 use std::sync::ledger::Ledger;
@@ -98,13 +98,15 @@ fn serve_book<S: Source, W: Sink, K: Keeper, C: Clock, L: Ledger>(
     requires none_pending { book.pending ≡ None }
     requires no_marks { book.marks.items ≡ [] }
     ensures served { ServesOver S.left W.written K.holding K.faults C.days source.old source.new sink.old sink.new
-        keeper.old keeper.new clock.old steps.old steps.new book.register.entries result }
+        keeper.old keeper.new clock.old clock.new steps.old steps.new book.register.entries result }
     ensures reads { HasReadCause result.end (S.faults source.old) (S.faults source.new) }
     ensures writes { HasWriteCause result.end (W.faults sink.old) (W.faults sink.new) }
 {
     let mut office = Office::new(keeper, clock, book);
     let served = serve_desk(alloc, source, sink, &mut office, steps);
-    let _keeper = office.close();
+    let Closed { keeper, clock } = office.close();
+    let _ = keeper;
+    let _ = clock;
     served
 }
 

@@ -34,7 +34,7 @@ fn generated_in<K: Keeper, C: Clock, L: Ledger>(
 {
     let mut office = Office::new(keeper, clock, book);
     let told = generate(alloc, &mut office, job.seed, job.count, steps);
-    let _keeper = office.close();
+    let _closed = office.close();
     match told {
         Ok(told) => Ok(told),
         Err(_) => Err(Memory),

@@ -1,6 +1,6 @@
 -- The office that is closed is the one that was opened, with what was served over it.
-use Rattle.std.proofs.Common.{◌∙◌, ap, subst, sym, ℕ, List}
-use Rattle.law_office.specs.Offices.{IsNamed, Spells, pending_of}
+use Rattle.std.proofs.Common.{◌∙◌, ap, get_or, subst, sym, ℕ, List}
+use Rattle.law_office.specs.Offices.{Spells, pending_of}
 use Rattle.law_office.specs.Opening.{opened_of}
 use Rattle.law_register.specs.Desk.States.{IsFoundOf}
 use Rattle.lawdesk.proofs.Serving.{serves_over}
@@ -8,10 +8,10 @@ use Rattle.lawdesk.proofs.batching.serve_book.Goals as goal
 
 pub returns-clause-served : goal.returns-clause-served
 returns-clause-served g c =
-    let named =
-    subst (λ (names : List ℕ). IsNamed names c.close-keeper.result.ghost_name)
-    (c.serve_desk-served.ensures.origin ∙ c.new-office.ensures.origin) c.close-keeper.ensures.name in
-    let kept = c.keeper-1.given.1 (sym named) in
+    let lent =
+    c.close-keeper.ensures.names ∙ c.serve_desk-served.ensures.origin ∙ c.new-office.ensures.origin in
+    let kept = c.keeper-1.given.1 (sym (ap (λ (names : List ℕ). get_or names 0 0) lent)) in
+    let ticked = c.clock-1.given.1 (sym (ap (λ (names : List ℕ). get_or names 1 0) lent)) in
     let closed = c.serve_desk-served.new.desk in
     serves_over g.S.Source.left g.W.Sink.written g.K.Keeper.holding g.K.Keeper.faults g.C.Clock.days
     g.met.K.Keeper.is_holding c.args.book c.args.keeper.now c.args.clock.now _ c.requires.right c.requires.held
@@ -23,7 +23,8 @@ returns-clause-served g c =
       none_pending = c.new-office.ensures.pending ∙ ap pending_of c.requires.none_pending;
       no_marks = c.new-office.ensures.marks ∙ c.requires.no_marks;
     })
-    _ _ _ _ _ _ _ _ closed c.serve_desk-served.ensures.served (kept ∙ c.close-keeper.ensures.keeper)
+    _ _ _ _ _ _ _ _ _ closed c.serve_desk-served.ensures.served (kept ∙ c.close-keeper.ensures.keeper)
+    (ticked ∙ c.close-keeper.ensures.clock)
     (subst (λ (k : g.row.K.Denot). (g.K.Keeper.holding k).tells
     → Spells closed.entries closed.pending (g.K.Keeper.holding k).list) (sym kept) c.close-keeper.ensures.list)
     (subst (λ (k : g.row.K.Denot). (g.K.Keeper.holding k).tells
