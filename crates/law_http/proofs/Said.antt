@@ -3,7 +3,7 @@ use Rattle.std.proofs.Common.{◌≡◌, ◌∙◌, sym, ap, subst, refl, ℕ, z
 use Rattle.std.specs.Prelude.{◌≢◌, ◌≤◌, ◌↔◌, ◌||◌, IsTrue, IsFalse}
 use Rattle.std.specs.Io.KnownBytes.{append_known, prepend_known}
 use Rattle.std.proofs.lemmas.List.{append-nil}
-use Rattle.desk_base.specs.Streams.{Appended, AppendsFront, HasCause, Rose, risen}
+use Rattle.desk_base.specs.Streams.{Appended, AppendsFront, HasCause}
 use Rattle.desk_base.specs.declared.source.Failed.{Failed}
 use Rattle.law_http.specs.Hearing.{AreHeard, HoldsNoRequest, IsHeardOf}
 use Rattle.law_http.specs.Responses.{response_bytes}
@@ -94,17 +94,13 @@ front_of : (before now : Option (List ℕ)) (bytes : List ℕ) (fault : Failed) 
 front_of None now bytes fault written = tt
 front_of (Some xs) now bytes fault written = written
 
--- a count with one fault more rose
-one_is_a_rise : (count later : ℕ) → later ≡ risen count → Rose count later
-one_is_a_rise count later is = subst (λ (n : ℕ). risen count ≤ n) (sym is) (omega arith)
-
 pub put_by : (before now : Option (List ℕ)) (response : Response) (count later : ℕ) (end result : Option StreamEnd) (put : Result Unit Failed)
     → Appended before now (response_bytes response) put → HasCause count later put → result ≡ end_after put (end_behind response end)
     → PutsBefore before now response count later end result
 put_by before now response count later end result (Ok done) written cause is =
     inl (is, record { written = all_of before now (response_bytes response) done written; same = cause })
 put_by before now response count later end result (Err fault) written cause is =
-    inr (is, record { written = front_of before now (response_bytes response) fault written; rose = one_is_a_rise count later cause })
+    inr (is, record { written = front_of before now (response_bytes response) fault written; rose = cause })
 
 -- what is heard
 

@@ -3,7 +3,7 @@ use Rattle.std.specs.Prelude.{◌≡◌, ◌≢◌, ◌⊎◌, ◌↔◌, ℕ, �
 use Rattle.std.specs.Io.KnownBytes.{append_known}
 use Rattle.std.specs.List.{AllByRecursion}
 use Rattle.desk_base.specs.Crashes.{Crashes}
-use Rattle.desk_base.specs.Streams.{AppendsFront, Rose}
+use Rattle.desk_base.specs.Streams.{AppendsFront, risen}
 use Rattle.law_register.specs.Desk.States.{DeskState, Found}
 use Rattle.law_http.specs.Cutting.{after_empty_lines}
 use Rattle.law_http.specs.Hearing.{AreHeard, HoldsNoRequest, IsFirstHeard}
@@ -140,14 +140,14 @@ ArePut ends.ReadFault before now said = AreWritten before now said
 ArePut ends.WriteFault before now said = AreCut before now said
 ArePut ends.Memory before now said = AreGivenUp before now said
 
--- a stream ends by a failed read only where the count of failed reads rose, and else that is as it was
+-- a stream ends by a failed read only where the count of failed reads rose by one, and else that is as it was
 abbrev pub HasReadCause : StreamEnd → ℕ → ℕ → Type 0
-HasReadCause ends.ReadFault before now = Rose before now
+HasReadCause ends.ReadFault before now = now ≡ risen before
 HasReadCause end before now = now ≡ before
 
 -- the same of a failed write
 abbrev pub HasWriteCause : StreamEnd → ℕ → ℕ → Type 0
-HasWriteCause ends.WriteFault before now = Rose before now
+HasWriteCause ends.WriteFault before now = now ≡ risen before
 HasWriteCause end before now = now ≡ before
 
 module _ {D : Type 0} (state : D → DeskState) (crashes : D → Crashes Found) where

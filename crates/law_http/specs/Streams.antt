@@ -1,15 +1,15 @@
 -- What reading does to a stream: the bytes that were read and not used, with those that the link has left.
 use Rattle.std.specs.Prelude.{◌≡◌, ℕ, List, [], ◌++◌, Option, None, Some, Result, Ok, Err, option_map, ⊤}
 use Rattle.std.specs.Io.KnownBytes.{Keeps, prepend_known}
-use Rattle.desk_base.specs.Streams.{Rose}
+use Rattle.desk_base.specs.Streams.{risen}
 use Rattle.law_http.specs.Cutting.{after_empty_lines, head_length}
 use Rattle.law_http.specs.declared.heard.HearFault.{HearFault}
 use Rattle.law_http.specs.declared.heard.HearFault.TheVariants.{ReadFault, Memory}
 
--- a read fails only where the count of faults rose, and else that is as it was
+-- a read fails only where the count of faults rose by one, and else that is as it was
 abbrev pub HasHearCause : {T : Type 0} → ℕ → ℕ → Result T HearFault → Type 0
 HasHearCause before now (Ok value) = now ≡ before
-HasHearCause before now (Err ReadFault) = Rose before now
+HasHearCause before now (Err ReadFault) = now ≡ risen before
 HasHearCause before now (Err Memory) = now ≡ before
 
 -- nothing of a stream is lost but empty lines where a request would begin, where the link tells

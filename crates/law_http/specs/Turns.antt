@@ -1,7 +1,7 @@
 -- What a turn of a stream comes to: one request is answered and the stream goes on, or the stream ends.
 use Rattle.std.specs.Prelude.{◌≡◌, ◌≢◌, ◌⊎◌, ◌↔◌, ℕ, ◌+◌, ◌≤◌, ◌<◌, ◌||◌, Bool, true, false, IsTrue, IsFalse, List, Option, None, Some, Result, Ok, Err}
 use Rattle.desk_base.specs.Crashes.{Crashes}
-use Rattle.desk_base.specs.Streams.{AppendsFront, Rose}
+use Rattle.desk_base.specs.Streams.{AppendsFront, risen}
 use Rattle.desk_base.specs.declared.source.Failed.{Failed}
 use Rattle.law_register.specs.Desk.States.{DeskState, Found}
 use Rattle.law_http.specs.Hearing.{IsHeardOf}
@@ -39,7 +39,7 @@ pub record IsPut (before now : Option (List ℕ)) (response : Response) (count l
 -- the write of a response failed
 pub record IsPutInPart (before now : Option (List ℕ)) (response : Response) (count later : ℕ) : Type 0 where
   pub written : AppendsFront before now (response_bytes response)
-  pub rose : Rose count later
+  pub rose : later ≡ risen count
 
 -- what comes of writing a response behind which the stream ends so, or goes on
 abbrev pub PutsBefore : Option (List ℕ) → Option (List ℕ) → Response → ℕ → ℕ → Option StreamEnd → Option StreamEnd

@@ -1,7 +1,7 @@
 -- Which entries the payloads of a keeper stand for, or what keeps a register from being opened.
 use Rattle.std.specs.Prelude.{ℕ, ◌≡◌, ◌⊎◌, ◌+◌, ◌<◌, List, [], ◌∷◌, ◌++◌, length, map, Option, Some, None, Result, Ok, Err, IfOk, if◌then◌else◌}
 use Rattle.std.specs.List.{AllByRecursion}
-use Rattle.desk_base.specs.Streams.{Rose}
+use Rattle.desk_base.specs.Streams.{risen}
 use Rattle.law_journal.specs.Grammar.{Listing}
 use Rattle.law_register.specs.declared.desk.damage.Damage.{Damage}
 use Rattle.law_register.specs.declared.desk.damage.Damage.TheVariants as damage
@@ -91,16 +91,16 @@ IsOfPayload fails.Failed = ⊥
 IsOfPayload (fails.Damaged broken) = Unit {0}
 IsOfPayload fails.Memory = Unit {0}
 
--- an opening fails only where the count of faults rose; else the count is as it was, but for damage that the keeper
--- may have counted
+-- an opening fails only where the count of faults rose by one; else the count is as it was, but for damage that the
+-- keeper may have counted
 abbrev pub HasDamageCause : ℕ → ℕ → Damage → Type 0
-HasDamageCause before now (damage.Journal place byte) = (now ≡ before) ⊎ Rose before now
+HasDamageCause before now (damage.Journal place byte) = (now ≡ before) ⊎ (now ≡ risen before)
 HasDamageCause before now (damage.Entry number place byte) = now ≡ before
 HasDamageCause before now (damage.Order number rule) = now ≡ before
 
 abbrev pub HasOpenCause : {A : Type 0} → ℕ → ℕ → Result A OpenFault → Type 0
 HasOpenCause before now (Ok value) = now ≡ before
-HasOpenCause before now (Err fails.Failed) = Rose before now
+HasOpenCause before now (Err fails.Failed) = now ≡ risen before
 HasOpenCause before now (Err (fails.Damaged broken)) = HasDamageCause before now broken
 HasOpenCause before now (Err fails.Memory) = now ≡ before
 

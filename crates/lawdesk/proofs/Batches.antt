@@ -1,6 +1,6 @@
 -- What a run of `batch` leaves follows of how its stream ended, or of why no register was opened.
-use Rattle.std.proofs.Common.{◌≡◌, ◌≢◌, ◌⊎◌, ◌<◌, refl, sym, ap, subst, ◌∙◌, inl, inr, ℕ, zero, suc, ◌+◌, Bool, true, false, List, Option, None, Result, Ok, Err, arith, rules}
-use Rattle.desk_base.specs.Streams.{AppendsFront, Rose}
+use Rattle.std.proofs.Common.{◌≡◌, ◌≢◌, ◌⊎◌, ◌<◌, ◌≤◌, refl, sym, ap, subst, ◌∙◌, inl, inr, ℕ, zero, suc, ◌+◌, Bool, true, false, List, Option, None, Result, Ok, Err, arith, rules}
+use Rattle.desk_base.specs.Streams.{AppendsFront, Rose, risen}
 use Rattle.law_http.proofs.Faultless.{determined}
 use Rattle.law_http.specs.Faultless.{IsDetermined, IsFaultless, IsWhole}
 use Rattle.law_http.specs.Streaming.{HasReadCause, HasWriteCause, RoseBy, faults_told}
@@ -31,7 +31,7 @@ stream_status_is ends.WriteFault faulted = inr (inr (inr (inl refl)))
 stream_status_is ends.Memory faulted = inr (inr (inr (inr (inr (inr refl)))))
 
 read_cause : (end : StreamEnd) (faulted : Bool) (before now : ℕ) → HasReadCause end before now
-    → stream_status end faulted ≡ 3 → Rose before now
+    → stream_status end faulted ≡ 3 → now ≡ risen before
 read_cause ends.End true before now cause three = absurd (omega (arith, three))
 read_cause ends.End false before now cause three = absurd (omega (arith, three))
 read_cause (ends.Refused refusal) true before now cause three = absurd (omega (arith, three))
@@ -49,7 +49,7 @@ read_stays ends.WriteFault faulted before now cause other = cause
 read_stays ends.Memory faulted before now cause other = cause
 
 write_cause : (end : StreamEnd) (faulted : Bool) (before now : ℕ) → HasWriteCause end before now
-    → stream_status end faulted ≡ 4 → Rose before now
+    → stream_status end faulted ≡ 4 → now ≡ risen before
 write_cause ends.End true before now cause four = absurd (omega (arith, four))
 write_cause ends.End false before now cause four = absurd (omega (arith, four))
 write_cause (ends.Refused refusal) true before now cause four = absurd (omega (arith, four))
@@ -131,13 +131,16 @@ refusal_status_is (fails.Damaged damage) before after status (inr (inr told)) = 
 refusal_status_is fails.Failed before after status told = inr (inl told)
 refusal_status_is fails.Memory before after status told = inr (inr (inr told))
 
+rose_once : (before now : ℕ) → now ≡ risen before → Rose before now
+rose_once before now is = subst (λ (n : ℕ). risen before ≤ n) (sym is) (omega arith)
+
 refusal_cause : (fault : OpenFault) (before after : Option (List ℕ)) (status faults now : ℕ)
     → TellsRefusal fault before after status → HasRefusalCause faults now fault → status ≡ 5 → Rose faults now
 refusal_cause (fails.Damaged damage) before after status faults now (inl told) cause five = absurd (omega (arith, told.0))
 refusal_cause (fails.Damaged damage) before after status faults now (inr (inl told)) cause five =
     absurd (omega (arith, told.0))
 refusal_cause (fails.Damaged damage) before after status faults now (inr (inr told)) cause five = absurd (omega arith)
-refusal_cause fails.Failed before after status faults now told cause five = cause
+refusal_cause fails.Failed before after status faults now told cause five = rose_once faults now cause
 refusal_cause fails.Memory before after status faults now told cause five = absurd (omega arith)
 
 any_status : (status : ℕ) → (status ≡ 4) ⊎ ((status ≡ 5) ⊎ ((status ≡ 6) ⊎ (status ≡ 7))) → IsBatchStatus status
@@ -164,7 +167,7 @@ module _ {S W K C : Type 0} (left : S → Option (List ℕ)) (read_faults : S �
       → LeavesOldOrSame (holding keeper) (holding keeper_new)
       → TellsRefusal fault (written sink) (written sink_new) status
       → ((status ≡ 5) ⊎ (status ≡ 7) → sink_new ≡ sink)
-      → (status ≡ 4 → Rose (write_faults sink) (write_faults sink_new))
+      → (status ≡ 4 → write_faults sink_new ≡ risen (write_faults sink))
       → (status ≢ 4 → write_faults sink_new ≡ write_faults sink)
       → source_new ≡ source → clock_new ≡ clock
       → RanBatch left read_faults written write_faults holding keeper_faults days

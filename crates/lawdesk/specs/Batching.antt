@@ -1,7 +1,7 @@
 -- What a run of `batch` leaves: the requests that a source has are served over the register that a keeper keeps.
 use Rattle.std.specs.Prelude.{ℕ, ◌≡◌, ◌≢◌, ◌++◌, List, [], Option, None, Ok, ◌⊎◌, Bool, if◌then◌else◌}
 use Rattle.desk_base.specs.Crashes.{LeavesOnly}
-use Rattle.desk_base.specs.Streams.{AppendsFront, Rose}
+use Rattle.desk_base.specs.Streams.{AppendsFront, Rose, risen}
 use Rattle.law_http.specs.Faultless.{IsDetermined}
 use Rattle.law_http.specs.Streaming.{IsStreamed}
 use Rattle.law_http.specs.declared.streaming.Served.{Served}
@@ -135,9 +135,9 @@ module _ {S W K C : Type 0} (left : S → Option (List ℕ)) (read_faults : S �
   pub record RanBatch (status : ℕ) : Type 0 where
     pub status_is : IsBatchStatus status
     pub went : IsUnopened status ⊎ IsServed status
-    -- each fault has its cause; want of memory has none
-    pub source_cause : status ≡ 3 → Rose (read_faults source) (read_faults source_new)
-    pub sink_cause : status ≡ 4 → Rose (write_faults sink) (write_faults sink_new)
+    -- each fault has its cause, one of the source or the sink, and one or more of the keeper; want of memory has none
+    pub source_cause : status ≡ 3 → read_faults source_new ≡ risen (read_faults source)
+    pub sink_cause : status ≡ 4 → write_faults sink_new ≡ risen (write_faults sink)
     pub keeper_cause : status ≡ 5 → Rose (keeper_faults keeper) (keeper_faults keeper_new)
     -- no count rose but that of the device which the status names; that of a keeper whose failures were told may have
     -- risen before a stream or memory was wanting

@@ -1,7 +1,7 @@
 -- What is told of what a keeper has: how many entries its register has, or what keeps it from being one.
 use Rattle.std.specs.Prelude.{ℕ, ◌≡◌, ◌≢◌, List, [], ◌∷◌, ◌++◌, length, Option, Result, Ok, Err, ◌⊎◌, codes}
 use Rattle.std.specs.Fmt.{decimal}
-use Rattle.desk_base.specs.Streams.{AppendsFront, Rose}
+use Rattle.desk_base.specs.Streams.{AppendsFront, risen}
 use Rattle.akn_json.specs.Printing.Damages.{damage_data}
 use Rattle.law_journal.specs.Grammar.{Listing}
 use Rattle.law_keeper.specs.Keepers.{Holding, Keeps, LeavesOldOrSame}
@@ -51,11 +51,11 @@ pub record IsChecked (list : Listing) (written after : Option (List ℕ)) (statu
 abbrev pub IsCheckCut : Listing → Option (List ℕ) → Option (List ℕ) → Type 0
 IsCheckCut list written after = AppendsFront written after (checked list).bytes
 
--- the count of a keeper's faults after an opening, of which this is reported: it rose where the keeper failed, and is as it was
--- for a register
+-- the count of a keeper's faults after an opening, of which this is reported: it rose by one where the keeper failed, and is as
+-- it was for a register
 abbrev pub HasCheckCause : ℕ → ℕ → Result Report OpenFault → Type 0
 HasCheckCause before now (Ok report) = IsCheckDone report.status × (report.status ≡ 0 → now ≡ before)
-HasCheckCause before now (Err fails.Failed) = Rose before now
+HasCheckCause before now (Err fails.Failed) = now ≡ risen before
 HasCheckCause before now (Err (fails.Damaged broken)) = ⊥
 HasCheckCause before now (Err fails.Memory) = Unit {0}
 
@@ -68,8 +68,8 @@ pub record RanCheck {K W : Type 0} (holding : K → Holding) (faults : K → ℕ
   pub told_is : IsCheckDone status → (holding keeper).tells
       → IsChecked (holding keeper).list (written sink) (written sink_new) status
   -- one that was not, and its cause; want of memory has none
-  pub keeper_cause : status ≡ 5 → Rose (faults keeper) (faults keeper_new)
-  pub sink_cause : status ≡ 4 → Rose (write_faults sink) (write_faults sink_new)
+  pub keeper_cause : status ≡ 5 → faults keeper_new ≡ risen (faults keeper)
+  pub sink_cause : status ≡ 4 → write_faults sink_new ≡ risen (write_faults sink)
   pub cut : status ≡ 4 → (holding keeper).tells
       → IsCheckCut (holding keeper).list (written sink) (written sink_new)
   pub unwritten : (status ≡ 5) ⊎ (status ≡ 7) → sink_new ≡ sink

@@ -1,6 +1,6 @@
 -- What a run of `generate` leaves.
 use Rattle.std.specs.Prelude.{ℕ, ◌≡◌, ◌≢◌, ◌⊎◌, List, Option}
-use Rattle.desk_base.specs.Streams.{AppendsFront, Rose}
+use Rattle.desk_base.specs.Streams.{AppendsFront, risen}
 use Rattle.law_generator.specs.Courses.{generated, line_of}
 use Rattle.dossier_text.specs.Runs.{IsWritten}
 use Rattle.lawdesk.specs.declared.job.GenerateJob.{GenerateJob}
@@ -24,7 +24,7 @@ pub record RanGenerate {W : Type 0} (written : W → Option (List ℕ)) (write_f
   -- a register that is told: its line is all that was written
   pub told_is : status ≡ 0 → IsGenerated job (written sink) (written sink_new)
   -- one that is not, and its cause; want of memory has none
-  pub sink_cause : status ≡ 4 → Rose (write_faults sink) (write_faults sink_new)
+  pub sink_cause : status ≡ 4 → write_faults sink_new ≡ risen (write_faults sink)
   pub cut : status ≡ 4 → IsGenerateCut job (written sink) (written sink_new)
   pub unwritten : status ≡ 7 → sink_new ≡ sink
   pub sink_stays : status ≢ 4 → write_faults sink_new ≡ write_faults sink

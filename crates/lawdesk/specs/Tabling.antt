@@ -1,6 +1,6 @@
 -- What a run of `report` leaves: a table of what the register that a keeper keeps knows, or what keeps it from being made.
 use Rattle.std.specs.Prelude.{ℕ, ◌≡◌, ◌≢◌, List, Option, Result, Ok, Err, ◌⊎◌}
-use Rattle.desk_base.specs.Streams.{AppendsFront, Rose}
+use Rattle.desk_base.specs.Streams.{AppendsFront, risen}
 use Rattle.akn_json.specs.Printing.Refusals.{query_data}
 use Rattle.law_journal.specs.Grammar.{Listing}
 use Rattle.law_keeper.specs.Keepers.{Holding, Keeps, LeavesOldOrSame}
@@ -61,12 +61,12 @@ pub record IsReportCut (job : ReportJob) (list : Listing) (written after : Optio
   pub is : IsReported job list told
   pub bytes_cut : AppendsFront written after told.bytes
 
--- the count of a keeper's faults after an opening, of which this is reported: it rose where the keeper failed, and is as it was
--- for a register
+-- the count of a keeper's faults after an opening, of which this is reported: it rose by one where the keeper failed, and is as
+-- it was for a register
 abbrev pub HasReportCause : ℕ → ℕ → Result Report OpenFault → Type 0
 HasReportCause before now (Ok report) =
     IsReportDone report.status × ((report.status ≡ 0) ⊎ (report.status ≡ 9) → now ≡ before)
-HasReportCause before now (Err fails.Failed) = Rose before now
+HasReportCause before now (Err fails.Failed) = now ≡ risen before
 HasReportCause before now (Err (fails.Damaged broken)) = ⊥
 HasReportCause before now (Err fails.Memory) = Unit {0}
 
@@ -79,8 +79,8 @@ pub record RanReport {K W : Type 0} (holding : K → Holding) (faults : K → �
   pub told_is : IsReportDone status → (holding keeper).tells
       → IsTabled job (holding keeper).list (written sink) (written sink_new) status
   -- one that was not, and its cause; want of memory has none
-  pub keeper_cause : status ≡ 5 → Rose (faults keeper) (faults keeper_new)
-  pub sink_cause : status ≡ 4 → Rose (write_faults sink) (write_faults sink_new)
+  pub keeper_cause : status ≡ 5 → faults keeper_new ≡ risen (faults keeper)
+  pub sink_cause : status ≡ 4 → write_faults sink_new ≡ risen (write_faults sink)
   pub cut : status ≡ 4 → (holding keeper).tells
       → IsReportCut job (holding keeper).list (written sink) (written sink_new)
   pub unwritten : (status ≡ 5) ⊎ (status ≡ 7) → sink_new ≡ sink

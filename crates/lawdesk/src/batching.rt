@@ -1,7 +1,7 @@
 //! Batching: the requests that a source has are served over the register that is kept, one after another.
 
 ghost use Rattle.std.specs.Prelude.{◌≡◌, ◌≢◌, ◌⊎◌, None, [], if◌then◌else◌};
-ghost use Rattle.desk_base.specs.Streams.{Rose};
+ghost use Rattle.desk_base.specs.Streams.{risen};
 ghost use Rattle.law_http.specs.Streaming.{HasReadCause, HasWriteCause, IsStreamed};
 ghost use Rattle.law_office.specs.Offices.{HoldsBook, IsRight};
 ghost use Rattle.lawdesk.specs.Batching.{RanBatch, ServesOver, TellsDamage, TellsRefusal, stream_status};
@@ -19,7 +19,7 @@ use std::sync::ledger::Ledger;
 fn tell_damage<W: Sink>(alloc: Global, sink: &mut W, damage: Damage) -> u8
     ensures told { TellsDamage damage (W.written sink.old) (W.written sink.new) result }
     ensures unwritten { result ≡ 7 → sink.new ≡ sink.old }
-    ensures cause { result ≡ 4 → Rose (W.faults sink.old) (W.faults sink.new) }
+    ensures cause { result ≡ 4 → W.faults sink.new ≡ risen (W.faults sink.old) }
     ensures stays { result ≢ 4 → W.faults sink.new ≡ W.faults sink.old }
 {
     match report_damage(alloc, damage) {
@@ -35,7 +35,7 @@ fn tell_damage<W: Sink>(alloc: Global, sink: &mut W, damage: Damage) -> u8
 fn tell_refusal<W: Sink>(alloc: Global, sink: &mut W, fault: OpenFault) -> u8
     ensures told { TellsRefusal fault (W.written sink.old) (W.written sink.new) result }
     ensures unwritten { (result ≡ 5) ⊎ (result ≡ 7) → sink.new ≡ sink.old }
-    ensures cause { result ≡ 4 → Rose (W.faults sink.old) (W.faults sink.new) }
+    ensures cause { result ≡ 4 → W.faults sink.new ≡ risen (W.faults sink.old) }
     ensures stays { result ≢ 4 → W.faults sink.new ≡ W.faults sink.old }
 {
     match fault {

@@ -1,7 +1,7 @@
 //! Checking: whether what is kept is a register, and where not, what first shows it.
 
 ghost use Rattle.std.specs.Prelude.{◌≡◌, ◌≢◌, ◌⊎◌, ℕ, IfOk, Result, List};
-ghost use Rattle.desk_base.specs.Streams.{Rose};
+ghost use Rattle.desk_base.specs.Streams.{risen};
 ghost use Rattle.law_keeper.specs.Keepers.{Keeps, LeavesOldOrSame};
 ghost use Rattle.law_office.specs.Opening.{HasOpenCause, Opens};
 ghost use Rattle.law_register.specs.declared.desk.damage.Damage.{Damage};
@@ -74,8 +74,8 @@ pub fn check<W: Sink, K: Keeper>(alloc: Global, sink: &mut W, keeper: &mut K) ->
     ensures status { IsCheckStatus result }
     ensures told { IsCheckDone result → (K.holding keeper.old).tells
         → IsChecked (K.holding keeper.old).list (W.written sink.old) (W.written sink.new) result }
-    ensures keeper { result ≡ 5 → Rose (K.faults keeper.old) (K.faults keeper.new) }
-    ensures sink { result ≡ 4 → Rose (W.faults sink.old) (W.faults sink.new) }
+    ensures keeper { result ≡ 5 → K.faults keeper.new ≡ risen (K.faults keeper.old) }
+    ensures sink { result ≡ 4 → W.faults sink.new ≡ risen (W.faults sink.old) }
     ensures cut { result ≡ 4 → (K.holding keeper.old).tells
         → IsCheckCut (K.holding keeper.old).list (W.written sink.old) (W.written sink.new) }
     ensures unwritten { (result ≡ 5) ⊎ (result ≡ 7) → sink.new ≡ sink.old }

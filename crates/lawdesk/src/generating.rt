@@ -1,7 +1,7 @@
 //! Generating: a register is generated over a keeper in memory, and what is told of it is written.
 
 ghost use Rattle.std.specs.Prelude.{◌≡◌, ◌≢◌, [], IfOk, Ok};
-ghost use Rattle.desk_base.specs.Streams.{Rose};
+ghost use Rattle.desk_base.specs.Streams.{risen};
 ghost use Rattle.law_generator.specs.Acts.{first_day as day_of_all};
 ghost use Rattle.law_generator.specs.Courses.{TellsOnly, generated, line_of};
 ghost use Rattle.law_office.specs.Offices.{HoldsBook, IsRight};
@@ -83,7 +83,7 @@ pub fn generate_line<W: Sink, L: Ledger>(
 ) -> u8
     ensures status { IsGenerateStatus result }
     ensures told { result ≡ 0 → IsGenerated job (W.written sink.old) (W.written sink.new) }
-    ensures sink { result ≡ 4 → Rose (W.faults sink.old) (W.faults sink.new) }
+    ensures sink { result ≡ 4 → W.faults sink.new ≡ risen (W.faults sink.old) }
     ensures cut { result ≡ 4 → IsGenerateCut job (W.written sink.old) (W.written sink.new) }
     ensures unwritten { result ≡ 7 → sink.new ≡ sink.old }
     ensures sink_stays { result ≢ 4 → W.faults sink.new ≡ W.faults sink.old }

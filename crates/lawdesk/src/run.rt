@@ -35,11 +35,12 @@ pub fn run<S: Source, W: Sink, K: Keeper, C: Clock, L: Ledger>(
     clock: &mut C,
     steps: &mut Steps<L>,
 ) -> u8
-    // Which statuses there are, and when the words are no form of the command line: then nothing is asked of any device.
+    // Which statuses there are, and when the words are no form of the command line: then nothing is asked of any device, and no step is counted.
     ensures status { IsStatus result }
     ensures words { (result ≡ 2) ↔ (job_of (map string_bytes words.now) ≡ None) }
     ensures idle { result ≡ 2 → (source.new ≡ source.old) × (sink.new ≡ sink.old) }
     ensures idle_register { result ≡ 2 → (keeper.new ≡ keeper.old) × (clock.new ≡ clock.old) }
+    ensures idle_steps { result ≡ 2 → steps.new ≡ steps.old }
 
     // The text of an act, which leaves the register alone.
     ensures text { (job : TextJob) → job_of (map string_bytes words.now) ≡ Some (Text job)

@@ -1,7 +1,7 @@
 //! Tabling: a table of what the register that is kept knows.
 
 ghost use Rattle.std.specs.Prelude.{◌≡◌, ◌≢◌, ◌⊎◌, ℕ, IfOk, List, Result};
-ghost use Rattle.desk_base.specs.Streams.{Rose};
+ghost use Rattle.desk_base.specs.Streams.{risen};
 ghost use Rattle.law_keeper.specs.Keepers.{Keeps, LeavesOldOrSame};
 ghost use Rattle.law_office.specs.Opening.{HasOpenCause, Opens};
 ghost use Rattle.law_register.specs.declared.answer.queries.QueryRule.{QueryRule as Rule};
@@ -116,8 +116,8 @@ pub fn tabulate<W: Sink, K: Keeper, L: Ledger>(
     ensures status { IsReportStatus result }
     ensures told { IsReportDone result → (K.holding keeper.old).tells
         → IsTabled job.now (K.holding keeper.old).list (W.written sink.old) (W.written sink.new) result }
-    ensures keeper { result ≡ 5 → Rose (K.faults keeper.old) (K.faults keeper.new) }
-    ensures sink { result ≡ 4 → Rose (W.faults sink.old) (W.faults sink.new) }
+    ensures keeper { result ≡ 5 → K.faults keeper.new ≡ risen (K.faults keeper.old) }
+    ensures sink { result ≡ 4 → W.faults sink.new ≡ risen (W.faults sink.old) }
     ensures cut { result ≡ 4 → (K.holding keeper.old).tells
         → IsReportCut job.now (K.holding keeper.old).list (W.written sink.old) (W.written sink.new) }
     ensures unwritten { (result ≡ 5) ⊎ (result ≡ 7) → sink.new ≡ sink.old }
