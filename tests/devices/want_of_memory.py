@@ -34,7 +34,7 @@ def within(size, words, given, folder):
 def check_said(size, words, done):
     """Counts a check only where what a run said is not what belongs to its status, since a search makes many runs. Of one that could not
     even start, the system says something."""
-    said = {0: b"", 2: dossiers.USAGE, 7: checks.SAID[7]}
+    said = {0: b"", 2: dossiers.of_words("no command is given"), 7: checks.SAID[7]}
     wanted = said.get(done.returncode, done.stderr)
     if done.stderr != wanted:
         check(f"what {words} says with {size} bytes of addresses", (done.returncode, done.stderr), (done.returncode, wanted))

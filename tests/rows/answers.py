@@ -28,10 +28,10 @@ def rows():
 
 
 def words():
-    """Words that are no form of the command line: status 2, the usage on standard error, nothing read or written."""
-    for line in dossiers.NO_WORDS:
+    """Words that are no form of the command line: status 2, which word is wrong and the usage on standard error, nothing read or written."""
+    for line, said in dossiers.WRONG_WORDS:
         done = subprocess.run([PROGRAM] + line, input=dossiers.dossier(), capture_output=True, timeout=60)
-        check(f"the words {line}", (done.returncode, done.stdout, done.stderr), (2, b"", dossiers.USAGE))
+        check(f"the words {line}", (done.returncode, done.stdout, done.stderr), (2, b"", dossiers.of_words(said)))
 
 
 def checked():

@@ -141,23 +141,55 @@ def padded(length):
     return text + b" " * (length - len(text))
 
 
-# What is said of words that are no form: the script shows this file, and the program says the same.
+# What is said of all words that are no form, behind the line that says which word is wrong: the script shows this file, and the program says
+# the same.
 USAGE = read("crates", "lawdesk", "usage.txt")
 
-# Words that are no form of the command line.
-NO_WORDS = [
-    [], ["text"], ["text", "2010-13-01"], ["text", "2010-05-01", "Force"], ["text", "2010-05-01", "inForce"], ["text", "2010-05-01", ""],
-    ["text", "force"], ["text", "force", "2010-05-01"], ["text", "2010-05-01", "force", "force"], ["Text", "2010-05-01"],
-    ["text", "20100501"], ["text", "2010-05-1"], ["text", "0000-01-01"], ["text", "2010-02-29"], ["text", "1900-02-29"],
-    ["text", "2010-04-31"], ["text", "2010-00-10"], ["text", "2010-10-00"], ["text", "2010-10-32"], ["text", "2010-05-01 "],
-    ["text", "2010-05-01\n"], ["text", "+010-05-01"], ["text", b"2010-05-0\xff"], ["--help"], ["help"], ["text", "--", "2010-05-01"], [""],
-    ["check", "check"], ["check", "2010-05-01"], ["Check"], ["check", ""], ["checks"], ["--check"],
-    ["batch", "batch"], ["batch", "2010-05-01"], ["batch", ""], ["Batch"], ["batches"], ["--batch"], ["text", "batch"],
-    ["generate"], ["generate", "1"], ["generate", "1", "1", "1"], ["Generate", "1", "1"], ["generates", "1", "1"],
-    ["generate", "01", "1"], ["generate", "1", "01"], ["generate", "00", "1"], ["generate", "", "1"], ["generate", "1", ""],
-    ["generate", "1", "0"], ["generate", "1", "2001"], ["generate", "18446744073709551616", "1"], ["generate", "-1", "1"],
-    ["generate", "+1", "1"], ["generate", "1", "1 "], ["generate", "0x1", "1"], ["generate", "1", "18446744073709551617"],
+DAY = "text wants a day, as 2011-01-01"
+READING = "text wants a reading, force or efficacy"
+SEED = "generate wants a seed, from 0 to 18446744073709551615"
+COUNT = "generate wants a count, from 1 to 2000"
+WORK = "report wants the IRI of an act, as /akn/gb/act/2010-05-01/7"
+TABLE = "report wants a table, lifecycle, correspondence or unapplied"
+MONTH = "report wants a day, as 2011-01-01"
+LIFE = ["report", "lifecycle", IRI]
+BOTH = ["report", "correspondence", IRI]
+
+# Words that are no form of the command line, and what is said of the one that is wrong.
+WRONG_WORDS = [
+    ([], "no command is given"), ([""], "the 1st word is no command"), (["\x1b[2J"], "the 1st word is no command"),
+    (["x" * 40], f"{'x' * 40} is no command"), (["x" * 41], "the 1st word is no command"),
+    (["text"], DAY), (["text", "2010-05-01 "], f"{DAY}, and not the 2nd word"), (["text", "2010-05-01\n"], f"{DAY}, and not the 2nd word"),
+    (["text", b"2010-05-0\xff"], "a word is no text in UTF-8"), (["text", "force", "2010-05-01"], f"{DAY}, and not force"),
+    (["text", "--", "2010-05-01"], f"{DAY}, and not --"), (["text", "2010-05-01", ""], f"{READING}, and not the 3rd word"),
+    (["text", "2010-05-01", "force", "force"], "text wants no more words, and not force"),
+    (["check", ""], "check wants no more words, and not the 2nd word"), (["batch", ""], "batch wants no more words, and not the 2nd word"),
+    (["generate"], SEED), (["generate", "1"], COUNT), (["generate", "1", "1", "1"], "generate wants no more words, and not 1"),
+    (["generate", "", "1"], f"{SEED}, and not the 2nd word"), (["generate", "1", ""], f"{COUNT}, and not the 3rd word"),
+    (["generate", "1", "1 "], f"{COUNT}, and not the 3rd word"),
+    (["report"], TABLE), (["report", "life", IRI], f"{TABLE}, and not life"), (["report", "lifecycle"], WORK),
+    (["report", "lifecycle", "2010-05-01"], f"{WORK}, and not 2010-05-01"), (["report", "unapplied"], MONTH),
+    (["report", "unapplied", IRI], f"{MONTH}, and not {IRI}"), (LIFE + ["2010-05-01"], "report wants no more words, and not 2010-05-01"),
+    (BOTH, MONTH), (BOTH + ["2010-05-01"], MONTH), (BOTH + ["2010-05-01", "2010-05-32"], f"{MONTH}, and not 2010-05-32"),
+    (BOTH + ["2010-05-01", "2010-05-01", "2010-05-01\t"], "report wants no more words, and not the 6th word"),
+    *((["text", day], f"{DAY}, and not {day}") for day in (
+        "2010-13-01 force 20100501 2010-05-1 0000-01-01 2010-02-29 1900-02-29 2010-04-31 2010-00-10 2010-10-00 2010-10-32 +010-05-01 batch"
+    ).split()),
+    *((["text", "2010-05-01", reading], f"{READING}, and not {reading}") for reading in ("Force", "inForce")),
+    *(([word, *more], f"{word} is no command") for word, *more in (
+        ("Text", "2010-05-01"), ("--help",), ("help",), ("Check",), ("checks",), ("--check",), ("Batch",), ("batches",), ("--batch",),
+        ("Generate", "1", "1"), ("generates", "1", "1"), ("reports", "unapplied", "2010-05-01"))),
+    *(([word, more], f"{word} wants no more words, and not {more}") for word in ("check", "batch") for more in (word, "2010-05-01")),
+    *((["generate", seed, "1"], f"{SEED}, and not {seed}") for seed in ("01", "00", "18446744073709551616", "-1", "+1", "0x1")),
+    *((["generate", "1", count], f"{COUNT}, and not {count}") for count in ("01", "0", "2001", "18446744073709551617")),
 ]
+
+NO_WORDS = [words for words, _ in WRONG_WORDS]
+
+
+def of_words(line):
+    """What is said on standard error of words of which this is said."""
+    return b"lawdesk: " + line.encode() + b"\n" + USAGE
 
 
 # Dossiers that are answered, each at a limit or with a part that may be so.

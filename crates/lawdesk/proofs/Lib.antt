@@ -9,3 +9,6 @@ pub mod WordWalk
 pub mod Dashes
 pub mod FourWords
 pub mod Wanting
+pub mod Misfits
+pub mod WordForms
+pub mod WordFronts

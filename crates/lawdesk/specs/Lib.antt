@@ -1,7 +1,9 @@
+pub mod Amiss
 pub mod Generating
 pub mod Batching
 pub mod Checking
 pub mod Jobs
+pub mod Notices
 pub mod Taking
 pub mod Outliving
 pub mod ReportJobs

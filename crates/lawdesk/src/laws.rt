@@ -1,10 +1,12 @@
 //! Laws of the program: what it takes and what it says, number by number and word by word. Each is a function that does
 //! nothing, whose clauses are the law.
 
-ghost use Rattle.std.specs.Prelude.{◌≡◌, ◌+◌, ◌∷◌, ◌++◌, [], Bool, true, false, Some, None, codes};
+ghost use Rattle.std.specs.Prelude.{◌≡◌, ◌≢◌, ◌↔◌, ◌<◌, ◌+◌, ◌∷◌, ◌++◌, [], ℕ, Bool, true, false, List, Option, Some, None, codes, length, take};
 ghost use Rattle.akn_json.specs.Reading.Bytes.{most_bytes};
+ghost use Rattle.lawdesk.specs.Amiss.{amiss};
 ghost use Rattle.lawdesk.specs.Jobs.{job_of};
-ghost use Rattle.lawdesk.specs.Statuses.{notice_of};
+ghost use Rattle.lawdesk.specs.Notices.{notice_of, usage_of};
+ghost use Rattle.lawdesk.specs.declared.amiss.Amiss.{Amiss};
 ghost use Rattle.lawdesk.specs.declared.job.Job.TheVariants.{Generate};
 ghost use Rattle.lawdesk.specs.declared.usage.TheConstants.{USAGE_TEXT};
 
@@ -24,18 +26,43 @@ pub fn counts_are_limited()
     ensures larger_seed { job_of (codes "generate" ∷ codes "18446744073709551616" ∷ codes "1" ∷ []) ≡ None }
 {}
 
-/// What is said on standard error beside a status.
-pub fn notices_are_these()
-    ensures words { (held : Bool) → notice_of 2 held ≡ Some USAGE_TEXT.now }
-    ensures source { (held : Bool) → notice_of 3 held ≡ Some (codes "lawdesk: standard input could not be read") }
-    ensures sink { (held : Bool) → notice_of 4 held ≡ Some (codes "lawdesk: standard output could not be written") }
-    ensures keeper { notice_of 5 false
-        ≡ Some (codes "lawdesk: the journal lawdesk.jnl could not be opened, read or written") }
-    ensures held { notice_of 5 true ≡ Some (codes "lawdesk: another process holds lawdesk.jnl") }
-    ensures memory { (held : Bool) → notice_of 7 held ≡ Some (codes "lawdesk: there was not enough memory") }
+/// Where words are no form of the command line, and there alone, one of them is named, or the one that is missing behind them: the
+/// words before it begin a form, and no form begins with them and it.
+pub fn wrong_words_are_named()
+    ensures named { (words : List (List ℕ)) → (amiss words ≡ None) ↔ (job_of words ≢ None) }
+    ensures front { (words : List (List ℕ)) (found : Amiss) → amiss words ≡ Some found
+        → (more : List (List ℕ)) × (job_of (take found.index words ++ more) ≢ None) }
+    ensures wrong { (words : List (List ℕ)) (found : Amiss) → amiss words ≡ Some found → found.index < length words
+        → (more : List (List ℕ)) → job_of (take (found.index + 1) words ++ more) ≡ None }
 {}
 
-/// What is said of words that are no form of the command line.
+/// What is said of words that are no form of the command line: which is wrong, and then the usage.
+pub fn wrong_words_are_told()
+    ensures none { usage_of (Some []) ≡ codes "lawdesk: no command is given" ++ 10 ∷ USAGE_TEXT.now }
+    ensures command { usage_of (Some (codes "txt" ∷ [])) ≡ codes "lawdesk: txt is no command" ++ 10 ∷ USAGE_TEXT.now }
+    ensures hidden { usage_of (Some ((27 ∷ codes "[2J") ∷ []))
+        ≡ codes "lawdesk: the 1st word is no command" ++ 10 ∷ USAGE_TEXT.now }
+    ensures missing { usage_of (Some (codes "text" ∷ []))
+        ≡ codes "lawdesk: text wants a day, as 2011-01-01" ++ 10 ∷ USAGE_TEXT.now }
+    ensures other { usage_of (Some (codes "generate" ∷ codes "0" ∷ codes "2001" ∷ []))
+        ≡ codes "lawdesk: generate wants a count, from 1 to 2000, and not 2001" ++ 10 ∷ USAGE_TEXT.now }
+    ensures more { usage_of (Some (codes "check" ∷ codes "now" ∷ []))
+        ≡ codes "lawdesk: check wants no more words, and not now" ++ 10 ∷ USAGE_TEXT.now }
+    ensures no_text { usage_of None ≡ codes "lawdesk: a word is no text in UTF-8" ++ 10 ∷ USAGE_TEXT.now }
+{}
+
+/// What is said on standard error beside a status.
+pub fn notices_are_these()
+    ensures words { (held : Bool) (words : Option (List (List ℕ))) → notice_of 2 held words ≡ Some (usage_of words) }
+    ensures source { (held : Bool) (words : Option (List (List ℕ))) → notice_of 3 held words ≡ Some (codes "lawdesk: standard input could not be read") }
+    ensures sink { (held : Bool) (words : Option (List (List ℕ))) → notice_of 4 held words ≡ Some (codes "lawdesk: standard output could not be written") }
+    ensures keeper { (words : Option (List (List ℕ))) → notice_of 5 false words
+        ≡ Some (codes "lawdesk: the journal lawdesk.jnl could not be opened, read or written") }
+    ensures held { (words : Option (List (List ℕ))) → notice_of 5 true words ≡ Some (codes "lawdesk: another process holds lawdesk.jnl") }
+    ensures memory { (held : Bool) (words : Option (List (List ℕ))) → notice_of 7 held words ≡ Some (codes "lawdesk: there was not enough memory") }
+{}
+
+/// What is said of all words that are no form of the command line.
 pub fn usage_is_this()
     ensures { USAGE_TEXT.now ≡
         codes "lawdesk tells what the text of an act was on a day, and keeps the register of what "

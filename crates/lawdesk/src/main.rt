@@ -1,6 +1,7 @@
 //! The program of the desk.
 #![tactic(auto)]
 
+mod amiss;
 mod batching;
 mod checking;
 mod generating;
@@ -21,7 +22,7 @@ ghost use Rattle.lawdesk.specs.Statuses.{IsStatus};
 use desk_base::{Reading, Steps, UtcClock, Writing};
 use law_journal::FileDisk;
 use law_keeper::{JournalKeeper, Keeper};
-use notice::notice;
+use notice::{Said, notice};
 use run::run;
 use std::alloc::Global;
 use std::env;
@@ -86,22 +87,47 @@ fn refused(kind: ErrorKind) -> u8
     }
 }
 
-fn main(rt: HostRuntime) -> ExitCode {
-    let mut keeper = JournalKeeper::new(rt.alloc(), FileDisk::new(&rt, JOURNAL));
-    let status = match words(&rt) {
-        Ok(words) => run_over::<Brand, _, _, _, _>(
-            &rt,
-            rt.alloc(),
-            words.as_slice(),
-            rt.stdin(),
-            rt.stdout(),
-            &mut keeper,
-            Blank::new(1),
-        ),
-        Err(error) => refused(error.kind()),
+// Writes what is said to standard error.
+fn say(rt: &HostRuntime, said: Option<Said<'_>>) {
+    let Some(said) = said else {
+        return;
     };
-    if let Some(said) = notice(status, keeper.disk().is_held()) {
-        let _ = eprintln!(rt; "{said}");
+    let Said {
+        begin,
+        subject,
+        says,
+        wanted,
+        link,
+        word,
+        usage,
+    } = said;
+    let _ = eprintln!(rt; "{begin}{subject}{says}{wanted}{link}{word}");
+    if !usage.is_empty() {
+        let _ = eprintln!(rt; "{usage}");
     }
-    ExitCode::from(status)
+}
+
+fn main(rt: HostRuntime) -> ExitCode {
+    match words(&rt) {
+        Ok(words) => {
+            let mut keeper = JournalKeeper::new(rt.alloc(), FileDisk::new(&rt, JOURNAL));
+            let status = run_over::<Brand, _, _, _, _>(
+                &rt,
+                rt.alloc(),
+                words.as_slice(),
+                rt.stdin(),
+                rt.stdout(),
+                &mut keeper,
+                Blank::new(1),
+            );
+            let is_held = keeper.disk().is_held();
+            say(&rt, notice(status, is_held, Some(words.as_slice())));
+            ExitCode::from(status)
+        }
+        Err(error) => {
+            let status = refused(error.kind());
+            say(&rt, notice(status, false, None));
+            ExitCode::from(status)
+        }
+    }
 }

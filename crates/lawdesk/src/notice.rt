@@ -1,8 +1,12 @@
 //! Notices: what is said on standard error, beside the status.
 
-ghost use Rattle.std.specs.Prelude.{◌≡◌, option_map};
-ghost use Rattle.lawdesk.specs.Statuses.{notice_of};
+ghost use Rattle.std.specs.Prelude.{◌≡◌, ◌++◌, Some, map, option_map, string_bytes};
+ghost use Rattle.std.specs.Char.{is_ascii_graphic};
+ghost use Rattle.std.specs.List.{list_all};
+ghost use Rattle.lawdesk.specs.Notices as spec;
+ghost use Rattle.lawdesk.specs.Notices.{notice_of, said_text};
 
+use crate::amiss::{Amiss, Wanted};
 use crate::usage::USAGE_TEXT;
 
 pub const UNREAD: &str = "lawdesk: standard input could not be read";
@@ -15,17 +19,192 @@ pub const HELD: &str = "lawdesk: another process holds lawdesk.jnl";
 
 pub const WANTING: &str = "lawdesk: there was not enough memory";
 
-/// What is said beside a status: the usage at 2, and what failed at 3, 4, 5 and 7. Of a journal that another process holds, it is
-/// said that one does.
-pub fn notice(status: u8, is_held: bool) -> Option<&'static str>
-    ensures { option_map (λ text. text.now) result ≡ notice_of status is_held }
+/// What is said: these pieces in one line, and the usage on lines of its own where there is one.
+#[derive(Clone, Copy)]
+pub struct Said<'a> {
+    /// What the line begins with.
+    pub begin: &'static str,
+    /// Of what it speaks.
+    pub subject: &'a str,
+    /// What it says of that.
+    pub says: &'static str,
+    /// What is wanted.
+    pub wanted: &'static str,
+    /// What stands between that and the word that is wrong.
+    pub link: &'static str,
+    /// The word that is wrong.
+    pub word: &'a str,
+    /// The usage.
+    pub usage: &'static str,
+}
+
+// A line alone.
+fn line(begin: &'static str) -> Said<'static>
+    ensures { said_text result ≡ begin.now }
+{
+    Said {
+        begin,
+        subject: "",
+        says: "",
+        wanted: "",
+        link: "",
+        word: "",
+        usage: "",
+    }
+}
+
+// Whether each byte is visible and ASCII.
+fn are_visible(bytes: &[u8]) -> bool
+    ensures { result ≡ list_all is_ascii_graphic bytes.now }
+{
+    bytes.iter().all(|byte| byte.is_ascii_graphic())
+}
+
+// Whether a word is shown as it is.
+fn is_plain(word: &str) -> bool
+    ensures { result ≡ spec.is_plain word.now }
+{
+    let bytes = word.as_bytes();
+    if bytes.is_empty() || bytes.len() > 40 {
+        return false;
+    }
+    are_visible(bytes)
+}
+
+// What a word is called by its place.
+fn place_name(index: usize) -> &'static str
+    ensures { result.now ≡ spec.place_name index }
+{
+    match index {
+        0 => "the 1st word",
+        1 => "the 2nd word",
+        2 => "the 3rd word",
+        3 => "the 4th word",
+        4 => "the 5th word",
+        _ => "the 6th word",
+    }
+}
+
+// How a word is shown.
+fn shown(word: &str, index: usize) -> &str
+    ensures { result.now ≡ spec.shown word.now index }
+{
+    if is_plain(word) {
+        return word;
+    }
+    place_name(index)
+}
+
+// What is wanted, in words.
+fn wanted_text(wanted: Wanted) -> &'static str
+    ensures { result.now ≡ spec.wanted_text wanted }
+{
+    match wanted {
+        Wanted::Command => "a command",
+        Wanted::Table => "a table, lifecycle, correspondence or unapplied",
+        Wanted::Day => "a day, as 2011-01-01",
+        Wanted::Reading => "a reading, force or efficacy",
+        Wanted::Work => "the IRI of an act, as /akn/gb/act/2010-05-01/7",
+        Wanted::Seed => "a seed, from 0 to 18446744073709551615",
+        Wanted::Count => "a count, from 1 to 2000",
+        Wanted::Nothing => "no more words",
+    }
+}
+
+// What is said of words, and the usage.
+fn no_form<'a>(subject: &'a str, says: &'static str) -> Said<'a>
+    ensures { said_text result ≡ spec.with_usage (subject.now ++ says.now) }
+{
+    Said {
+        begin: "lawdesk: ",
+        subject,
+        says,
+        wanted: "",
+        link: "",
+        word: "",
+        usage: USAGE_TEXT,
+    }
+}
+
+// What is said where a command wants what is missing.
+fn missing<'a>(command: &'a str, wanted: Wanted) -> Said<'a>
+    ensures { said_text result ≡ spec.missing command.now wanted }
+{
+    Said {
+        begin: "lawdesk: ",
+        subject: command,
+        says: " wants ",
+        wanted: wanted_text(wanted),
+        link: "",
+        word: "",
+        usage: USAGE_TEXT,
+    }
+}
+
+// What is said where a command wants something else than a word.
+fn unwanted<'a>(command: &'a str, wanted: Wanted, word: &'a str) -> Said<'a>
+    ensures { said_text result ≡ spec.unwanted command.now wanted word.now }
+{
+    Said {
+        begin: "lawdesk: ",
+        subject: command,
+        says: " wants ",
+        wanted: wanted_text(wanted),
+        link: ", and not ",
+        word,
+        usage: USAGE_TEXT,
+    }
+}
+
+// What is said of a word that is there.
+fn wrong_word<'a>(command: &'a str, wanted: Wanted, word: &'a str) -> Said<'a>
+    ensures { said_text result ≡ spec.wrong_word command.now wanted word.now }
+{
+    match wanted {
+        Wanted::Command => no_form(word, " is no command"),
+        _ => unwanted(command, wanted, word),
+    }
+}
+
+// What is said of words of which this one is wrong.
+fn wrong_words(words: &[String], index: usize, wanted: Wanted) -> Said<'_>
+    ensures { said_text result ≡ spec.wrong_words (map string_bytes words.now) index wanted }
+{
+    if words.is_empty() {
+        return no_form("", "no command is given");
+    }
+    if index >= words.len() {
+        return missing(words[0].as_str(), wanted);
+    }
+    let word = shown(words[index].as_str(), index);
+    wrong_word(words[0].as_str(), wanted, word)
+}
+
+// What is said of words that are no form of the command line.
+fn usage(words: &[String]) -> Said<'_>
+    ensures { said_text result ≡ spec.usage_of (Some (map string_bytes words.now)) }
+{
+    match Amiss::of(words) {
+        Some(Amiss { index, wanted }) => wrong_words(words, index, wanted),
+        None => line(USAGE_TEXT),
+    }
+}
+
+/// What is said beside a status: at 2 which word is wrong and the usage, and what failed at 3, 4, 5 and 7. Of a journal that another
+/// process holds, it is said that one does. `None` in the place of the words: some word is no text.
+pub fn notice(status: u8, is_held: bool, words: Option<&[String]>) -> Option<Said<'_>>
+    ensures { option_map said_text result
+        ≡ notice_of status is_held (option_map (λ ws. map string_bytes ws.now) words.entry) }
 {
     match status {
-        2 => Some(USAGE_TEXT),
-        3 => Some(UNREAD),
-        4 => Some(UNWRITTEN),
-        5 => Some(if is_held { HELD } else { UNKEPT }),
-        7 => Some(WANTING),
+        2 => match words {
+            Some(words) => Some(usage(words)),
+            None => Some(no_form("", "a word is no text in UTF-8")),
+        },
+        3 => Some(line(UNREAD)),
+        4 => Some(line(UNWRITTEN)),
+        5 => Some(line(if is_held { HELD } else { UNKEPT })),
+        7 => Some(line(WANTING)),
         _ => None,
     }
 }

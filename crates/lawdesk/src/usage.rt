@@ -1,7 +1,7 @@
 //! The usage of the program.
 
-/// What is said on standard error of words that are no form of the command line. The same text stands in usage.txt, which the script
-/// at the top shows where nothing is built.
+/// What is said on standard error of words that are no form of the command line, behind the line that says which word is wrong. The same
+/// text stands in usage.txt, which the script at the top shows where nothing is built.
 pub const USAGE_TEXT: &str =
     "lawdesk tells what the text of an act was on a day, and keeps the register of what was enacted and amended.
 

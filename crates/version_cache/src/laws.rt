@@ -84,7 +84,7 @@ pub fn other_works_leave_tables(_old: &Known, _new: &Known, _tables: &WorkTables
 pub fn tables_follow_an_entry(_tables: &WorkTables)
     ensures { (entries : List Entry) (entry : Entry) (work : List ℕ)
         → is_legal entries ≡ true
-        → IsForIf (known_at entries work (front entries)) (work_view _tables.now)
-        → AreRightIf (known_at (entries ++ entry ∷ []) work (front (entries ++ entry ∷ []))) (touched_day entries entry)
+        → IsForIf (known_now entries work) (work_view _tables.now)
+        → AreRightIf (known_now (entries ++ entry ∷ []) work) (touched_day entries entry)
         (work_view _tables.now) }
 {}
