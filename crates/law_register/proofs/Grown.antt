@@ -17,7 +17,7 @@ use Rattle.law_register.specs.Register.KnownIds.{enacted, known_by}
 use Rattle.law_register.specs.Register.KnownNext.{known_by_entry, known_next, known_now, known_then, newly_known}
 use Rattle.law_register.specs.Register.LawList.{front, law_command, law_of, laws}
 use Rattle.law_register.specs.Register.Verdicts.{bad_modification, is_accepted, is_legal, law_number, verdict, work_exists}
-use Rattle.law_register.proofs.Legal.{accepted_new, kept_rules, legal_front}
+use Rattle.law_register.proofs.Legal.{accepted_new, kept_rules}
 use Rattle.law_register.proofs.Limits.{few_mods}
 use Rattle.law_register.proofs.Next.{entry_next, now_known, now_sound}
 use Rattle.law_register.proofs.Puts.{and_true, bytes_are}
@@ -73,20 +73,6 @@ module _ (es : List Entry) (e : Entry) (w : List ℕ) (known : Known) (legal : i
 
 pub grown_sound : (es : List Entry) (e : Entry) (w : List ℕ) (new : Known) → is_legal es ≡ true → IsAccepted es e → known_now (es ++ e ∷ []) w ≡ Some new → IsSound new
 grown_sound es e w new legal accepted is = subst (λ k. IfSome k IsSound) is (now_sound (es ++ e ∷ []) w (still_legal es e legal accepted))
-
--- what is known counts the law entries
-front_by : (w : List ℕ) (n : ℕ) (ls : List Command) (found : Option (ℕ × Act)) (known : Known) → known_by w n n ls found ≡ Some known → known.front ≡ n
-front_by w n ls None known h = absurd (let no : None ≡ Some known = h in cc)
-front_by w n ls (Some found) known h = by (ap (λ k. option_map (λ (x : Known). x.front) k) h)
-  where
-    by : Some n ≡ Some known.front → known.front ≡ n
-    by e = cc
-
-pub front_known : (es : List Entry) (w : List ℕ) (known : Known) → known_now es w ≡ Some known → known.front ≡ front es
-front_known es w known is = front_by w (front es) (laws es) (enacted w (laws es)) known (sym (now_known es w) ∙ is)
-
-pub front_fits : (es : List Entry) (w : List ℕ) (known : Known) → is_legal es ≡ true → known_now es w ≡ Some known → known.front ≤ 65535
-front_fits es w known legal is = subst (λ n. n ≤ 65535) (sym (front_known es w known is)) (legal_front es legal)
 
 -- what an Enact makes known
 pub enact_known : (es : List Entry) (e : Entry) (act : Act) → is_legal es ≡ true → IsAccepted es e → e.command ≡ Enact act → known_now (es ++ e ∷ []) act.work ≡ Some (newly_known (front es + 1) act)

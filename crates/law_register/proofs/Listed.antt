@@ -26,7 +26,7 @@ use Rattle.law_register.proofs.Puts.{number_is, number_same}
 use Rattle.law_register.proofs.Snoc.{laws_more, facts_more, ids_more}
 
 -- each of these ids is recorded in a work
-abbrev AreOf : List ℕ → List Command → List Id → Type 0
+abbrev pub AreOf : List ℕ → List Command → List Id → Type 0
 AreOf w L [] = Unit {0}
 AreOf w L (id ∷ ids) = (is_of w (facts_of id L) ≡ true) × AreOf w L ids
 
@@ -109,7 +109,7 @@ are_of_more w ls l h =
     subst (AreOf w (ls ++ l ∷ [])) (sym (ids_more w ls l))
     (all_of w (ls ++ l ∷ []) (ids_of w ls) (ids_recorded (length ls + 1) w l) (all_still w ls l (ids_of w ls) h) (new_of w ls l))
 
-are_of : (w : List ℕ) (L : List Command) → AreOf w L (ids_of w L)
+pub are_of : (w : List ℕ) (L : List Command) → AreOf w L (ids_of w L)
 are_of w L = by_last (λ ls. AreOf w ls (ids_of w ls)) (are_of_more w) tt L
 
 -- what marks list

@@ -20,11 +20,16 @@ use Rattle.law_register.specs.Answer.Previews.{known_by_law}
 use Rattle.law_register.specs.Answer.Soundness.{IsSound}
 use Rattle.law_register.specs.Register.Drafts.{draft_of, items_of}
 use Rattle.law_register.specs.Register.KnownIds.{IdFacts, corrected, enacted, enacted_by, enacted_or, facts_after, facts_of, first_facts, ids_from, ids_from_item, ids_of, ids_recorded, item_at, known_as, known_by, known_ids, marked}
-use Rattle.law_register.specs.Register.KnownNext.{bodies_in, bodies_known, known_by_entry, known_from, known_next, known_now, mod_after, newly_known, saying, standing_as}
+use Rattle.law_register.specs.Answer.Touched.{work_entered}
+use Rattle.law_register.specs.Register.Concerns.{concerns, is_named, is_of}
+use Rattle.law_register.specs.Register.Listing.{own_facts}
+use Rattle.law_register.specs.Register.KnownNext.{bodies_in, bodies_known, known_by_entry, known_from, known_next, known_now, mod_after, newly_known, saying, standing_as, up_to}
 use Rattle.law_register.specs.Register.LawList.{front, law_command, law_of, laws}
 use Rattle.law_register.specs.Register.Standings.{is_live}
 use Rattle.law_register.specs.Register.Verdicts.{broken_where, is_legal, unknown_in, unknown_work}
 use Rattle.law_register.proofs.Legal.{IsNew, kept_rules, legally}
+use Rattle.law_register.proofs.Listed.{AreOf, are_of}
+use Rattle.law_register.proofs.Owned.{ids_same, own_same}
 use Rattle.law_register.proofs.Past.{all_known}
 use Rattle.law_register.proofs.Puts.{bytes_same, number_is}
 use Rattle.law_register.proofs.Snoc.{enacted_more, facts_more, first_act, ids_more, laws_more}
@@ -294,3 +299,78 @@ entry_next es e w legal =
     by (inr (l, one)) =
         subst (λ ls. known_by_law (laws es ++ ls) w ≡ known_by_entry (front es) w ls (known_by_law (laws es) w)) (sym one)
         (law_next (laws es) w l (λ act is. none_before w es legal))
+
+-- what is known of a work counts the law entries
+pub now_counts : (es : List Entry) (w : List ℕ) (known : Known) → known_now es w ≡ Some known → up_to (front es) known ≡ known
+now_counts es w known is = by (enacted w (laws es)) (sym (now_known es w) ∙ is)
+  where
+    inner : (a b : Known) → Some a ≡ Some b → a ≡ b
+    inner a b h = cc
+
+    by : (found : Option (ℕ × Act)) → known_by w (front es) (front es) (laws es) found ≡ Some known → up_to (front es) known ≡ known
+    by None h = absurd (let no : None ≡ Some known = h in cc)
+    by (Some found) h =
+        let told : Known =
+        record { act = found.1; enacted = found.0; viewpoint = front es; front = front es; mods = known_ids (laws es) (ids_of w (laws es)) } in
+        subst (λ k. up_to (front es) k ≡ k) (inner told known h) refl
+
+-- an entry that does not concern a work leaves what is known of it
+owned_same : (w : List ℕ) (L : List Command) (l : Command) (ids : List Id) → concerns L w l ≡ false → AreOf w L ids → AreOf w (L ++ l ∷ []) ids → known_ids (L ++ l ∷ []) ids ≡ known_ids L ids
+owned_same w L l [] apart old new = refl
+owned_same w L l (id ∷ ids) apart old new =
+    let own : (f : Option IdFacts) → is_of w f ≡ true → own_facts w f ≡ f = λ f is. ap (λ b. cond b f None) is in
+    let same : facts_of id (L ++ l ∷ []) ≡ facts_of id L =
+    sym (own (facts_of id (L ++ l ∷ [])) new.0) ∙ own_same w id L l apart ∙ own (facts_of id L) old.0 in
+    ap (λ f. known_as id f ++ known_ids (L ++ l ∷ []) ids) same ∙ ap (λ ms. known_as id (facts_of id L) ++ ms) (owned_same w L l ids apart old.1 new.1)
+
+law_apart : (L : List Command) (w : List ℕ) (l : Command) → concerns L w l ≡ false → known_by_law (L ++ l ∷ []) w ≡ option_map (up_to (length (L ++ l ∷ []))) (known_by_law L w)
+law_apart L w l apart =
+    ap (known_by w n n (L ++ l ∷ [])) (enacted_more w L l ∙ ap (λ act. first_act (enacted w L) (enacted_or (length L + 1) act None)) (no_act l apart) ∙ stays (enacted w L))
+    ∙ by (enacted w L)
+  where
+    n : ℕ
+    n = length (L ++ l ∷ [])
+
+    no_act : (l : Command) → concerns L w l ≡ false → enacted_by w l ≡ None
+    no_act (Enact act) h = ap (λ b. cond b (Some act) None) h
+    no_act (Record other mods) h = refl
+    no_act (Correct id body) h = refl
+    no_act (Withdraw id) h = refl
+    no_act (Restore id) h = refl
+    no_act (DraftAdd work body) h = refl
+    no_act (DraftDrop item) h = refl
+    no_act (File work seen) h = refl
+
+    stays : (found : Option (ℕ × Act)) → first_act found None ≡ found
+    stays None = refl
+    stays (Some found) = refl
+
+    mods : known_ids (L ++ l ∷ []) (ids_of w (L ++ l ∷ [])) ≡ known_ids L (ids_of w L)
+    mods =
+        ap (known_ids (L ++ l ∷ [])) (ids_same w L l apart)
+        ∙ owned_same w L l (ids_of w L) apart (are_of w L) (subst (AreOf w (L ++ l ∷ [])) (ids_same w L l apart) (are_of w (L ++ l ∷ [])))
+
+    by : (found : Option (ℕ × Act)) → known_by w n n (L ++ l ∷ []) found ≡ option_map (up_to n) (known_by w (length L) (length L) L found)
+    by None = refl
+    by (Some found) = ap (λ (ms : List KnownMod). Some (record { act = found.1; enacted = found.0; viewpoint = n; front = n; mods = ms })) mods
+
+pub entry_apart : (es : List Entry) (e : Entry) (w : List ℕ) → is_named w (work_entered es (law_of es e)) ≡ false
+    → known_now (es ++ e ∷ []) w ≡ option_map (up_to (front (es ++ e ∷ []))) (known_now es w)
+entry_apart es e w apart =
+    now_known (es ++ e ∷ []) w ∙ ap (λ ls. known_by_law ls w) (laws_more es e)
+    ∙ by (one_at_most (draft_of e.drafter es) e.command) ∙ ap (λ ls. option_map (up_to (length ls)) (known_by_law (laws es) w)) (sym (laws_more es e))
+    ∙ ap (option_map (up_to (front (es ++ e ∷ [])))) (sym (now_known es w))
+  where
+    same : (found : Option (ℕ × Act)) → known_by w (front es) (front es) (laws es) found ≡ option_map (up_to (front es)) (known_by w (front es) (front es) (laws es) found)
+    same None = refl
+    same (Some found) = refl
+
+    by : (law_of es e ≡ []) ⊎ ((l : Command) × (law_of es e ≡ l ∷ []))
+        → known_by_law (laws es ++ law_of es e) w ≡ option_map (up_to (length (laws es ++ law_of es e))) (known_by_law (laws es) w)
+    by (inl none) =
+        subst (λ ls. known_by_law (laws es ++ ls) w ≡ option_map (up_to (length (laws es ++ ls))) (known_by_law (laws es) w)) (sym none)
+        (ap (λ ls. known_by_law ls w) (append-nil (laws es)) ∙ same (enacted w (laws es))
+        ∙ sym (ap (λ ls. option_map (up_to (length ls)) (known_by_law (laws es) w)) (append-nil (laws es))))
+    by (inr (l, one)) =
+        subst (λ ls. known_by_law (laws es ++ ls) w ≡ option_map (up_to (length (laws es ++ ls))) (known_by_law (laws es) w)) (sym one)
+        (law_apart (laws es) w l (subst (λ ls. is_named w (work_entered es ls) ≡ false) one apart))

@@ -1,15 +1,17 @@
 //! What holds of commands and of registers. Each law is a function that does nothing, whose clause is the law.
 
-ghost use Rattle.std.specs.Prelude.{◌≡◌, ◌≤◌, ◌↔◌, ◌++◌, ◌∷◌, [], ◌&&◌, ℕ, List, IsTrue, true, length, map, slice_get, Some};
+ghost use Rattle.std.specs.Prelude.{◌≡◌, ◌≤◌, ◌↔◌, ◌++◌, ◌∷◌, [], ◌&&◌, ℕ, List, IsTrue, false, true, length, map, option_map, slice_get, Some};
 ghost use Rattle.std.specs.List.{AllByRecursion};
 ghost use Rattle.std.specs.Option.{option_to_list};
 ghost use Rattle.law_register.specs.declared.law.command.Command.{Command as CommandValue};
 ghost use Rattle.law_register.specs.declared.register.entry.Entry.{Entry};
+ghost use Rattle.law_register.specs.declared.register.known.Known.{Known as KnownValue};
 ghost use Rattle.law_register.specs.declared.register.limits.TheConstants as limits;
 ghost use Rattle.law_register.specs.Answer.Touched.{touched_day, touched_days, work_entered};
+ghost use Rattle.law_register.specs.Register.Concerns.{is_named};
 ghost use Rattle.law_register.specs.Register.Drafters.{is_drafter};
 ghost use Rattle.law_register.specs.Register.KnownIds.{ids_of};
-ghost use Rattle.law_register.specs.Register.KnownNext.{known_next, known_now};
+ghost use Rattle.law_register.specs.Register.KnownNext.{known_next, known_now, up_to};
 ghost use Rattle.law_register.specs.Register.LawList.{laws, law_of, front, law_numbers, first_numbers};
 ghost use Rattle.law_register.specs.Law.Same.{same_command};
 ghost use Rattle.law_register.specs.Law.Sizes.{entry_size};
@@ -138,6 +140,17 @@ pub fn ids_are_few(register: &Register, _work: &WorkName)
 pub fn knowledge_grows()
     ensures { (entries : List Entry) (entry : Entry) (work : List ℕ) → is_legal entries ≡ true
         → known_now (entries ++ entry ∷ []) work ≡ known_next entries entry work (known_now entries work) }
+{}
+
+/// An entry leaves what is known of each work that it does not concern, but for how many law entries there are; and what is known at
+/// the front counts them all.
+pub fn other_works_stay()
+    ensures others { (entries : List Entry) (entry : Entry) (work : List ℕ)
+        → is_named work (work_entered entries (law_of entries entry)) ≡ false
+        → known_now (entries ++ entry ∷ []) work
+        ≡ option_map (up_to (front (entries ++ entry ∷ []))) (known_now entries work) }
+    ensures counts { (entries : List Entry) (work : List ℕ) (known : KnownValue) → known_now entries work ≡ Some known
+        → up_to (front entries) known ≡ known }
 {}
 
 /// An entry touches works exactly where it touches a day; then that is the day of each, and each is the work that it concerns.

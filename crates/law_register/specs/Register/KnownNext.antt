@@ -16,6 +16,10 @@ use Rattle.law_register.specs.Register.LawList.{front, law_of}
 abbrev pub known_now : List Entry → List ℕ → Option Known
 known_now entries work = known_at entries work (front entries)
 
+-- a work as it is known behind so many law entries, where those that were not known do not concern it
+abbrev pub up_to : ℕ → Known → Known
+up_to front known = record known { viewpoint = front; front = front }
+
 -- modifications as they are known once a law entry of this number records them, the first of them as this item
 abbrev pub bodies_known : ℕ → ℕ → List Modification → List KnownMod
 bodies_known law item [] = []

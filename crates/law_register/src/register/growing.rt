@@ -4,7 +4,7 @@ ghost use Rattle.std.specs.Prelude.{◌≡◌, ◌+◌, ◌≤◌, ◌∷◌, �
 ghost use Rattle.law_register.specs.Answer.Soundness.{IsSound};
 ghost use Rattle.law_register.specs.Register.KnownNext as next;
 ghost use Rattle.law_register.specs.Register.KnownNext.{known_now};
-ghost use Rattle.law_register.specs.Register.LawList.{law_of};
+ghost use Rattle.law_register.specs.Register.LawList.{front, law_of};
 ghost use Rattle.law_register.specs.Register.Verdicts.{is_accepted, verdict};
 ghost use Rattle.law_register.specs.declared.law.command.Command.{Command as CommandValue};
 ghost use Rattle.law_register.specs.declared.law.command.Command.TheVariants as commands;
@@ -132,17 +132,18 @@ fn known_then(
     known: &Known,
     entry: &Entry,
 ) -> Result<Known, Memory>
-    requires accepted { is_accepted entry.now.law (verdict register.now.entries entry.now.drafter
-        entry.now.request entry.now.command) ≡ true }
-    requires front { known.now.front ≤ 65535 }
+    requires { is_accepted entry.now.law (verdict register.now.entries entry.now.drafter entry.now.request
+        entry.now.command) ≡ true }
     ensures { (law : CommandValue) → law_of register.now.entries entry.now ≡ law ∷ []
-        → IfOk result (λ new. new ≡ next.known_then known.now.act.work law known.now) }
+        → IfOk result (λ new. new
+        ≡ next.known_then known.now.act.work law (next.up_to (front register.now.entries) known.now)) }
 {
+    let front = register.front();
     let mut new = Known {
         act: known.act.copy()?,
         enacted: known.enacted,
-        viewpoint: known.viewpoint,
-        front: known.front,
+        viewpoint: front,
+        front,
         mods: mods_after(alloc, known.mods.as_slice(), &entry.command)?,
     };
     let bodies = bodies_in(alloc, register, &known.act.work, entry)?;
@@ -150,15 +151,26 @@ fn known_then(
     Ok(new)
 }
 
-/// What is known of a work at the front once an entry stands behind those of a register, from what was known of it. It is copied
-/// once, and of the register only the items that a filing takes are looked at.
+// What is known of a work, where no law entry since then concerns it.
+fn known_still(alloc: Global, register: &Register, known: &Known) -> Result<Known, Memory>
+    ensures { IfOk result (λ new. new ≡ next.up_to (front register.now.entries) known.now) }
+{
+    let mut new = known.copy(alloc)?;
+    new.viewpoint = register.front();
+    new.front = register.front();
+    Ok(new)
+}
+
+/// What is known of a work at the front once an entry stands behind those of a register, from what was known of it when a law entry
+/// last concerned it, or later. It is copied once, and of the register only the items that a filing takes are looked at.
 pub fn known_after(
     alloc: Global,
     register: &Register,
     known: &Known,
     entry: &Entry,
 ) -> Result<Known, Memory>
-    requires known { known_now register.now.entries known.now.act.work ≡ Some known.now }
+    requires known { known_now register.now.entries known.now.act.work
+        ≡ Some (next.up_to (front register.now.entries) known.now) }
     requires accepted { is_accepted entry.now.law (verdict register.now.entries entry.now.drafter
         entry.now.request entry.now.command) ≡ true }
     ensures known { IfOk result
@@ -168,7 +180,7 @@ pub fn known_after(
     entries_are_legal(register);
     match entry.law {
         Some(_) => known_then(alloc, register, known, entry),
-        None => known.copy(alloc),
+        None => known_still(alloc, register, known),
     }
 }
 
