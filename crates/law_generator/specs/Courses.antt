@@ -1,7 +1,7 @@
 -- What a desk has after so many requests, and what is told of it.
 use Rattle.std.specs.Prelude.{ℕ, ◌≡◌, ◌≤◌, zero, suc, List, [], ◌∷◌, ◌++◌, length, codes, Option, Some, None, Result, Ok, Err}
 use Rattle.std.specs.Fmt.{decimal}
-use Rattle.desk_base.specs.Streams.{Rose}
+use Rattle.desk_base.specs.Streams.{risen}
 use Rattle.law_generator.specs.Acts.{first_day, work}
 use Rattle.law_generator.specs.Drawn.{Asked, asked}
 use Rattle.law_generator.specs.declared.generate_fault.GenerateFault.{GenerateFault}
@@ -137,10 +137,10 @@ abbrev pub Sends : {T : Type 0} → Standing → Standing → ℕ → Command �
 Sends old new request command (Ok done) = IsSent old new request command
 Sends old new request command (Err fault) = new.entries ≡ old.entries
 
--- the keeper's failure comes only where its count of faults rose; else the count is as it was
+-- the keeper's failure comes only where its count of faults rose by one; else the count is as it was
 abbrev pub HasGenerateCause : {T : Type 0} → ℕ → ℕ → Result T GenerateFault → Type 0
 HasGenerateCause before now (Ok value) = now ≡ before
-HasGenerateCause before now (Err fails.KeeperFault) = Rose before now
+HasGenerateCause before now (Err fails.KeeperFault) = now ≡ risen before
 HasGenerateCause before now (Err fails.Memory) = now ≡ before
 
 -- these entries are those after the first requests of a seed, this many or fewer

@@ -25,13 +25,13 @@ quiet : (reply : Reply) (response : Response) → Says reply response → fault_
 quiet reply response (inl made) = ap fault_told made
 quiet reply response (inr fault) = ap fault_told fault
 
-unmoved : (most n before now : ℕ) → n ≡ 0 → now ≡ before → max before (min (before + n) most) ≤ now
+unmoved : (most n before now : ℕ) → n ≡ 0 → now ≡ before → now ≡ max before (min (before + n) most)
 unmoved most n before now none same = omega (arith, none, same)
 
-risen : (most n before now : ℕ) → n ≡ 1 → max before (min (before + 1) most) ≤ now → max before (min (before + n) most) ≤ now
+risen : (most n before now : ℕ) → n ≡ 1 → now ≡ max before (min (before + 1) most) → now ≡ max before (min (before + n) most)
 risen most n before now one rose = omega (arith, one, rose)
 
-then_risen : (most m n a b c : ℕ) → max a (min (a + m) most) ≤ b → max b (min (b + n) most) ≤ c → max a (min (a + (m + n)) most) ≤ c
+then_risen : (most m n a b c : ℕ) → b ≡ max a (min (a + m) most) → c ≡ max b (min (b + n) most) → c ≡ max a (min (a + (m + n)) most)
 then_risen most m n a b c first second = omega (arith, first, second)
 
 outcome_rises : (last : Bool) (result : Result Outcome CommandFault) (response : Response) (before now : ℕ)

@@ -47,9 +47,9 @@ abbrev pub faults_told : List Exchange → ℕ
 faults_told [] = 0
 faults_told (e ∷ es) = fault_told e.response + faults_told es
 
--- a count of faults rose by so many, or stands at its last value; it did not fall
+-- a count of faults rose by so many; it stands still at its last value
 abbrev pub RoseBy : ℕ → ℕ → ℕ → Type 0
-RoseBy n before now = max before (min (before + n) (2 ^ 64 - 1)) ≤ now
+RoseBy n before now = now ≡ max before (min (before + n) (2 ^ 64 - 1))
 
 -- all that is heard of a stream, where its link told the bytes: these requests, and then this
 abbrev pub HearsAll : Option (List ℕ) → List Request → List Heard → Type 0
