@@ -15,7 +15,7 @@ import time
 import checks
 from clients.http_clients import next_response
 from clients.messages import at_most, front, whole
-from models.journal_openings import JOURNAL, KEEPER_FAILED, ROWS, faults_of_a_front, faults_of_the_rest, of_law
+from models.journal_openings import JOURNAL, KEEPER_FAILED, ROWS, entries, faults_of_a_front, faults_of_the_rest, of_law
 
 # The calls by which a file is asked, and those of the standard streams, which are made while the file is at rest.
 OF_A_FILE = ("openat", "flock", "statx", "fsync", "fdatasync", "fadvise64", "ftruncate", "pread64", "pwrite64")
@@ -49,33 +49,33 @@ def traced(folder, output, *words):
     return subprocess.Popen(line, stdin=subprocess.PIPE, stdout=subprocess.PIPE, stderr=subprocess.DEVNULL, cwd=folder)
 
 
-def asked_front(child, answered):
+def asked_front(child, answered, rows):
     """What is wrong about the front that is told behind a 503: the entry of which nobody knows is not counted."""
-    laws = sum(of_law(payload) for _, _, payload in ROWS[:answered] if payload)
+    laws = sum(map(of_law, entries(rows[:answered])))
     child.stdin.write(b"GET /front HTTP/1.1\r\nHost: a\r\n\r\n")
     child.stdin.flush()
     got = next_response(child.stdout)
     return [] if got in (front(laws), b"") else [("the front behind a 503", got, "and not", laws)]
 
 
-def served(child, behind_fault=lambda: None):
-    """Sends each command once the one before it is answered, and again behind a 503, until all are answered or the program has ended. Gives how
+def served(child, behind_fault=lambda: None, rows=ROWS):
+    """Sends each request once the one before it is answered, and again behind a 503, until all are answered or the program has ended. Gives how
     many were answered, how many 503 came, and what is wrong."""
     answered, failed, wrong = 0, 0, []
     try:
-        while answered < len(ROWS) and failed < 4:
-            given, wanted, _ = ROWS[answered]
+        while answered < len(rows) and failed < 4:
+            given, wanted, _ = rows[answered]
             child.stdin.write(given)
             child.stdin.flush()
             got = next_response(child.stdout)
             if got == KEEPER_FAILED:
                 failed += 1
                 behind_fault()
-                wrong += asked_front(child, answered)
+                wrong += asked_front(child, answered, rows)
             elif got == wanted:
                 answered += 1
             else:
-                wrong += [(f"command {answered + 1}", got, "and not", wanted)] if got else []
+                wrong += [(f"request {answered + 1}", got, "and not", wanted)] if got else []
                 break
     except BrokenPipeError:
         pass
@@ -123,12 +123,12 @@ def calls_of(output):
     return calls
 
 
-def recorded(*words):
-    """The calls of a run over all commands."""
+def recorded(*words, rows=ROWS):
+    """The calls of a run over all requests."""
     with checks.folder() as folder, tempfile.NamedTemporaryFile("r") as output:
         child = traced(folder, output.name, "-y", "-xx", "-s", "200000", *words)
         with at_most(120, child):
-            served(child)
+            served(child, rows=rows)
             ended(child)
         return calls_of(output)
 

@@ -9,7 +9,7 @@ import time
 import checks
 from devices.crashes import EFFECTS, NO_STRACE, bytes_of, is_traced, points, recorded
 from devices.journal_file import MAGIC, NEW
-from models.journal_openings import JOURNAL, called, entered, gates, kept, told
+from models.journal_openings import JOURNAL, ROWS, called, entered, gates, kept, told
 
 FILLS = (b"\x00", b"\xff", None)
 
@@ -95,11 +95,11 @@ def is_at_rest(image):
     return len(image) == 9 and image[:8] == MAGIC and image[8] != 1
 
 
-def fault_of(image, answered, whole):
+def fault_of(image, answered, whole, rows=ROWS):
     """What is wrong about an image from the moment when so many commands had been answered; `whole` is the file of all of them."""
     places = gates(image)
     count = len(places) - 1 if places else None
-    if count not in (entered(answered), entered(answered + 1)):
+    if count not in (entered(answered, rows), entered(answered + 1, rows)):
         return f"{count} entries stand where {answered} commands were answered"
     left = whole[:places[-1]] + image[places[-1]:places[-1] + 1] if len(image) > 9 or is_at_rest(image) else NEW
     with checks.folder() as folder:
@@ -107,9 +107,9 @@ def fault_of(image, answered, whole):
             out.write(image)
         said = called(folder, "check")
         found = kept(folder)
-    if (said, found) == (told(count), left):
+    if (said, found) == (told(count, rows), left):
         return None
-    return f"{said} of {len(image)} bytes, and {len(found)} are left; wanted {told(count)}, {len(left)} bytes"
+    return f"{said} of {len(image)} bytes, and {len(found)} are left; wanted {told(count, rows)}, {len(left)} bytes"
 
 
 def runs(draw, faulty):

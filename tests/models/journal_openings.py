@@ -1,4 +1,4 @@
-"""A stream of sixty commands with the entries that it makes, and what an opening makes of a journal file, reckoned from docs/JOURNAL.md."""
+"""Streams of requests with the entries that they make, and what an opening makes of a journal file, reckoned from docs/JOURNAL.md."""
 import os
 
 from devices.journal_file import JOURNAL, MAGIC, called, kept
@@ -21,7 +21,7 @@ def of_law(payload):
 
 
 class Stream:
-    """Commands in their order. A row is what is sent, the response that is to come, and the entry that it makes, without its day, or none."""
+    """Requests in their order. A row is what is sent, the response that is to come, and the entry that it makes, without its day, or none."""
 
     def __init__(self):
         self.rows, self.laws, self.used = [], 0, {}
@@ -40,6 +40,10 @@ class Stream:
 
     def broken(self, line, rule, kept):
         self.rows.append((*histories.broken(line, rule, kept), None))
+
+    def asked(self, *rows):
+        """Requests that make no entry, each with its response."""
+        self.rows.extend((given, wanted, None) for given, wanted in rows)
 
 
 def a_round(stream, drafter, place):
@@ -79,8 +83,13 @@ def sixty():
     return stream.rows
 
 
+def entries(rows):
+    """The entries that a stream makes."""
+    return [payload for _, _, payload in rows if payload]
+
+
 ROWS = sixty()
-ENTRIES = [payload for _, _, payload in ROWS if payload]
+ENTRIES = entries(ROWS)
 
 
 def gates(data):
@@ -104,19 +113,19 @@ def payloads(data):
     return places and [data[place + 5:behind] for place, behind in zip(places, places[1:])]
 
 
-def told(count):
-    """What `check` says of the first entries of the stream."""
-    return 0, f"entries {count} law {sum(map(of_law, ENTRIES[:count]))}\n".encode()
+def told(count, rows=ROWS):
+    """What `check` says of the first entries of a stream."""
+    return 0, f"entries {count} law {sum(map(of_law, entries(rows)[:count]))}\n".encode()
 
 
-def entered(answered):
-    """How many entries the first commands of the stream have made."""
-    return sum(payload is not None for _, _, payload in ROWS[:answered])
+def entered(answered, rows=ROWS):
+    """How many entries the first requests of a stream have made."""
+    return sum(payload is not None for _, _, payload in rows[:answered])
 
 
-def faults_of_a_front(folder, answered):
-    """What is wrong about a journal after a crash where so many commands had been answered: it has to hold the entries of all of them, and
-    perhaps that of the next one, and nothing else."""
+def faults_of_a_front(folder, answered, rows=ROWS, more=1):
+    """What is wrong about a journal where so many requests had been answered: it has to hold the entries of all of them, and perhaps that of
+    the next one, or of none where there is to be no more; and nothing else."""
     data = kept(folder)
     said = called(folder, "check")
     found = payloads(kept(folder) or b"")
@@ -124,22 +133,22 @@ def faults_of_a_front(folder, answered):
         return [("damaged", said, data)]
     found = list(map(undated, found))
     wrong = []
-    allowed = {entered(answered), entered(answered + 1)}
-    if len(found) not in allowed or found != ENTRIES[:len(found)]:
+    allowed = {entered(answered, rows), entered(answered + more, rows)}
+    if len(found) not in allowed or found != entries(rows)[:len(found)]:
         wrong.append(("entries", len(found), "and not", allowed))
-    if said != told(len(found)):
-        wrong.append(("check", said, "and not", told(len(found))))
+    if said != told(len(found), rows):
+        wrong.append(("check", said, "and not", told(len(found), rows)))
     return wrong
 
 
-def faults_of_the_rest(folder, answered):
-    """What is wrong about the commands that were not answered, sent again from the first of them: each acts once, and all entries are there."""
-    given, wanted = (b"".join(parts) for parts in list(zip(*ROWS[answered:]))[:2]) if answered < len(ROWS) else (b"", b"")
+def faults_of_the_rest(folder, answered, rows=ROWS):
+    """What is wrong about the requests that were not answered, sent again from the first of them: each acts once, and all entries are there."""
+    given, wanted = (b"".join(parts) for parts in list(zip(*rows[answered:]))[:2]) if answered < len(rows) else (b"", b"")
     got = called(folder, "batch", given)
     wrong = [] if got == (0, wanted) else [("sent again", got, "and not", wanted)]
     found = payloads(kept(folder) or b"")
-    if found is None or list(map(undated, found)) != ENTRIES:
-        wrong.append(("entries in the end", found and len(found), "and not", len(ENTRIES)))
+    if found is None or list(map(undated, found)) != entries(rows):
+        wrong.append(("entries in the end", found and len(found), "and not", len(entries(rows))))
     if os.listdir(folder) != [JOURNAL]:
         wrong.append(("files", os.listdir(folder)))
     return wrong
