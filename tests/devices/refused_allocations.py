@@ -1,0 +1,128 @@
+"""Memory that is refused outside of the program, by a library that stands before the C library: each allocation of a run in turn, alone and with
+all behind it. The status is 7 then, or that of a run in which all went well; what is acknowledged is in the journal, and a request that was
+answered 500 has put nothing there."""
+import concurrent.futures
+import itertools
+import os
+
+import checks
+from checks import SAID, check
+from devices import measured_runs
+from devices.failing_calls import whole_journal
+from devices.journal_file import journal
+from devices.want_of_memory import NO_MEMORY
+from models import failing_keepers
+from models.journal_openings import entered, entries, payloads, undated
+from rows import dossiers, mixed
+from rows.register import ONE
+
+POINTS = 5_000
+WORKERS = os.cpu_count()
+
+
+class Form:
+    """A form of the program: its words, what is given to a run and what of the journal is there, and what is wrong about a run."""
+
+    def __init__(self, words, given=b"", begun=None):
+        self.words, self.given, self.begun, self.whole = words, given, begun, None
+
+    def fault_of(self, run):
+        """It ends as the run in which all went well, or there is not enough memory and nothing was written. The journal stays."""
+        wanted = [self.whole] + [(7, b"", SAID[7])] * run.met
+        if run[:3] not in wanted or run.kept != self.begun:
+            return run[:4]
+        return None
+
+
+class Requests(Form):
+    """A stream of requests to a new desk."""
+
+    def __init__(self, rows):
+        super().__init__(["batch"], b"".join(row[0] for row in rows))
+        self.rows, self.fronts = rows, {b"".join(row[1] for row in rows[:count]): count for count in range(len(rows) + 1)}
+
+    def answered(self, run):
+        """How many requests were answered, as what was written tells; none where that are no responses to the first ones."""
+        return self.fronts.get(run.written.removesuffix(NO_MEMORY) if run.status == 7 else run.written)
+
+    def fault_of(self, run):
+        """What was written are the responses to the first requests, perhaps with a 500 behind them; and their entries are there, and no other."""
+        answered = self.answered(run)
+        wanted = (7, SAID[7]) if run.met and run.status == 7 else (0, b"")
+        if (run.status, run.said) != wanted or answered is None or (run.status == 0 and answered < len(self.rows)):
+            return run[:3]
+        found = payloads(run.kept or b"")
+        if found is None or list(map(undated, found)) != entries(self.rows)[:entered(answered, self.rows)]:
+            return run.status, answered, "requests are answered, and kept are", found and len(found)
+        return None
+
+    def rest_of(self, run):
+        """The requests that were not answered, and the responses to them."""
+        rest = self.rows[self.answered(run):]
+        return b"".join(row[0] for row in rest), b"".join(row[1] for row in rest)
+
+
+class Opened(Form):
+    """An opening of a journal that is new, which may be written or not."""
+
+    def fault_of(self, run):
+        found = payloads(run.kept or b"")
+        return run[:4] if run[:3] not in [self.whole] + [(7, b"", SAID[7])] * run.met or found != [] else None
+
+
+def forms():
+    file = whole_journal()
+    damaged = journal(failing_keepers.EXAMPLE)
+    return {
+        "text": [(0, Form(["text", "2011-01-01"], checks.read("examples", "repeal.json"))),
+                 (0, Form(["text", "2013-09-01", "efficacy"], checks.read("examples", "edits.json"))),
+                 (9, Form(["text", "2011-01-01"], dossiers.dossier(mods=[dossiers.repeal(), dossiers.repeal(until="2011-01-01")]))),
+                 (10, Form(["text", "2011-01-01"], dossiers.dossier(mods=[dossiers.repeal(), 1])))],
+        "check": [(0, Opened(["check"])), (0, Form(["check"], begun=file)), (6, Form(["check"], begun=damaged))],
+        "batch": [(0, Requests(mixed.TWENTY))],
+        "report": [(0, Form(["report", "unapplied", "2011-01-01"], begun=file)), (0, Form(["report", "lifecycle", ONE], begun=file)),
+                   (0, Form(["report", "correspondence", ONE, "2010-06-01", "2011-01-01"], begun=file)),
+                   (9, Form(["report", "lifecycle", ONE + "0"], begun=file))],
+        "words": [(2, Form(["text", "2011-01-32"])), (0, Form(["generate", "0", "3"]))],
+    }
+
+
+def each_in_turn(place, form, first):
+    """Each of so many allocations from the first on, until a run comes to none: how many were refused, and what is wrong. What is left of the
+    requests is sent to another run, over the journal that is there then."""
+    refused, wrong, ends = 0, [], {}
+    with measured_runs.runner(place, form.words) as runner:
+        for turn in itertools.count(first, WORKERS):
+            runs = [runner.run(form.given, form.begun, turn, later) for later in (False, True)]
+            refused += sum(run.met for run in runs)
+            faults = [(turn, later, fault) for later, run in enumerate(runs) if (fault := form.fault_of(run))]
+            if isinstance(form, Requests) and not faults:
+                ends.update({form.answered(run): run for run in runs})
+            wrong += faults
+            if not any(run.met for run in runs):
+                break
+        for answered, run in ends.items():
+            given, wanted = form.rest_of(run)
+            again = runner.run(given, run.kept)
+            wrong += [(turn, answered, again[:3])] if again[:3] != (0, wanted, b"") else []
+    return refused, wrong
+
+
+def allocations():
+    """Each allocation of each form; at least five thousand of `text`, `check`, `batch` and `report`."""
+    with measured_runs.tools() as place, concurrent.futures.ThreadPoolExecutor(WORKERS) as pool:
+        if place is None:
+            checks.skip("allocations that are refused in turn", measured_runs.NO_CC)
+            return
+        counts = {}
+        for name, rows in forms().items():
+            for status, form in rows:
+                with measured_runs.runner(place, form.words) as runner:
+                    form.whole = runner.run(form.given, form.begun)[:3]
+                check(f"{form.words} with all its memory", form.whole[0], status)
+                refused, wrong = zip(*pool.map(lambda first: each_in_turn(place, form, first), range(1, WORKERS + 1)))
+                counts[name] = counts.get(name, 0) + sum(refused)
+                wrong = sorted(sum(wrong, []))
+                check(f"{form.words} with an allocation refused: how many are wrong, and the first", (len(wrong), wrong[:1]), (0, []))
+        print("allocations refused: " + ", ".join(f"{name} {count}" for name, count in counts.items()))
+        check(f"at least {POINTS} allocations", sum(count for name, count in counts.items() if name != "words") >= POINTS, True)
