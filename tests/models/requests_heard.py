@@ -12,8 +12,8 @@ REQUEST = re.compile(rb"(?:\r?\n)*(%s) ([!-~\x80-\xff]+) HTTP/1\.([01])\r?\n((?:
 FIELD = re.compile(rb"([^:\n]*):([^\n]*)\n")
 RESPONSE = re.compile(rb"HTTP/1\.1 (\d{3}) [A-Z][A-Za-z ]*\r\n(?:Allow: (?:GET|POST)\r\n)?(Connection: close\r\n)?"
                       rb"Content-Length: (0|[1-9][0-9]*)\r\nContent-Type: application/json\r\n\r\n")
-PATHS = {"/front": "GET", "/text": "GET", "/commands": "POST"}
-STATUSES = {"/text": (200, 400, 404, 409), "/commands": (201, 400, 404, 409)}
+PATHS = {"/front": "GET", "/text": "GET", "/preview": "GET", "/draft": "GET", "/commands": "POST"}
+STATUSES = {"/text": (200, 400, 404, 409), "/preview": (200, 400, 404), "/draft": (200, 400), "/commands": (201, 400, 404, 409)}
 
 
 def values_of(fields, name):
