@@ -70,6 +70,29 @@ def full_disks():
             check(f"a disk that is full but for {free} pages", wrong, [])
 
 
+def full_to_the_end():
+    """A disk on which no room is made while the run lasts: each command that would be kept is answered 503 and the front stands still, the run ends
+    with 5, and the next one goes on once there is room. An opening that finds no room ends with 5 as well."""
+    for free in (0, 2, 10, 20):
+        with small_disk(64) as place:
+            if place is None:
+                checks.skip("a disk that stays full", "nothing may be mounted here")
+                return
+            folder, filling = os.path.join(place, "desk"), os.path.join(place, "filling")
+            os.mkdir(folder)
+            with open(filling, "wb") as out, contextlib.suppress(OSError):
+                out.write(bytes((64 - free) * PAGE))
+            child = opened(folder)
+            with at_most(120, child):
+                answered, failed, wrong = served(child)
+                status, left = ended(child)
+            if (status, left, failed) != (5, b"", 4 if answered else 0):
+                wrong.append(("ended", status, left, answered, failed))
+            os.remove(filling)
+            wrong += faults_of_a_front(folder, answered) + faults_of_the_rest(folder, answered)
+            check(f"a disk that stays full but for {free} pages", wrong, [])
+
+
 def limited(limit, handled):
     """What a process does before it becomes the program: its files may not become longer, and a write past that is a fault, or ends it."""
     def limit_size():
