@@ -1,5 +1,5 @@
-"""Runs of the program, one after another, by a small C program that is made here: it gives each run its input and its journal, says how the run
-ended, what it wrote and kept, how much memory and time it took, and, where it is told to, refuses allocations of the run."""
+"""Runs of the program, one after another, by a small C program that is made here: it gives each run its input and its journal, or devices that
+fail, says how the run ended, what it wrote and kept, how much memory and time it took, and, where it is told to, refuses allocations of the run."""
 import collections
 import contextlib
 import os
@@ -28,7 +28,10 @@ RUNNER = r"""
 #define NONE UINT32_MAX
 #define JOURNAL "lawdesk.jnl"
 
-struct __attribute__((packed)) asked { uint64_t turn; uint32_t later, given, kept; };
+/* What fails: standard input is a folder, standard output takes nothing, the journal is a folder. */
+enum { SOURCE = 1, SINK = 2, KEEPER = 4 };
+
+struct __attribute__((packed)) asked { uint64_t turn; uint32_t later, failing, given, kept; };
 struct __attribute__((packed)) told { int32_t status; uint32_t met; uint64_t memory, micros; uint32_t written, said, kept; };
 
 static char piece[1 << 16];
@@ -55,8 +58,8 @@ static uint32_t length(int file) {
 
 static void become(char **argv, const struct asked *asked, int given, int written, int said, int met) {
     char words[64];
-    dup2(given, 0);
-    dup2(written, 1);
+    dup2(asked->failing & SOURCE ? open(".", O_RDONLY) : given, 0);
+    dup2(asked->failing & SINK ? open("/dev/full", O_WRONLY) : written, 1);
     dup2(said, 2);
     alarm(120);
     if (asked->turn > 0) {
@@ -76,11 +79,12 @@ int main(int argc, char **argv) {
         unlink(JOURNAL);
         if (!moved(0, given, asked.given) || lseek(given, 0, SEEK_SET) != 0) return 1;
         if (asked.kept != NONE && ((kept = open(JOURNAL, O_RDWR | O_CREAT, 0644)) < 0 || !moved(0, kept, asked.kept) || close(kept) != 0)) return 1;
+        if (asked.failing & KEEPER && mkdir(JOURNAL, 0755) != 0) return 1;
         pid_t child = fork();
         if (child == 0) become(argv, &asked, given, written, said, met);
         struct rusage taken;
         if (child < 0 || wait4(child, &status, 0, &taken) != child) return 1;
-        kept = open(JOURNAL, O_RDONLY | O_CLOEXEC);
+        kept = rmdir(JOURNAL) == 0 ? -1 : open(JOURNAL, O_RDONLY | O_CLOEXEC);
         struct told told = {
             WIFEXITED(status) ? WEXITSTATUS(status) : -WTERMSIG(status), length(met), (uint64_t)taken.ru_maxrss << 10,
             (taken.ru_utime.tv_sec + taken.ru_stime.tv_sec) * 1000000ull + taken.ru_utime.tv_usec + taken.ru_stime.tv_usec,
@@ -147,7 +151,8 @@ int posix_memalign(void **new, size_t by, size_t size) {
 }
 """
 
-ASKED, TOLD, NONE = struct.Struct("<QIII"), struct.Struct("<iIQQIII"), 0xFFFF_FFFF
+ASKED, TOLD, NONE = struct.Struct("<QIIII"), struct.Struct("<iIQQIII"), 0xFFFF_FFFF
+SOURCE, SINK, KEEPER = 1, 2, 4
 NO_CC = "there is no cc"
 
 # How a run ended: its status (or less, a signal), what it wrote, said on standard error and kept, whether the allocation in turn came, and what
@@ -162,9 +167,10 @@ class Runner:
         line = [os.path.join(tools, "runner"), os.path.join(tools, "refusing.so"), checks.PROGRAM, *words]
         self.child = subprocess.Popen(line, stdin=subprocess.PIPE, stdout=subprocess.PIPE, cwd=folder)
 
-    def run(self, given=b"", kept=None, turn=0, later=False):
-        """A run over this input, and over a journal of these bytes or none. From 1 on a turn is that of the allocation that is refused."""
-        self.child.stdin.write(ASKED.pack(turn, later, len(given), NONE if kept is None else len(kept)) + given + (kept or b""))
+    def run(self, given=b"", kept=None, turn=0, later=False, failing=0):
+        """A run over this input, and over a journal of these bytes or none, or over devices of which some fail. From 1 on a turn is that of the
+        allocation that is refused."""
+        self.child.stdin.write(ASKED.pack(turn, later, failing, len(given), NONE if kept is None else len(kept)) + given + (kept or b""))
         self.child.stdin.flush()
         status, met, memory, micros, written, said, left = TOLD.unpack(self.child.stdout.read(TOLD.size))
         told = [self.child.stdout.read(size) if size != NONE else None for size in (written, said, left)]

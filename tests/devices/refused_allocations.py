@@ -7,13 +7,15 @@ import os
 
 import checks
 from checks import SAID, check
+from clients.messages import closed
 from devices import measured_runs
 from devices.failing_calls import whole_journal
+from devices.measured_runs import KEEPER, SINK, SOURCE
 from devices.journal_file import journal
 from devices.want_of_memory import NO_MEMORY
 from models import failing_keepers
 from models.journal_openings import entered, entries, payloads, undated
-from rows import dossiers, mixed
+from rows import dossiers, histories, mixed
 from rows.register import ONE
 
 POINTS = 5_000
@@ -21,10 +23,13 @@ WORKERS = os.cpu_count()
 
 
 class Form:
-    """A form of the program: its words, what is given to a run and what of the journal is there, and what is wrong about a run."""
+    """A form of the program: its words, what is given to a run, what of the journal is there, which devices fail, and what is wrong about a run."""
 
-    def __init__(self, words, given=b"", begun=None):
-        self.words, self.given, self.begun, self.whole = words, given, begun, None
+    def __init__(self, words, given=b"", begun=None, failing=0):
+        self.words, self.given, self.begun, self.failing, self.whole = words, given, begun, failing, None
+
+    def run(self, runner, turn=0, later=False):
+        return runner.run(self.given, self.begun, turn, later, self.failing)
 
     def fault_of(self, run):
         """It ends as the run in which all went well, or there is not enough memory and nothing was written. The journal stays."""
@@ -37,9 +42,10 @@ class Form:
 class Requests(Form):
     """A stream of requests to a new desk."""
 
-    def __init__(self, rows):
+    def __init__(self, rows, status=0):
         super().__init__(["batch"], b"".join(row[0] for row in rows))
-        self.rows, self.fronts = rows, {b"".join(row[1] for row in rows[:count]): count for count in range(len(rows) + 1)}
+        self.rows, self.status = rows, status
+        self.fronts = {b"".join(row[1] for row in rows[:count]): count for count in range(len(rows) + 1)}
 
     def answered(self, run):
         """How many requests were answered, as what was written tells; none where that are no responses to the first ones."""
@@ -48,8 +54,8 @@ class Requests(Form):
     def fault_of(self, run):
         """What was written are the responses to the first requests, perhaps with a 500 behind them; and their entries are there, and no other."""
         answered = self.answered(run)
-        wanted = (7, SAID[7]) if run.met and run.status == 7 else (0, b"")
-        if (run.status, run.said) != wanted or answered is None or (run.status == 0 and answered < len(self.rows)):
+        wanted = (7, SAID[7]) if run.met and run.status == 7 else (self.status, b"")
+        if (run.status, run.said) != wanted or answered is None or (run.status == self.status and answered < len(self.rows)):
             return run[:3]
         found = payloads(run.kept or b"")
         if found is None or list(map(undated, found)) != entries(self.rows)[:entered(answered, self.rows)]:
@@ -63,11 +69,12 @@ class Requests(Form):
 
 
 class Opened(Form):
-    """An opening of a journal that is new, which may be written or not."""
+    """An opening of a journal that is new, which may be written or not; devices fail before anything is kept in it. A 500 may be written where
+    there is not enough memory to read."""
 
     def fault_of(self, run):
-        found = payloads(run.kept or b"")
-        return run[:4] if run[:3] not in [self.whole] + [(7, b"", SAID[7])] * run.met or found != [] else None
+        wanted = [self.whole] + [(7, b"", SAID[7]), (7, NO_MEMORY, SAID[7])] * run.met
+        return run[:4] if run[:3] not in wanted or payloads(run.kept or b"") != [] else None
 
 
 def forms():
@@ -77,12 +84,16 @@ def forms():
         "text": [(0, Form(["text", "2011-01-01"], checks.read("examples", "repeal.json"))),
                  (0, Form(["text", "2013-09-01", "efficacy"], checks.read("examples", "edits.json"))),
                  (9, Form(["text", "2011-01-01"], dossiers.dossier(mods=[dossiers.repeal(), dossiers.repeal(until="2011-01-01")]))),
-                 (10, Form(["text", "2011-01-01"], dossiers.dossier(mods=[dossiers.repeal(), 1])))],
-        "check": [(0, Opened(["check"])), (0, Form(["check"], begun=file)), (6, Form(["check"], begun=damaged))],
-        "batch": [(0, Requests(mixed.TWENTY))],
+                 (10, Form(["text", "2011-01-01"], dossiers.dossier(mods=[dossiers.repeal(), 1]))),
+                 (3, Form(["text", "2011-01-01"], failing=SOURCE)), (4, Form(["text", "2011-01-01"], dossiers.dossier(), failing=SINK))],
+        "check": [(0, Opened(["check"])), (0, Form(["check"], begun=file)), (6, Form(["check"], begun=damaged)),
+                  (4, Form(["check"], begun=file, failing=SINK)), (5, Form(["check"], failing=KEEPER))],
+        "batch": [(0, Requests(mixed.TWENTY)), (1, Requests([*mixed.THREE, (histories.FRONT[:9], closed(9), None)], 1)),
+                  (3, Opened(["batch"], failing=SOURCE)), (4, Opened(["batch"], histories.FRONT, failing=SINK)),
+                  (5, Form(["batch"], histories.FRONT, failing=KEEPER))],
         "report": [(0, Form(["report", "unapplied", "2011-01-01"], begun=file)), (0, Form(["report", "lifecycle", ONE], begun=file)),
                    (0, Form(["report", "correspondence", ONE, "2010-06-01", "2011-01-01"], begun=file)),
-                   (9, Form(["report", "lifecycle", ONE + "0"], begun=file))],
+                   (9, Form(["report", "lifecycle", ONE + "0"], begun=file)), (5, Form(["report", "lifecycle", ONE], failing=KEEPER))],
         "words": [(2, Form(["text", "2011-01-32"])), (0, Form(["generate", "0", "3"]))],
     }
 
@@ -93,7 +104,7 @@ def each_in_turn(place, form, first):
     refused, wrong, ends = 0, [], {}
     with measured_runs.runner(place, form.words) as runner:
         for turn in itertools.count(first, WORKERS):
-            runs = [runner.run(form.given, form.begun, turn, later) for later in (False, True)]
+            runs = [form.run(runner, turn, later) for later in (False, True)]
             refused += sum(run.met for run in runs)
             faults = [(turn, later, fault) for later, run in enumerate(runs) if (fault := form.fault_of(run))]
             if isinstance(form, Requests) and not faults:
@@ -104,7 +115,7 @@ def each_in_turn(place, form, first):
         for answered, run in ends.items():
             given, wanted = form.rest_of(run)
             again = runner.run(given, run.kept)
-            wrong += [(turn, answered, again[:3])] if again[:3] != (0, wanted, b"") else []
+            wrong += [(turn, answered, again[:3])] if again[:3] != (form.status if given else 0, wanted, b"") else []
     return refused, wrong
 
 
@@ -118,8 +129,8 @@ def allocations():
         for name, rows in forms().items():
             for status, form in rows:
                 with measured_runs.runner(place, form.words) as runner:
-                    form.whole = runner.run(form.given, form.begun)[:3]
-                check(f"{form.words} with all its memory", form.whole[0], status)
+                    form.whole = form.run(runner)[:3]
+                check(f"{form.words} with all its memory ends with {status}", form.whole[0], status)
                 refused, wrong = zip(*pool.map(lambda first: each_in_turn(place, form, first), range(1, WORKERS + 1)))
                 counts[name] = counts.get(name, 0) + sum(refused)
                 wrong = sorted(sum(wrong, []))
