@@ -14,11 +14,11 @@ import tempfile
 
 import checks
 from checks import check
-from clients.messages import at_most
+from clients.messages import at_most, closed, refused
 from devices import torn_journals
 from devices.crashes import NO_STRACE, OF_A_FILE, calls_of, ended, is_traced, recorded, served, traced
 from devices.journal_file import kept
-from models.journal_openings import JOURNAL, called, faults_of_a_front, faults_of_the_rest
+from models.journal_openings import JOURNAL, KEEPER_FAILED, called, faults_of_a_front, faults_of_the_rest
 from rows import mixed
 
 OF_STREAM = {"read": re.compile(r"^read\(0[,<]"), "write": re.compile(r"^write\(1[,<]")}
@@ -50,21 +50,27 @@ def piped(parts):
 def over_pieces(folder, words, parts, *strace):
     """A run whose input comes in these pieces: its status, what it wrote, and what it said on standard error."""
     with piped(parts) as source:
-        line = ["strace", "-D", "-e", "trace=read,write", *strace, checks.PROGRAM, *words]
+        line = ["strace", "-D", "-e", "trace=" + ",".join(("read", "write", *OF_A_FILE)), *strace, checks.PROGRAM, *words]
         done = subprocess.run(line, stdin=source, capture_output=True, cwd=folder, timeout=60)
     return done.returncode, done.stdout, done.stderr
 
 
-def numbers_of(words, parts, begun):
-    """Which calls of each name are those of a stream, in a run in which none fails, and what that run writes."""
+def made_calls(words, parts, begun):
+    """Which calls of each name are those of a stream, in a run in which none fails, and the run."""
     numbers, counts = {name: [] for name in OF_STREAM}, collections.Counter()
     with new_folder(begun) as folder, tempfile.NamedTemporaryFile("r") as noted:
-        status, written, said = over_pieces(folder, words, parts, "-o", noted.name)
+        ended_so = over_pieces(folder, words, parts, "-o", noted.name)
         for line in noted:
             name = line.partition("(")[0]
             counts[name] += 1
             if name in OF_STREAM and OF_STREAM[name].match(line):
                 numbers[name].append(counts[name])
+    return numbers, ended_so
+
+
+def numbers_of(words, parts, begun):
+    """The same of a run that ends with 0, and what it writes."""
+    numbers, (status, written, said) = made_calls(words, parts, begun)
     check(f"{words} with no call that fails", (status, said), (0, b""))
     return numbers, written
 
@@ -134,6 +140,30 @@ def streams_of_requests():
                 return wrong + faults_of_a_front(folder, done, rows, 0) + faults_of_the_rest(folder, told, rows)
 
         in_turn(what, fault_of, list(points_of(numbers, errors)))
+
+
+def faults_together():
+    """The sync of the first entry fails, and then the stream, or what comes behind it is no request. The first request gets 503, the next acts. A
+    stream that fails goes before the journal, and that before the refusal."""
+    rows = mixed.THREE
+    sync = [call for call in of_the_journal(recorded(rows=rows)) if call.name == "fsync"][-1]
+    front = [KEEPER_FAILED, *(row[1] for row in rows[1:])]
+    whole = [row[0] for row in rows]
+    for what, parts, name, place, wanted in [
+            ("a part of a request comes", [*whole, b"GET /fr"], None, 0, (5, [*front, closed(9)], checks.SAID[5])),
+            ("another method comes", [*whole, mixed.OTHER_METHOD], None, 0, (5, [*front, refused(7, "POST")], checks.SAID[5])),
+            ("a read fails", whole, "read", -1, (3, front, checks.SAID[3])),
+            ("a read fails behind a part of a request", [*whole, b"GET /fr"], "read", -1, (3, front, checks.SAID[3])),
+            ("a write fails", whole, "write", 1, (4, front[:1], checks.SAID[4])),
+            ("the write of the refusal fails", [*whole, b"GET /fr"], "write", -1, (4, front, checks.SAID[4]))]:
+        numbers = made_calls(["batch"], parts, None)[0]
+        words = ["-o", "/dev/null", "-e", f"inject=fsync:error=EIO:when={sync.number}"]
+        if name:
+            words += ["-e", f"inject={name}:error=EIO:when={numbers[name][place]}"]
+        with checks.folder() as folder:
+            status, written, said = over_pieces(folder, ["batch"], parts, *words)
+            wrong = faults_of_a_front(folder, len(rows), rows, 0)
+        check(f"a sync fails, and {what}", (status, written, said, wrong), (wanted[0], b"".join(wanted[1]), wanted[2], []))
 
 
 def whole_journal():
@@ -267,6 +297,7 @@ def each_in_turn():
         return
     streams_of_requests()
     streams_of_other_forms()
+    faults_together()
     disks()
     images_of_disks()
     disks_of_other_forms()

@@ -153,7 +153,7 @@ int posix_memalign(void **new, size_t by, size_t size) {
 
 ASKED, TOLD, NONE = struct.Struct("<QIIII"), struct.Struct("<iIQQIII"), 0xFFFF_FFFF
 SOURCE, SINK, KEEPER = 1, 2, 4
-NO_CC = "there is no cc"
+NO_CC = "no cc compiles here"
 
 # How a run ended: its status (or less, a signal), what it wrote, said on standard error and kept, whether the allocation in turn came, and what
 # it took of memory (bytes) and of the processor (seconds).
@@ -185,13 +185,16 @@ class Runner:
 @contextlib.contextmanager
 def tools():
     """A folder with the runner and the library, or none where nothing can be compiled."""
-    if shutil.which("cc") is None:
-        yield None
-        return
     with tempfile.TemporaryDirectory() as place:
-        for name, source, words in [("runner", RUNNER, []), ("refusing.so", REFUSING, ["-shared", "-fPIC"])]:
-            subprocess.run(["cc", "-O2", *words, "-x", "c", "-", "-o", os.path.join(place, name)], input=source.encode(), check=True, timeout=120)
-        yield place
+        compiled = [("runner", RUNNER, []), ("refusing.so", REFUSING, ["-shared", "-fPIC"])]
+        yield place if all(is_compiled(os.path.join(place, name), source, words) for name, source, words in compiled) else None
+
+
+def is_compiled(path, source, words):
+    """Makes a file of this C source; whether that could be done."""
+    if shutil.which("cc") is None:
+        return False
+    return subprocess.run(["cc", "-O2", *words, "-x", "c", "-", "-o", path], input=source.encode(), timeout=120).returncode == 0
 
 
 @contextlib.contextmanager
