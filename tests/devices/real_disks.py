@@ -12,7 +12,7 @@ import checks
 from checks import check
 from clients.messages import at_most
 from devices.crashes import NO_STRACE, ended, is_traced, served, traced
-from devices.journal_file import TWO, journal, kept
+from devices.journal_file import TWO, called, journal, kept
 from models.journal_openings import ENTRIES, JOURNAL, ROWS, faults_of_a_front, faults_of_the_rest, gates
 from rows import histories
 
@@ -150,6 +150,49 @@ def another_file():
 
         child = traced(folder, "/dev/null", "-e", "inject=fsync:error=EIO:when=9")
         check("a name that leads to another file", faults_of_a_run(folder, child, led_elsewhere, 2), [])
+
+
+# What somebody may do to the file: another magic, a length past the limit, no gate at the end, an end within the first record.
+DAMAGES = [lambda data: b"B" + data[1:], lambda data: data[:9] + b"\xff" + data[10:], lambda data: data[:-1], lambda data: data[:20]]
+
+
+def damaged_meanwhile():
+    """Behind a failed sync somebody damages the file: the command that opens it again gets 503 and changes nothing, questions are answered, and once
+    the bytes are back what is sent again acts once. Where they do not come back the run ends with 5, and the next one with 6."""
+    if not is_traced():
+        checks.skip("a file that is damaged meanwhile", NO_STRACE)
+        return
+    for number, damage in enumerate(DAMAGES, 1):
+        for back in (True, False):
+            with checks.folder() as folder:
+                path, kept_so = os.path.join(folder, JOURNAL), []
+
+                def touched():
+                    kept_so.append(kept(folder))
+                    if len(kept_so) == 1:
+                        put(path, damage(kept_so[0]))
+                    elif len(kept_so) == 2 and back:
+                        put(path, kept_so[0])
+
+                child = traced(folder, "/dev/null", "-e", "inject=fsync:error=EIO:when=9")
+                if back:
+                    wrong = faults_of_a_run(folder, child, touched, 2)
+                else:
+                    with at_most(120, child):
+                        answered, failed, wrong = served(child, touched)
+                        status, left = ended(child)
+                    if (status, left, failed) != (5, b"", 4) or answered == 0 or called(folder, "check")[0] != 6:
+                        wrong.append(("ended", status, left, answered, failed))
+                if set(kept_so[1:]) != {damage(kept_so[0])} or not back and kept(folder) != damage(kept_so[0]):
+                    wrong.append(("the file", [len(data) for data in kept_so]))
+                check(f"a file that is damaged meanwhile, {number}, and comes back {back}", wrong, [])
+
+
+def put(path, data):
+    """Writes a file anew, in its place."""
+    with open(path, "r+b") as out:
+        out.write(data)
+        out.truncate()
 
 
 def as_somebody():
