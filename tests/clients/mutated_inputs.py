@@ -4,6 +4,7 @@ form, and neither memory nor time grows faster than the input."""
 import collections
 import concurrent.futures
 import copy
+import itertools
 import json
 import os
 import random
@@ -25,6 +26,8 @@ SLOWER, MOMENT = 10, 1.0
 DAYS = ["2010-05-01", "2011-01-01", "2013-09-01", "1998-02-15", "9999-12-31"]
 VALUES = [None, True, 0, 1, -1, 1.5, 65_535, 65_536, 1 << 64, "", "x", "body", "sec_1", "2.1", "9999.65535", "2011-02-30", "0001-01-01",
           "9999-12-31", "\u0000", "\U0001f4dc", "x" * 513, "x" * 16_385, [], {}, [[]], {"": None}, {"modification": "2.1"}, {"wId": "body"}]
+STRING = re.compile(r'"(?:[^"\\]|\\.)*"')
+OF_ITS_OWN = re.compile(r"\\u[dD][89a-fA-F]|\d{300}|[eE]\+?\d{3}")
 FAULT = re.compile(rb'\{"form":([1-9]),"name":"(\w+)","place":(\d+)\}\n')
 RULE = re.compile(rb'\{"kept":.*,"name":"(\w+)","(?:rule|query)":\d+\}\n', re.DOTALL)
 
@@ -118,18 +121,21 @@ def large_dossier(r):
     return {"act": act(body=body), "modifications": mods}
 
 
+def levels(text):
+    """How many lists and objects are open at once in a JSON text."""
+    steps = (1 if bracket in "[{" else -1 for bracket in re.findall(r"[\[\]{}]", STRING.sub("", text)))
+    return max(itertools.accumulate(steps), default=0)
+
+
 def is_json(given):
-    """Whether Python takes bytes as a JSON text; none where it takes some that are no JSON text here: nesting, a number past all doubles, half a
-    surrogate."""
+    """Whether Python takes bytes as a JSON text that nests no deeper than 127; none where that may have a number past all doubles, or half of a
+    surrogate, which are no JSON text here."""
     try:
         text = given.decode()
-        json.loads(text, parse_constant=lambda word: 1 // 0)
-    except RecursionError:
-        return None
-    except (ValueError, ZeroDivisionError):
+        json.loads(text, parse_constant=lambda word: 1 // 0, parse_int=len, parse_float=len)
+    except (RecursionError, ValueError, ZeroDivisionError):
         return False
-    levels = max(text.count("[") + text.count("{"), 0)
-    return None if levels >= 128 or re.search(r"\\u[dD][89a-fA-F]|\d{300}|[eE]\+?\d{3}", text) else True
+    return False if levels(text) > 127 else None if OF_ITS_OWN.search(text) else True
 
 
 def fault_of_a_dossier(given, run):
