@@ -6,7 +6,7 @@ import subprocess
 import tempfile
 
 import checks
-from checks import PROGRAM, SAID, check, read, run, said_over_a_folder, said_to_a_full_device
+from checks import PROGRAM, SAID, SCRIPT, check, read, run, said_over_a_folder, said_to_a_full_device
 from rows import dossiers, histories
 
 
@@ -107,7 +107,7 @@ def pipes_that_wait_not():
     check("a longer answer than a pipe takes that waits not", (status, said, front, len(written) > 4096), (4, SAID[4], True, True))
 
 
-def to_a_file_of_at_most(limit, handled):
+def to_a_file_of_at_most(limit, handled, program=PROGRAM):
     """A run whose standard output is a file that may have so many bytes: its status, and what the file has."""
     def limit_size():
         resource.setrlimit(resource.RLIMIT_FSIZE, (limit, limit))
@@ -115,16 +115,19 @@ def to_a_file_of_at_most(limit, handled):
 
     with tempfile.TemporaryFile() as file:
         settings = {"stdout": file, "stderr": subprocess.DEVNULL, "preexec_fn": limit_size, "timeout": 60}
-        done = subprocess.run([PROGRAM, "text", "2011-01-01"], input=read("examples", "repeal.json"), **settings)
+        done = subprocess.run([program, "text", "2011-01-01"], input=read("examples", "repeal.json"), **settings)
         file.seek(0)
         return done.returncode, file.read()
 
 
 def files_of_a_limit():
-    """Standard output is a file that may not become longer: what fits of the answer is there. Where nobody handles the signal it ends the run."""
+    """Standard output is a file that may not become longer: what fits of the answer is there. The script ignores the signal; where nobody does, it
+    ends the run."""
     answer = read("tests", "rows", "expected", "repeal-2011-01-01.out")
     for limit in (0, 1, 100, len(answer) - 1, len(answer)):
         fits = limit == len(answer)
         check(f"an answer to a file of at most {limit} bytes", to_a_file_of_at_most(limit, True), (0 if fits else 4, answer[:limit]))
+        by_script = to_a_file_of_at_most(limit, False, SCRIPT)
+        check(f"an answer to a file of at most {limit} bytes, by the script", by_script, (0 if fits else 4, answer[:limit]))
         status = to_a_file_of_at_most(limit, False)[0]
         check(f"an answer to a file of more than {limit} bytes is a kill", status, 0 if fits else -signal.SIGXFSZ)
