@@ -1,6 +1,6 @@
 -- What is read of a source.
 use Rattle.std.specs.Prelude.{ℕ, ◌≡◌, ◌<◌, List, [], ◌++◌, length, Option, Some, None, ◌⊎◌}
-use Rattle.desk_base.specs.Streams.{Rose}
+use Rattle.desk_base.specs.Streams.{risen}
 use Rattle.dossier_text.specs.declared.stop.Stop.{Stop}
 use Rattle.dossier_text.specs.declared.stop.Stop.TheVariants as stops
 
@@ -17,8 +17,8 @@ abbrev pub IsInputOf : ℕ → Option (List ℕ) → Option (List ℕ) → List 
 IsInputOf limit None now bytes = Unit {0}
 IsInputOf limit (Some all) now bytes = IsInput limit all now bytes
 
--- the reading stops because the count of the source's faults rose, or for want of memory, and then the count is as it was
+-- the reading stops because the count of the source's faults rose by one, or for want of memory, and then the count is as it was
 abbrev pub IsInputStop : ℕ → ℕ → Stop → Type 0
-IsInputStop before now stops.Source = Rose before now
+IsInputStop before now stops.Source = now ≡ risen before
 IsInputStop before now stops.Memory = now ≡ before
 IsInputStop before now stops.Sink = ⊥

@@ -1,6 +1,6 @@
 -- What a run of the program leaves: its status, what it read, and what it wrote. Each form of the command line has a record.
 use Rattle.std.specs.Prelude.{ℕ, ◌≡◌, ◌≢◌, ◌+◌, ◌≤◌, ◌<◌, List, [], ◌++◌, length, Option, Some, None, ◌⊎◌}
-use Rattle.desk_base.specs.Streams.{AppendsFront, Rose}
+use Rattle.desk_base.specs.Streams.{AppendsFront, risen}
 use Rattle.akn_json.specs.Reading.Bytes.{most_bytes}
 use Rattle.dossier_text.specs.Reports.{told}
 use Rattle.dossier_text.specs.declared.text_job.TextJob.{TextJob}
@@ -49,8 +49,8 @@ pub record RanText {S W : Type 0} (left : S → Option (List ℕ)) (room read_fa
   pub told_is : IsDone status
       → IsTold job (left source) (left source_new) (written sink) (written sink_new) status
   -- one that was not, and its cause; want of memory has none
-  pub source_cause : status ≡ 3 → Rose (read_faults source) (read_faults source_new)
-  pub sink_cause : status ≡ 4 → Rose (write_faults sink) (write_faults sink_new)
+  pub source_cause : status ≡ 3 → read_faults source_new ≡ risen (read_faults source)
+  pub sink_cause : status ≡ 4 → write_faults sink_new ≡ risen (write_faults sink)
   pub cut : status ≡ 4 → IsCut job (left source) (left source_new) (written sink) (written sink_new)
   pub unwritten : (status ≡ 3) ⊎ (status ≡ 7) → sink_new ≡ sink
   -- no count rose but that of the stream which the status names

@@ -1,7 +1,7 @@
 //! The text of an act: a dossier is read from a source, and what it tells is written to a sink.
 
 ghost use Rattle.std.specs.Prelude.{◌≡◌, ◌≢◌, ◌⊎◌, ◌↔◌, Err, None, Some, IfOk, IfErr, map, string_bytes};
-ghost use Rattle.desk_base.specs.Streams.{Rose};
+ghost use Rattle.desk_base.specs.Streams.{risen};
 ghost use Rattle.dossier_text.specs.Jobs.{text_job_of};
 ghost use Rattle.dossier_text.specs.Runs.{IsTextStatus, IsDone, IsTold, IsCut, RanText, TakesWithinLimit};
 ghost use Rattle.dossier_text.specs.declared.text_job.TextJob.{TextJob as Job};
@@ -26,8 +26,8 @@ fn tell_text<S: Source, W: Sink, L: Ledger>(
 ) -> Result<u8, Stop>
     ensures told { IfOk result
         (IsTold job (S.left source.old) (S.left source.new) (W.written sink.old) (W.written sink.new)) }
-    ensures source { result ≡ Err Stop.Source → Rose (S.faults source.old) (S.faults source.new) }
-    ensures sink { result ≡ Err Stop.Sink → Rose (W.faults sink.old) (W.faults sink.new) }
+    ensures source { result ≡ Err Stop.Source → S.faults source.new ≡ risen (S.faults source.old) }
+    ensures sink { result ≡ Err Stop.Sink → W.faults sink.new ≡ risen (W.faults sink.old) }
     ensures cut { result ≡ Err Stop.Sink
         → IsCut job (S.left source.old) (S.left source.new) (W.written sink.old) (W.written sink.new) }
     ensures unwritten { IfErr result (λ stop. stop ≢ Stop.Sink → sink.new ≡ sink.old) }
@@ -54,8 +54,8 @@ pub fn text<S: Source, W: Sink, L: Ledger>(
     ensures status { IsTextStatus result }
     ensures told { IsDone result → IsTold job
         (S.left source.old) (S.left source.new) (W.written sink.old) (W.written sink.new) result }
-    ensures source { result ≡ 3 → Rose (S.faults source.old) (S.faults source.new) }
-    ensures sink { result ≡ 4 → Rose (W.faults sink.old) (W.faults sink.new) }
+    ensures source { result ≡ 3 → S.faults source.new ≡ risen (S.faults source.old) }
+    ensures sink { result ≡ 4 → W.faults sink.new ≡ risen (W.faults sink.old) }
     ensures cut { result ≡ 4
         → IsCut job (S.left source.old) (S.left source.new) (W.written sink.old) (W.written sink.new) }
     ensures unwritten { (result ≡ 3) ⊎ (result ≡ 7) → sink.new ≡ sink.old }
