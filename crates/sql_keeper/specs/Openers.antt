@@ -1,0 +1,22 @@
+-- Who opens the connection of a keeper, and why SQLite refuses.
+use Rattle.std.specs.Prelude.{ℕ, ◌≡◌, Result, Ok, Err}
+use Rattle.desk_base.specs.Streams.{risen}
+use Rattle.desk_base.specs.declared.load_fault.LoadFault.{LoadFault}
+use Rattle.desk_base.specs.declared.load_fault.LoadFault.TheVariants as load_fault
+use Rattle.sql_keeper.specs.declared.open_refused.OpenRefused.{OpenRefused}
+use Rattle.sql_keeper.specs.declared.open_refused.OpenRefused.TheVariants.{Failed, Memory}
+
+-- a refusal is one fault more, unless memory was wanting
+abbrev pub HasCountedRefusal : ℕ → ℕ → OpenRefused → Type 0
+HasCountedRefusal before now Failed = now ≡ risen before
+HasCountedRefusal before now Memory = now ≡ before
+
+-- and nothing else is
+abbrev pub HasRefusalCause : {T : Type 0} → ℕ → ℕ → Result T OpenRefused → Type 0
+HasRefusalCause before now (Ok value) = now ≡ before
+HasRefusalCause before now (Err refusal) = HasCountedRefusal before now refusal
+
+-- a refusal, as a keeper tells it
+abbrev pub as_load_fault : OpenRefused → LoadFault
+as_load_fault Failed = load_fault.Failed
+as_load_fault Memory = load_fault.Memory

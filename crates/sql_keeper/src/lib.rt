@@ -1,0 +1,15 @@
+//! A keeper over a table of SQLite: a row a payload, numbered from 1.
+#![tactic(auto)]
+
+mod file_opener;
+mod memory_opener;
+mod open_refused;
+mod opener;
+mod sql_keeper;
+mod statements;
+
+pub use file_opener::FileOpener;
+pub use memory_opener::MemoryOpener;
+pub use open_refused::OpenRefused;
+pub use opener::Opener;
+pub use sql_keeper::SqlKeeper;
