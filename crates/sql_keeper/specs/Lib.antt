@@ -1,2 +1,4 @@
+pub mod Tables
+pub mod Connections
 pub mod Openers
 pub mod SqlKeepers

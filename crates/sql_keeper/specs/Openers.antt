@@ -1,8 +1,13 @@
 -- Who opens the connection of a keeper, and why SQLite refuses.
-use Rattle.std.specs.Prelude.{ℕ, ◌≡◌, Result, Ok, Err}
+use Rattle.std.specs.Prelude.{ℕ, ◌≡◌, ◌↔◌, Result, Ok, Err}
 use Rattle.desk_base.specs.Streams.{risen}
 use Rattle.desk_base.specs.declared.load_fault.LoadFault.{LoadFault}
 use Rattle.desk_base.specs.declared.load_fault.LoadFault.TheVariants as load_fault
+use Rattle.law_journal.specs.Grammar.{Listing}
+use Rattle.sqlite.specs.Store.{Ghosts}
+use Rattle.sqlite.specs.Held.{Held, state}
+use Rattle.sql_keeper.specs.Tables.{list_of}
+use Rattle.sql_keeper.specs.Connections.{MayHaveTable}
 use Rattle.sql_keeper.specs.declared.open_refused.OpenRefused.{OpenRefused}
 use Rattle.sql_keeper.specs.declared.open_refused.OpenRefused.TheVariants.{Failed, Memory}
 
@@ -20,3 +25,11 @@ HasRefusalCause before now (Err refusal) = HasCountedRefusal before now refusal
 abbrev pub as_load_fault : OpenRefused → LoadFault
 as_load_fault Failed = load_fault.Failed
 as_load_fault Memory = load_fault.Memory
+
+-- an opener tells as before, and finds the same list
+abbrev pub FindsSame : Type 0 → Listing → Type 0 → Listing → Type 0
+FindsSame tells list now_tells now_list = (tells ↔ now_tells) × (now_list ≡ list)
+
+-- a connection is in order, and has this list
+abbrev pub IsFound : {S : Type 0} → Ghosts S → Listing → Held S → Type 0
+IsFound g list connection = MayHaveTable (state g connection) × (list_of (state g connection).now ≡ list)

@@ -30,6 +30,12 @@ impl<'a> FileOpener<'a> {
 impl Opener for FileOpener<'_> {
     type Store = FileStore<FileFrom<Wary>>;
 
+    ghost use Rattle.std.specs.Prelude.{[], Ok};
+
+    ghost tells = { λ opener. ⊥ };
+
+    ghost list = { λ opener. Ok [] };
+
     ghost faults = { λ opener. opener.faults };
 
     fn open(&mut self) -> Result<Connection<FileStore<FileFrom<Wary>>>, OpenRefused> {
@@ -38,4 +44,6 @@ impl Opener for FileOpener<'_> {
             Err((error, _)) => Err(refusal_of(error, &mut self.faults)),
         }
     }
+
+    ghost stays_open = { λ opener told. absurd told };
 }

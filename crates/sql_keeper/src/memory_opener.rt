@@ -32,6 +32,12 @@ impl MemoryOpener {
 impl Opener for MemoryOpener {
     type Store = MemStore;
 
+    ghost use Rattle.std.specs.Prelude.{[], Ok, refl};
+
+    ghost tells = { λ opener. Unit {0} };
+
+    ghost list = { λ opener. Ok [] };
+
     ghost faults = { λ opener. opener.faults };
 
     fn open(&mut self) -> Result<Connection<MemStore>, OpenRefused> {
@@ -40,4 +46,6 @@ impl Opener for MemoryOpener {
         }
         Ok(Connection::open_in_memory(self.alloc)?)
     }
+
+    ghost stays_open = { λ opener told connection. refl };
 }

@@ -1,11 +1,13 @@
-//! SqlKeeper: a keeper over a table of SQLite. A clause sees its opener, whether it is ready, and the faults that it counted.
+//! SqlKeeper: a keeper over a table of SQLite. A clause sees its opener, its connection, whether it is
+//! ready, how many rows it has counted, and the faults that it counted.
 
-ghost use Rattle.std.specs.Prelude.{◌≡◌, IfOk};
-ghost use Rattle.law_journal.specs.Journals.{HasLoadCause};
+ghost use Rattle.std.specs.Prelude.{◌≡◌, None, IfOk};
+ghost use Rattle.law_journal.specs.Grammar.{Listing};
+ghost use Rattle.law_journal.specs.Journals.{HasLoadCause, read_into};
 ghost use Rattle.law_keeper.specs.declared.readiness.Readiness.TheVariants.{Unopened};
 ghost use Rattle.law_keeper.specs.Keepers as spec;
-ghost use Rattle.sql_keeper.specs.Openers.{HasRefusalCause};
-ghost use Rattle.sql_keeper.specs.SqlKeepers.{CountsDamage, sum_of};
+ghost use Rattle.sql_keeper.specs.Openers.{FindsSame, HasRefusalCause};
+ghost use Rattle.sql_keeper.specs.SqlKeepers.{AppendsRow, Connects, CountsDamage, ListsRows, LoadsRow, sum_of};
 
 use crate::statements::{count_rows, insert_row, load_row, make_table};
 use crate::{OpenRefused, Opener};
@@ -13,6 +15,7 @@ use desk_base::{LoadFault, count_fault};
 use law_keeper::{KeepFault, Keeper, Readiness};
 use sqlite::{Alter, Connection};
 use std::alloc::Global;
+use std::marker::Model;
 
 /// Payloads in the table `entry` of a database, in rows of the numbers from 1 on. Once the table has been opened, damage
 /// that is found is a fault. Faults are counted, and so are statements that SQLite refused for another cause than memory.
@@ -25,11 +28,31 @@ pub struct SqlKeeper<O: Opener> {
     faults: u64,
 }
 
+impl<O: Opener> Model for SqlKeeper<O> {
+    ghost use Rattle.sql_keeper.specs.SqlKeepers.{HeldKeeper, held_keeper_code, IsKept};
+
+    ghost Value = { HeldKeeper O O.Store };
+
+    ghost coded = { held_keeper_code O.code O.Store.code };
+
+    ghost view = { λ k. record {
+      opener = k.opener;
+      connection = k.connection;
+      readiness = k.readiness;
+      rows = k.rows;
+      faults = k.faults;
+    } };
+
+    ghost invariant = { λ k. O.tells k.opener → IsKept O.Store.Store (O.list k.opener) k.connection k.readiness k.rows };
+}
+
 // Opens the connection where there is none.
 fn connect<O: Opener>(
     opener: &mut O,
     connection: &mut Option<Connection<O::Store>>,
 ) -> Result<(), OpenRefused>
+    ensures connected { Connects O.Store.Store (O.tells opener.old) (O.list opener.old) connection.old connection.new }
+    ensures same { FindsSame (O.tells opener.old) (O.list opener.old) (O.tells opener.new) (O.list opener.new) }
     ensures cause { HasRefusalCause (O.faults opener.old) (O.faults opener.new) result }
 {
     if connection.is_none() {
@@ -43,6 +66,7 @@ fn list_rows<S: Alter>(
     connection: &mut Option<Connection<S>>,
     faults: &mut u64,
 ) -> Result<u64, LoadFault>
+    ensures listed { (found : Listing) → ListsRows S.Store found connection.old connection.new result }
     ensures cause { HasLoadCause faults.old faults.new result }
 {
     let Some(connection) = connection else {
@@ -58,6 +82,8 @@ fn open_rows<O: Opener>(
     connection: &mut Option<Connection<O::Store>>,
     faults: &mut u64,
 ) -> Result<u64, LoadFault>
+    ensures opened { O.tells opener.old → ListsRows O.Store.Store (O.list opener.old) connection.old connection.new result }
+    ensures same { FindsSame (O.tells opener.old) (O.list opener.old) (O.tells opener.new) (O.list opener.new) }
     ensures cause { HasLoadCause (sum_of (O.faults opener.old) faults.old) (sum_of (O.faults opener.new) faults.new) result }
 {
     connect(opener, connection)?;
@@ -72,6 +98,7 @@ fn load_at<S: Alter>(
     into: &mut Vec<u8>,
     faults: &mut u64,
 ) -> Result<Option<u64>, LoadFault>
+    ensures given { LoadsRow S.Store connection.old connection.new rows cursor (read_into into.new.items result) }
     ensures later { IfOk result (spec.MovesOn cursor) }
     ensures cause { HasLoadCause faults.old faults.new result }
 {
@@ -92,12 +119,15 @@ fn append_to<S: Alter>(
     payload: &[u8],
     faults: &mut u64,
 ) -> Result<u64, OpenRefused>
+    ensures appended { AppendsRow S.Store connection.old connection.new rows payload.now result }
     ensures cause { HasRefusalCause faults.old faults.new result }
 {
+    let Some(number) = rows.checked_add(1) else {
+        return Err(OpenRefused::from(count_fault(faults)));
+    };
     let Some(connection) = connection else {
         return Err(OpenRefused::from(count_fault(faults)));
     };
-    let number = rows.saturating_add(1);
     insert_row(connection, number, payload, faults)?;
     Ok(number)
 }
@@ -134,9 +164,7 @@ fn after_refusal(readiness: Readiness) -> Readiness
 impl<O: Opener> SqlKeeper<O> {
     /// A keeper over the database that an opener opens. Nothing is asked of it yet.
     pub fn new(opener: O) -> SqlKeeper<O>
-        ensures opener { result.opener ≡ opener }
-        ensures unopened { result.readiness ≡ Unopened }
-        ensures faults { result.faults ≡ 0 }
+        ensures { result ≡ record { opener = opener; connection = None; readiness = Unopened; rows = 0; faults = 0 } }
     {
         SqlKeeper {
             opener,
@@ -149,9 +177,9 @@ impl<O: Opener> SqlKeeper<O> {
 }
 
 impl<O: Opener> Keeper for SqlKeeper<O> {
-    ghost use Rattle.sql_keeper.specs.SqlKeepers.{silent, silent_is};
+    ghost use Rattle.sql_keeper.specs.SqlKeepers.{holding_of, told_is};
 
-    ghost holding = { λ keeper. silent };
+    ghost holding = { λ keeper. holding_of O.Store.Store (O.tells keeper.opener) (O.list keeper.opener) keeper.connection };
 
     ghost readiness = { λ keeper. keeper.readiness };
 
@@ -200,5 +228,5 @@ impl<O: Opener> Keeper for SqlKeeper<O> {
         }
     }
 
-    ghost is_holding = { λ keeper. silent_is };
+    ghost is_holding = { λ keeper. told_is _ _ _ };
 }

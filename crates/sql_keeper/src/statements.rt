@@ -1,6 +1,12 @@
 //! The statements of a keeper, one a function. A clause sees whether one was refused, which is counted.
 
-ghost use Rattle.std.specs.Prelude.{◌≡◌, pos, IfOk};
+ghost use Rattle.std.specs.Prelude.{◌≡◌, ◌<◌, ◌^◌, pos, is_some, IsTrue, IfOk, OnOk};
+ghost use Rattle.sqlite.specs.Held.{state};
+ghost use Rattle.sqlite.specs.Order.{column};
+ghost use Rattle.sqlite.specs.Value.{owned};
+ghost use Rattle.sqlite.specs.declared.types.Value.TheVariants.{Blob};
+ghost use Rattle.sql_keeper.specs.Connections.{IsChecked, StepsOn, MakesTable, CountsRows, GivesRow, PutsRow};
+ghost use Rattle.sql_keeper.specs.Tables as table;
 ghost use Rattle.law_journal.specs.Journals.{HasLoadCause};
 ghost use Rattle.sql_keeper.specs.Openers.{HasRefusalCause};
 
@@ -18,6 +24,7 @@ pub(crate) fn make_table<S: Alter>(
     connection: &mut Connection<S>,
     faults: &mut u64,
 ) -> Result<(), OpenRefused>
+    ensures made { MakesTable (state S.Store connection.old) (state S.Store connection.new) result }
     ensures cause { HasRefusalCause faults.old faults.new result }
 {
     match connection.execute(
@@ -29,31 +36,67 @@ pub(crate) fn make_table<S: Alter>(
     }
 }
 
-// Whether a row has this number and a payload of 1 to 16,777,216 bytes.
-fn is_entry(row: &Row, number: u64) -> bool {
-    let (Ok(ValueRef::Int(found)), Ok(ValueRef::Blob(payload))) = (row.get_ref(0), row.get_ref(1))
-    else {
-        return false;
-    };
-    u64::try_from(found) == Ok(number) && !payload.is_empty() && payload.len() <= MOST
+// Whether a value is a number.
+fn is_number(found: ValueRef<'_>, number: u64) -> bool
+    ensures { result ≡ table.is_number number (owned found.entry) }
+{
+    match found {
+        ValueRef::Int(id) => u64::try_from(id) == Ok(number),
+        _ => false,
+    }
 }
 
-// Whether there is a row more, which has to be the entry of that number.
+// Whether a value is a payload of 1 to 16,777,216 bytes.
+fn is_payload(found: ValueRef<'_>) -> bool
+    ensures { result ≡ is_some (table.payload_in (owned found.entry)) }
+{
+    match found {
+        ValueRef::Blob(payload) => !payload.is_empty() && payload.len() <= MOST,
+        _ => false,
+    }
+}
+
+// Whether a row is the entry of a number.
+fn is_entry(row: &Row, number: u64) -> bool
+    ensures { result ≡ is_some (table.entry_of number row.now) }
+{
+    match (row.get_ref(0), row.get_ref(1)) {
+        (Ok(found), Ok(payload)) => is_number(found, number) && is_payload(payload),
+        _ => false,
+    }
+}
+
+// A row has to be the entry of a number.
+fn check_entry(row: &Row, number: u64) -> Result<bool, LoadFault>
+    ensures { IsChecked number row.now result }
+{
+    if is_entry(row, number) {
+        Ok(true)
+    } else {
+        Err(LoadFault::Damaged {
+            place: number,
+            byte: None,
+        })
+    }
+}
+
+// Whether there is a row more, which has to be the entry of a number.
 fn has_entry<S: Alter>(
     rows: &mut Rows<'_, S>,
     number: u64,
     faults: &mut u64,
 ) -> Result<bool, LoadFault>
+    ensures same_reference { rows.new.conn.ghost_name ≡ rows.old.conn.ghost_name }
+    ensures was_open { IsTrue (state S.Store rows.new.conn.now).is_open → IsTrue (state S.Store rows.old.conn.now).is_open }
+    ensures steps { StepsOn S.Store rows.old.conn.now rows.new.conn.now number result }
     ensures cause { HasLoadCause faults.old faults.new result }
 {
-    match rows.next() {
-        Ok(Some(row)) if is_entry(row, number) => Ok(true),
-        Ok(Some(_)) => Err(LoadFault::Damaged {
-            place: number,
-            byte: None,
-        }),
-        Ok(None) => Ok(false),
-        Err(error) => Err(LoadFault::from(refusal_of(error, faults))),
+    if let Err(error) = rows.advance() {
+        return Err(LoadFault::from(refusal_of(error, faults)));
+    }
+    match rows.get() {
+        Some(row) => check_entry(row, number),
+        None => Ok(false),
     }
 }
 
@@ -62,6 +105,7 @@ pub(crate) fn count_rows<S: Alter>(
     connection: &mut Connection<S>,
     faults: &mut u64,
 ) -> Result<u64, LoadFault>
+    ensures counted { CountsRows (state S.Store connection.old) (state S.Store connection.new) result }
     ensures cause { HasLoadCause faults.old faults.new result }
 {
     let mut rows = match connection.query(
@@ -81,6 +125,7 @@ pub(crate) fn count_rows<S: Alter>(
 
 // Puts the payload of a row into a buffer.
 fn copy_payload(row: &Row, into: &mut Vec<u8>, faults: &mut u64) -> Result<(), OpenRefused>
+    ensures copied { OnOk result (column row.now 0 ≡ Blob into.new.items) }
     ensures cause { HasRefusalCause faults.old faults.new result }
 {
     match row.get_ref(0) {
@@ -96,6 +141,7 @@ fn copy_payload(row: &Row, into: &mut Vec<u8>, faults: &mut u64) -> Result<(), O
 // A number as SQLite has numbers.
 fn id_of(number: u64, faults: &mut u64) -> Result<i64, OpenRefused>
     ensures value { IfOk result (λ id. id ≡ pos number) }
+    ensures fits { IfOk result (λ _. number < 2 ^ 63) }
     ensures cause { HasRefusalCause faults.old faults.new result }
 {
     match i64::try_from(number) {
@@ -111,6 +157,7 @@ pub(crate) fn load_row<S: Alter>(
     into: &mut Vec<u8>,
     faults: &mut u64,
 ) -> Result<(), OpenRefused>
+    ensures given { GivesRow (state S.Store connection.old) (state S.Store connection.new) number into.new.items result }
     ensures cause { HasRefusalCause faults.old faults.new result }
 {
     let id = id_of(number, faults)?;
@@ -127,6 +174,7 @@ pub(crate) fn insert_row<S: Alter>(
     payload: &[u8],
     faults: &mut u64,
 ) -> Result<(), OpenRefused>
+    ensures put { PutsRow (state S.Store connection.old) (state S.Store connection.new) number payload.now result }
     ensures cause { HasRefusalCause faults.old faults.new result }
 {
     let id = id_of(number, faults)?;
