@@ -1,39 +1,19 @@
-//! Past: answers at every viewpoint, by what the law entries up to it make known.
+//! Past: answers at every viewpoint by one who keeps nothing.
 
-ghost use Rattle.std.specs.Prelude.{◌≡◌, ◌+◌, ◌≤◌, IfOk, IfSome};
+ghost use Rattle.std.specs.Prelude.{◌≡◌, ◌+◌, ◌≤◌};
 ghost use Rattle.law_register.specs.Answer.Answers.{Answers};
-ghost use Rattle.law_register.specs.Answer.Asking.{answer_at, known_for};
+ghost use Rattle.law_register.specs.Answer.Asking.{answer_at};
 ghost use Rattle.law_register.specs.Answer.Costs.{bearing_at};
-ghost use Rattle.law_register.specs.Answer.Soundness.{IsSound};
 
+use crate::answer_replayed;
 use desk_base::{Memory, Steps};
-use law_register::{Answer, AskFault, Known, Question, Register, Replayer, answer_by, known_at};
+use law_register::{Answer, AskFault, Question, Register, Replayer};
 use std::alloc::Global;
 use std::sync::ledger::Ledger;
 
-/// What is kept of past viewpoints to answer again. It keeps nothing yet: each answer is replayed.
+/// Who keeps nothing of past viewpoints: each answer is replayed.
 #[derive(Debug, Drop)]
 pub struct Past;
-
-// What is known of the work that a question asks for: at its viewpoint, or without the day of a version when the act was enacted.
-fn known_for(
-    alloc: Global,
-    register: &Register,
-    question: &Question,
-) -> Result<Option<Known>, Memory>
-    ensures known { IfOk result
-        (λ known. known
-        ≡ known_for register.now.entries question.now.work question.now.viewpoint question.now.version) }
-    ensures sound { IfOk result (λ known. IfSome known IsSound) }
-{
-    if question.version.is_some() {
-        return known_at(alloc, register, &question.work, question.viewpoint);
-    }
-    match register.enacted(&question.work) {
-        Some(number) => known_at(alloc, register, &question.work, number),
-        None => Ok(None),
-    }
-}
 
 impl Past {
     /// Nothing is kept at first.
@@ -43,7 +23,6 @@ impl Past {
 
     /// The answer to a question at its viewpoint, or the first rule that it breaks. It takes one step at most for each modification
     /// that bears, and none where a rule is broken that can be judged without a text.
-    #[tactic(auto, unfolding(law_register::specs::Answer::Asking::answer_at, law_register::specs::Answer::Costs::bearing_at))]
     pub fn answer_past<P: Replayer, L: Ledger>(
         &mut self,
         alloc: Global,
@@ -55,7 +34,6 @@ impl Past {
         ensures answer { Answers result (answer_at register.now.entries question.now) }
         ensures steps { steps.new ≤ steps.old + bearing_at register.now.entries question.now }
     {
-        let known = known_for(alloc, register, question)?;
-        answer_by(alloc, replayer, known.as_ref(), question, steps)
+        answer_replayed(alloc, replayer, register, question, steps)
     }
 }

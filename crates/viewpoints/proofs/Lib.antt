@@ -1,0 +1,5 @@
+pub mod Bringing
+pub mod Latest
+pub mod Stale
+pub mod Staying
+pub mod WhenEnacted

@@ -1,0 +1,48 @@
+-- What is right stays right behind more entries.
+use Rattle.std.proofs.Common.{◌≡◌, ◌∙◌, sym, ap, subst, ℕ, ◌+◌, ◌≤◌, List, [], ◌∷◌, ◌++◌, length, take, Option, Some, None, option_map, Contains, refl, append_assoc, arith}
+use Rattle.std.proofs.lemmas.List.{append-nil, length-append, take-append-le}
+use Rattle.law_register.specs.Answer.Replay.{VersionValue}
+use Rattle.law_register.specs.Register.KnownIds.{enacted, known_at, known_by}
+use Rattle.law_register.specs.Register.LawList.{law_of, laws, front}
+use Rattle.law_register.specs.declared.law.act.Act.{Act}
+use Rattle.law_register.specs.declared.law.command.Command.{Command}
+use Rattle.law_register.specs.declared.register.entry.Entry.{Entry}
+use Rattle.law_register.specs.declared.register.known.Known.{Known}
+use Rattle.law_register.proofs.Snoc.{laws_more}
+use Rattle.viewpoints.specs.Right.{IsRight, IsRightAt, with_front}
+use Rattle.viewpoints.specs.declared.past_key.PastKey.{PastKey}
+use Rattle.viewpoints.specs.declared.past_tables.PastTable.{PastTable}
+
+taken_more : (es : List Entry) (e : Entry) (v : ℕ) → v ≤ front es → take v (laws (es ++ e ∷ [])) ≡ take v (laws es)
+taken_more es e v reached = ap (take v) (laws_more es e) ∙ take-append-le v (laws es) (law_of es e) reached
+
+front_more : (es : List Entry) (e : Entry) → front es ≤ front (es ++ e ∷ [])
+front_more es e =
+    let more : front (es ++ e ∷ []) ≡ front es + length (law_of es e) = ap length (laws_more es e) ∙ length-append (laws es) (law_of es e) in
+    omega (arith, more)
+
+known_by_front : (w : List ℕ) (v m n : ℕ) (ls : List Command) (found : Option (ℕ × Act)) (k : Known)
+    → known_by w v m ls found ≡ Some (with_front m k) → known_by w v n ls found ≡ Some (with_front n k)
+known_by_front w v m n ls None k h = absurd (let no : None ≡ Some (with_front m k) = h in cc)
+known_by_front w v m n ls (Some found) k h = ap (option_map (with_front n)) h
+
+known_more : (es : List Entry) (e : Entry) (w : List ℕ) (v : ℕ) (k : Known) → v ≤ front es
+    → known_at es w v ≡ Some (with_front (front es) k) → known_at (es ++ e ∷ []) w v ≡ Some (with_front (front (es ++ e ∷ [])) k)
+known_more es e w v k reached h =
+    ap (λ ls. known_by w v (front (es ++ e ∷ [])) ls (enacted w ls)) (taken_more es e v reached)
+    ∙ known_by_front w v (front es) (front (es ++ e ∷ [])) (take v (laws es)) (enacted w (take v (laws es))) k h
+
+module _ {T : Type 0} (version_on : T → ℕ → VersionValue) where
+  right_more : (es : List Entry) (e : Entry) (key : PastKey) (kept : PastTable T) → IsRightAt version_on es key kept → IsRightAt version_on (es ++ e ∷ []) key kept
+  right_more es e key kept right = record {
+    reached = omega (arith, right.reached, front_more es e);
+    known = known_more es e key.work key.viewpoint kept.known right.reached right.known;
+    made = right.made;
+    versions = right.versions;
+  }
+
+  pub right_stays : (past : List (PastKey × PastTable T)) (es more : List Entry) → IsRight version_on es past → IsRight version_on (es ++ more) past
+  right_stays past es [] right = subst (λ l. IsRight version_on l past) (sym (append-nil es)) right
+  right_stays past es (e ∷ more) right =
+      subst (λ l. IsRight version_on l past) (append_assoc es (e ∷ []) more)
+      (right_stays past (es ++ e ∷ []) more (λ x has. right_more es e x.0 x.1 (right x has)))

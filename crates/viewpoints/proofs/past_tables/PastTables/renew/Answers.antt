@@ -1,0 +1,14 @@
+use Rattle.std.proofs.Common.{◌≡◌, ◌≤◌, sym, ap, subst, length, Some}
+use Rattle.std.specs.Map.{lookup}
+use Rattle.viewpoints.specs.Keys.{is_same_key}
+use Rattle.viewpoints.specs.Right.{IsLatest}
+use Rattle.viewpoints.proofs.Latest.{promoted_is_latest}
+use Rattle.viewpoints.proofs.past_tables.PastTables.renew.Goals as goal
+
+pub returns : goal.returns
+returns g c = λ kept found.
+    let cache = c.self.inside.tables in
+    let few : length cache.entries ≤ 16 = subst (λ n. length cache.entries ≤ n) c.self.invariant c.len-few.ensures.valid.1 in
+    subst (λ es. IsLatest c.args.key.now kept es c.promote.new.self.entries) c.self.view_is
+    (promoted_is_latest c.args.key.now kept cache.entries few c.promote.new.self.entries (ap (λ t. t.entries) c.promote.ensures.entries)
+    (subst (λ es. lookup (is_same_key c.args.key.now) es ≡ Some kept) (sym c.self.view_is) found))
