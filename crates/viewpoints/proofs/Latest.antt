@@ -113,13 +113,13 @@ module _ {T : Type 0} (key : PastKey) where
       others = λ e c. inl (Contains-promoted (is_same_key key) es e (subst (λ l. Contains l e) is c));
     }
 
-  module _ (kept : PastTable T) (cache : LruCache PastKey (PastTable T)) (most : cache.cap ≡ 16) (few : length cache.entries ≤ cache.cap) where
+  module _ (kept : PastTable T) (cache : LruCache PastKey (PastTable T)) (most : cache.cap ≡ 16) (few : length cache.entries ≤ 16) where
     put_is : (found : Option (PastTable T)) → lookup (is_same_key key) cache.entries ≡ found
         → (slice_get (put_entries is_same_key cache key kept) 0 ≡ Some (key, kept)) × (keys_of (put_entries is_same_key cache key kept) ≡ keys_after key (keys_of cache.entries))
     put_is (Some old) h =
         let is : put_entries is_same_key cache key kept ≡ (key, kept) ∷ remove_entry (is_same_key key) cache.entries =
         ap (λ o. option_map_or (λ (e : Entry T). (e.0, kept) ∷ remove_entry (is_same_key key) cache.entries) o ((key, kept) ∷ take (cache.cap - 1) cache.entries)) (found_entry cache.entries old h) in
-        (ap (λ es. slice_get es 0) is, ap keys_of is ∙ moved_keys old cache.entries (subst (λ n. length cache.entries ≤ n) most few) h)
+        (ap (λ es. slice_get es 0) is, ap keys_of is ∙ moved_keys old cache.entries few h)
     put_is None h =
         let is : put_entries is_same_key cache key kept ≡ (key, kept) ∷ take (cache.cap - 1) cache.entries =
         ap (λ o. option_map_or (λ (e : Entry T). (e.0, kept) ∷ remove_entry (is_same_key key) cache.entries) o ((key, kept) ∷ take (cache.cap - 1) cache.entries)) (none_entry cache.entries h).0 in (

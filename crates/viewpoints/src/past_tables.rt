@@ -1,7 +1,8 @@
 //! PastTables: a clause sees them as the pairs of a key and what is kept under it, the latest first.
 
-ghost use Rattle.std.specs.Prelude.{◌≡◌, [], IfOk, OnOk, OnErr, option_map, slice_get, Some};
-ghost use Rattle.std.specs.Map.{lookup};
+ghost use Rattle.std.specs.Prelude.{◌≡◌, ◌≤◌, [], length, IfOk, OnOk, OnErr, option_map, slice_get, Some};
+ghost use Rattle.std.specs.List.{IsDistinct};
+ghost use Rattle.std.specs.Map.{keys_of, lookup};
 ghost use Rattle.std.specs.NonZero.{non_zero_usize_get};
 ghost use Rattle.viewpoints.specs.Keys.{is_same_key};
 ghost use Rattle.viewpoints.specs.Right.{IsLatest};
@@ -68,6 +69,15 @@ impl<T> PastTables<T> {
         })
     }
 
+    /// How many are kept.
+    pub fn len(&self) -> usize
+        ensures len { result ≡ length self.now }
+        ensures most { result ≤ 16 }
+        ensures once { IsDistinct is_same_key (keys_of self.now) }
+    {
+        self.tables.len()
+    }
+
     pub(crate) fn kept(&self, key: &PastKey) -> Option<&PastTable<T>>
         ensures { option_map (λ kept. kept.now) result ≡ lookup (is_same_key key.now) self.now }
     {
@@ -86,7 +96,7 @@ impl<T> PastTables<T> {
         ensures { (kept : TableValue T) → lookup (is_same_key key.now) self.old ≡ Some kept
             → IsLatest key.now kept self.old self.new }
     {
-        let _few = self.tables.len();
+        let _few = self.len();
         self.tables.promote(key);
     }
 }
@@ -96,7 +106,7 @@ impl<T: Drop> PastTables<T> {
         ensures ok { OnOk result (IsLatest key kept self.old self.new) }
         ensures err { OnErr result (self.new ≡ self.old) }
     {
-        let _few = self.tables.len();
+        let _few = self.len();
         self.tables.put(key, kept)?;
         Ok(())
     }
