@@ -3,7 +3,9 @@ use Rattle.std.proofs.Common.{◌≡◌, ◌⊎◌, inl, ◌∙◌, sym, ap, sub
 use Rattle.std.proofs.lemmas.List.{append-nil, length-append, length-map}
 use Rattle.std.specs.Prelude.{slice_get}
 use Rattle.law_journal.specs.Grammar.{Listing}
-use Rattle.law_keeper.specs.Keepers.{Holding, IsHolding, IsOldOrSame, IsSettled, Keeps, LeavesNoMore, LeavesOldOrSame, LeavesOnly, Gives}
+use Rattle.law_keeper.specs.Keepers.{Finds, HasReadCause, Holding, IsHolding, IsOldOrSame, IsSettled, Keeps, LeavesNoMore, LeavesOldOrSame, LeavesOnly, Gives}
+use Rattle.law_keeper.specs.declared.readiness.Readiness.{Readiness}
+use Rattle.law_keeper.specs.declared.readiness.Readiness.TheVariants.{Unopened, Ready, Stopped}
 use Rattle.law_keeper.proofs.Moments.{idles_on, keeps_both, rests, weaker}
 use Rattle.law_keeper.proofs.Walks.{HasWalked, ok_is, one_more}
 use Rattle.law_register.specs.declared.desk.damage.Damage.{Damage}
@@ -15,7 +17,7 @@ use Rattle.law_register.specs.Desk.Openings.{opening_fault}
 use Rattle.desk_base.specs.declared.load_fault.LoadFault.{LoadFault}
 use Rattle.desk_base.specs.declared.load_fault.LoadFault.TheVariants as load
 use Rattle.entry_codec.specs.Entries.{spelling}
-use Rattle.law_office.specs.Opening.{spellings, with_payload, goes_on, opened_behind, opened, opened_of, Refuses, IsOfPayload, HasOpenCause}
+use Rattle.law_office.specs.Opening.{spellings, with_payload, goes_on, opened_behind, opened, opened_of, Refuses, IsOfPayload, HasOpenCause, StaysUnlessFailed}
 use Rattle.law_office.specs.Offices.{Spells}
 
 -- so many entries were opened from the front of the list, and the cursor stands behind them
@@ -77,6 +79,21 @@ payload_cause A before now (fails.Damaged (damage.Journal place byte)) of same =
 payload_cause A before now (fails.Damaged (damage.Entry number place byte)) of same = same
 payload_cause A before now (fails.Damaged (damage.Order number rule)) of same = same
 payload_cause A before now fails.Memory of same = same
+
+-- where the count of faults is as it was, it stays
+pub same_stays : (before now : ℕ) (fault : OpenFault) → now ≡ before → StaysUnlessFailed before now fault
+same_stays before now fails.Failed same = tt
+same_stays before now (fails.Damaged broken) same = same
+same_stays before now fails.Memory same = same
+
+-- damage that is found where a keeper tells its list is found at its first opening, which counts none
+pub found_stays : (readiness : Readiness) (h : Holding) (before now : ℕ) (fault : LoadFault) → Finds readiness h (Err fault)
+    → HasReadCause {T = Unit {0}} readiness before now (Err fault) → h.tells → StaysUnlessFailed before now (opening_fault fault)
+found_stays readiness h before now load.Failed found cause told = tt
+found_stays readiness h before now load.Memory found cause told = cause
+found_stays Unopened h before now (load.Damaged place byte) found cause told = cause
+found_stays Ready h before now (load.Damaged place byte) found cause told = absurd ((found told).1 (λ is. absurd (cc is)))
+found_stays Stopped h before now (load.Damaged place byte) found cause told = absurd ((found told).1 (λ is. absurd (cc is)))
 
 module _ (old now next : Holding) (cursor : ℕ) (entries : List Entry) (opening : HasOpened old now cursor entries) where
   -- payloads were loaded
@@ -158,12 +175,23 @@ module _ (old now next : Holding) (cursor : ℕ) (entries : List Entry) (opening
       keeps.places (keeps.tells.1 told) cursor (length entries) (opening.walked.at old_told ∙ ap Some (spellings_length entries))
 
   -- a payload that is not given is no damage
+  no_damage : (place : ℕ) (byte : Option ℕ) → IsSettled now → Gives now cursor next (Err (load.Damaged place byte)) → old.tells → ⊥
+  no_damage place byte settled given told =
+      let list = told_list told settled in
+      given (opening.walked.keeps.tells.0 told) list.0 (length (spellings entries)) (now_list told list.0 list.1) (opening.walked.at told)
+
   pub opens_refused : (fault : LoadFault) → IsSettled now → Gives now cursor next (Err fault) → old.tells → Refuses (opening_fault fault) (opened_of old.list)
   opens_refused load.Failed settled given told = tt
   opens_refused load.Memory settled given told = tt
-  opens_refused (load.Damaged place byte) settled given told =
-      let list = told_list told settled in
-      absurd (given (opening.walked.keeps.tells.0 told) list.0 (length (spellings entries)) (now_list told list.0 list.1) (opening.walked.at told))
+  opens_refused (load.Damaged place byte) settled given told = absurd (no_damage place byte settled given told)
+
+  -- nor is it a fault, unless the keeper failed
+  pub refused_stays : (before counted later : ℕ) (fault : LoadFault) → IsSettled now → Gives now cursor next (Err fault)
+      → HasReadCause {T = Option ℕ} Ready counted later (Err fault) → counted ≡ before → old.tells
+      → StaysUnlessFailed before later (opening_fault fault)
+  refused_stays before counted later load.Failed settled given cause same told = tt
+  refused_stays before counted later load.Memory settled given cause same told = cause ∙ same
+  refused_stays before counted later (load.Damaged place byte) settled given cause same told = absurd (no_damage place byte settled given told)
 
   -- the next payload is refused
   pub opens_fault : (entry : List ℕ × ℕ) (fault : OpenFault) → IsSettled now → Gives now cursor next (Ok (Some entry)) → Refuses fault (with_payload entries entry.0)

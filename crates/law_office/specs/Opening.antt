@@ -107,3 +107,9 @@ HasOpenCause before now (Err fails.Memory) = now ≡ before
 -- the same of an opening that is refused
 abbrev pub HasRefusalCause : ℕ → ℕ → OpenFault → Type 0
 HasRefusalCause before now fault = HasOpenCause {A = Unit {0}} before now (Err fault)
+
+-- a refusal leaves the count as it was, unless the keeper failed: damage is no fault
+abbrev pub StaysUnlessFailed : ℕ → ℕ → OpenFault → Type 0
+StaysUnlessFailed before now fails.Failed = Unit {0}
+StaysUnlessFailed before now (fails.Damaged broken) = now ≡ before
+StaysUnlessFailed before now fails.Memory = now ≡ before

@@ -14,7 +14,7 @@ ghost use Rattle.law_register.specs.Register.LawList.{front};
 ghost use Rattle.law_office.specs.Crashing.{crashes_of};
 ghost use Rattle.law_office.specs.Lists.{EndsOver};
 ghost use Rattle.law_office.specs.Offices.{HoldsBook, IsRight, Spells, desk_of, names_of, pending_of};
-ghost use Rattle.law_office.specs.Opening.{HasRefusalCause, Refuses, opened_of};
+ghost use Rattle.law_office.specs.Opening.{HasRefusalCause, Refuses, StaysUnlessFailed, opened_of};
 
 use crate::acting::command as do_command;
 use crate::book::Book;
@@ -101,6 +101,8 @@ impl<'k, 'c, K: Keeper, C: Clock> Office<'k, 'c, K, C> {
             LeavesOldOrSame (K.holding keeper.old) (K.holding refused.keeper.now)) }
         ensures cause_refused { IfErr result (λ refused.
             HasRefusalCause (K.faults keeper.old) (K.faults refused.keeper.now) refused.fault) }
+        ensures stays_refused { (K.holding keeper.old).tells → IfErr result (λ refused.
+            StaysUnlessFailed (K.faults keeper.old) (K.faults refused.keeper.now) refused.fault) }
         ensures clock_refused { IfErr result (λ refused. refused.clock.now ≡ clock.old) }
         ensures names_refused { IfErr result (λ refused.
             names_of refused.keeper.ghost_name refused.clock.ghost_name

@@ -9,7 +9,7 @@ ghost use Rattle.entry_codec.specs.Entries.{decoding};
 ghost use Rattle.entry_codec.specs.Reads.{Gives as GivesEntry};
 ghost use Rattle.law_office.specs.Offices.{Holds, HoldsBook, IsRight};
 ghost use Rattle.law_office.specs.Opening as spec;
-ghost use Rattle.law_office.specs.Opening.{HasOpenCause, IsOfPayload, Opens, opened_of, with_entry, with_payload};
+ghost use Rattle.law_office.specs.Opening.{HasOpenCause, IsOfPayload, Opens, StaysUnlessFailed, opened_of, with_entry, with_payload};
 
 use crate::book::Book;
 use desk_base::Memory;
@@ -181,6 +181,8 @@ fn load_entries<K: Keeper>(
     ensures same { Keeps (K.holding keeper.old) (K.holding keeper.new) }
     ensures crash { LeavesNoMore (K.holding keeper.old) (K.holding keeper.new) }
     ensures cause { HasOpenCause (K.faults keeper.old) (K.faults keeper.new) result }
+    ensures stays { (K.holding keeper.old).tells
+        → IfErr result (StaysUnlessFailed (K.faults keeper.old) (K.faults keeper.new)) }
 {
     let mut payload = Vec::new(alloc);
     let mut end = 0;
@@ -206,6 +208,8 @@ impl Book {
         ensures same { Keeps (K.holding keeper.old) (K.holding keeper.new) }
         ensures crash { LeavesOldOrSame (K.holding keeper.old) (K.holding keeper.new) }
         ensures cause { HasOpenCause (K.faults keeper.old) (K.faults keeper.new) result }
+        ensures stays { (K.holding keeper.old).tells
+            → IfErr result (StaysUnlessFailed (K.faults keeper.old) (K.faults keeper.new)) }
     {
         let past = Past::new(alloc)?;
         keeper.reopen(alloc)?;

@@ -10,7 +10,7 @@ use Rattle.law_http.specs.declared.streaming.StreamEnd.TheVariants as ends
 use Rattle.law_keeper.specs.Keepers.{Holding, Keeps, LeavesOldOrSame}
 use Rattle.law_office.specs.Crashing.{crashes_of}
 use Rattle.law_office.specs.Offices.{OfficeState, desk_of}
-use Rattle.law_office.specs.Opening.{HasDamageCause, HasRefusalCause, Refuses, opened_of}
+use Rattle.law_office.specs.Opening.{HasDamageCause, HasRefusalCause, Refuses, StaysUnlessFailed, opened_of}
 use Rattle.law_register.specs.Desk.States.{IsFoundOf}
 use Rattle.law_register.specs.declared.desk.damage.Damage.{Damage}
 use Rattle.law_register.specs.declared.desk.open_fault.OpenFault.{OpenFault}
@@ -65,6 +65,16 @@ write_stays (ends.Refused refusal) faulted before now cause other = cause
 write_stays ends.ReadFault faulted before now cause other = cause
 write_stays ends.WriteFault faulted before now cause other = absurd (other refl)
 write_stays ends.Memory faulted before now cause other = cause
+
+-- a stream that was served ends with no damage
+never_six : (end : StreamEnd) (faulted : Bool) → stream_status end faulted ≢ 6
+never_six ends.End true six = omega (arith, six)
+never_six ends.End false six = omega (arith, six)
+never_six (ends.Refused refusal) true six = omega (arith, six)
+never_six (ends.Refused refusal) false six = omega (arith, six)
+never_six ends.ReadFault faulted six = omega (arith, six)
+never_six ends.WriteFault faulted six = omega (arith, six)
+never_six ends.Memory faulted six = omega (arith, six)
 
 -- 5 says that some response told a fault of the keeper, 0 and 1 that none did
 five_is_faulted : (end : StreamEnd) (faulted : Bool) → stream_status end faulted ≡ 5 → faulted ≡ true
@@ -143,6 +153,12 @@ refusal_cause (fails.Damaged damage) before after status faults now (inr (inr to
 refusal_cause fails.Failed before after status faults now told cause five = rose_once faults now cause
 refusal_cause fails.Memory before after status faults now told cause five = absurd (omega arith)
 
+refusal_stays : (fault : OpenFault) (before after : Option (List ℕ)) (status faults now : ℕ)
+    → TellsRefusal fault before after status → StaysUnlessFailed faults now fault → status ≡ 6 → now ≡ faults
+refusal_stays (fails.Damaged damage) before after status faults now told stays six = stays
+refusal_stays fails.Failed before after status faults now told stays six = absurd (omega (arith, told, six))
+refusal_stays fails.Memory before after status faults now told stays six = stays
+
 any_status : (status : ℕ) → (status ≡ 4) ⊎ ((status ≡ 5) ⊎ ((status ≡ 6) ⊎ (status ≡ 7))) → IsBatchStatus status
 any_status status (inl four) = inr (inr (inr (inl four)))
 any_status status (inr (inl five)) = inr (inr (inr (inr (inl five))))
@@ -163,6 +179,7 @@ module _ {S W K C : Type 0} (left : S → Option (List ℕ)) (read_faults : S �
   pub ran_unopened : (status : ℕ) (fault : OpenFault)
       → ((holding keeper).tells → Refuses fault (opened_of (holding keeper).list))
       → HasRefusalCause (keeper_faults keeper) (keeper_faults keeper_new) fault
+      → ((holding keeper).tells → StaysUnlessFailed (keeper_faults keeper) (keeper_faults keeper_new) fault)
       → Keeps (holding keeper) (holding keeper_new)
       → LeavesOldOrSame (holding keeper) (holding keeper_new)
       → TellsRefusal fault (written sink) (written sink_new) status
@@ -172,7 +189,7 @@ module _ {S W K C : Type 0} (left : S → Option (List ℕ)) (read_faults : S �
       → source_new ≡ source → clock_new ≡ clock
       → RanBatch left read_faults written write_faults holding keeper_faults days
       source source_new sink sink_new keeper keeper_new clock clock_new steps later status
-  ran_unopened status fault opened cause same crash told unwritten rose stays same_source same_clock =
+  ran_unopened status fault opened cause uncounted same crash told unwritten rose stays same_source same_clock =
       let among : (status ≡ 4) ⊎ ((status ≡ 5) ⊎ ((status ≡ 6) ⊎ (status ≡ 7))) =
       refusal_status_is fault (written sink) (written sink_new) status told in
       record {
@@ -181,6 +198,7 @@ module _ {S W K C : Type 0} (left : S → Option (List ℕ)) (read_faults : S �
           fault = fault;
           opened = opened;
           cause = cause;
+          stays = uncounted;
           told = told;
           unwritten = unwritten;
           same = same;
@@ -197,6 +215,8 @@ module _ {S W K C : Type 0} (left : S → Option (List ℕ)) (read_faults : S �
           | inl is ↦ high status 0 among is (omega arith)
           | inr is ↦ high status 1 among is (omega arith)
         ]);
+        damage_is_no_fault = λ six tells.
+            refusal_stays fault (written sink) (written sink_new) status (keeper_faults keeper) (keeper_faults keeper_new) told (uncounted tells) six;
       }
 
   -- a stream was served
@@ -261,4 +281,5 @@ module _ {S W K C : Type 0} (left : S → Option (List ℕ)) (read_faults : S �
             ∙ served_faults (desk_of keeper_faults days) (λ (o : OfficeState K C). crashes_of (holding o.keeper))
             (serves.streamed).exchanges serves.office serves.closed (serves.streamed).answered none
             ∙ began;
+        damage_is_no_fault = λ six tells. absurd (never_six served.end served.faulted (sym is ∙ six));
       }

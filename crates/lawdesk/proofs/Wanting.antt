@@ -69,6 +69,7 @@ module _ {K W : Type 0} (holding : K → Holding) (faults : K → ℕ)
     cut = λ four. absurd (omega (arith, four));
     unwritten = λ wanting. refl;
     keeper_stays = λ zero_is. refl;
+    damage_is_no_fault = λ other told. refl;
     sink_stays = λ other. refl;
     same = keeps_same (holding keeper);
     crash = leaves_same (holding keeper) is;
@@ -83,6 +84,7 @@ module _ {K W : Type 0} (holding : K → Holding) (faults : K → ℕ)
     cut = λ four. absurd (omega (arith, four));
     unwritten = λ wanting. refl;
     keeper_stays = λ low. refl;
+    damage_is_no_fault = λ other told. refl;
     sink_stays = λ other. refl;
     same = keeps_same (holding keeper);
     crash = leaves_same (holding keeper) is;
@@ -96,6 +98,6 @@ module _ {S W K C : Type 0} (left : S → Option (List ℕ)) (read_faults : S �
       source source sink sink keeper keeper clock clock steps steps 7
   batch_wanting =
       ran_unopened left read_faults written write_faults holding keeper_faults days
-      source source sink sink keeper keeper clock clock steps steps 7 fails.Memory (λ told. tt) refl
+      source source sink sink keeper keeper clock clock steps steps 7 fails.Memory (λ told. tt) refl (λ told. refl)
       (keeps_same (holding keeper)) (leaves_same (holding keeper) is) refl (λ wanting. refl)
       (λ four. absurd (omega (arith, four))) (λ other. refl) refl refl

@@ -10,7 +10,7 @@ use Rattle.law_http.specs.declared.streaming.StreamEnd.TheVariants as ends
 use Rattle.law_keeper.specs.Keepers.{Holding, Keeps, LeavesOldOrSame}
 use Rattle.law_office.specs.Crashing.{crashes_of}
 use Rattle.law_office.specs.Offices.{OfficeState, Spells, desk_of}
-use Rattle.law_office.specs.Opening.{HasRefusalCause, Refuses, opened_of}
+use Rattle.law_office.specs.Opening.{HasRefusalCause, Refuses, StaysUnlessFailed, opened_of}
 use Rattle.law_register.specs.Desk.States.{IsFoundOf}
 use Rattle.law_register.specs.declared.desk.damage.Damage.{Damage}
 use Rattle.law_register.specs.declared.desk.open_fault.OpenFault.{OpenFault}
@@ -97,6 +97,7 @@ module _ {S W K C : Type 0} (left : S → Option (List ℕ)) (read_faults : S �
     pub fault : OpenFault
     pub opened : (holding keeper).tells → Refuses fault (opened_of (holding keeper).list)
     pub cause : HasRefusalCause (keeper_faults keeper) (keeper_faults keeper_new) fault
+    pub stays : (holding keeper).tells → StaysUnlessFailed (keeper_faults keeper) (keeper_faults keeper_new) fault
     pub told : TellsRefusal fault (written sink) (written sink_new) status
     pub unwritten : (status ≡ 5) ⊎ (status ≡ 7) → sink_new ≡ sink
     -- the payloads stay, and where the keeper tells it, a crash at any moment since the run began leaves a list that
@@ -144,3 +145,5 @@ module _ {S W K C : Type 0} (left : S → Option (List ℕ)) (read_faults : S �
     pub source_stays : status ≢ 3 → read_faults source_new ≡ read_faults source
     pub sink_stays : status ≢ 4 → write_faults sink_new ≡ write_faults sink
     pub keeper_stays : (status ≡ 0) ⊎ (status ≡ 1) → keeper_faults keeper_new ≡ keeper_faults keeper
+    -- where the keeper tells its list, damage is no fault
+    pub damage_is_no_fault : status ≡ 6 → (holding keeper).tells → keeper_faults keeper_new ≡ keeper_faults keeper

@@ -86,6 +86,8 @@ pub record RanReport {K W : Type 0} (holding : K → Holding) (faults : K → �
   pub unwritten : (status ≡ 5) ⊎ (status ≡ 7) → sink_new ≡ sink
   -- no count rose but that of the device which the status names
   pub keeper_stays : (status ≡ 0) ⊎ (status ≡ 9) → faults keeper_new ≡ faults keeper
+  -- where the keeper tells its list, damage is no fault, so its count rose at 5 alone
+  pub damage_is_no_fault : status ≢ 5 → (holding keeper).tells → faults keeper_new ≡ faults keeper
   pub sink_stays : status ≢ 4 → write_faults sink_new ≡ write_faults sink
   -- the payloads stay, and where the keeper tells it, a crash at any moment since the run began leaves a list that it
   -- could leave before, or the list itself

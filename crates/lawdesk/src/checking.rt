@@ -1,10 +1,11 @@
 //! Checking: whether what is kept is a register, and where not, what first shows it.
 
-ghost use Rattle.std.specs.Prelude.{◌≡◌, ◌≢◌, ◌⊎◌, ℕ, IfOk, Result, List};
+ghost use Rattle.std.specs.Prelude.{◌≡◌, ◌≢◌, ◌⊎◌, ℕ, Err, IfErr, IfOk, Result, List};
 ghost use Rattle.desk_base.specs.Streams.{risen};
 ghost use Rattle.law_keeper.specs.Keepers.{Keeps, LeavesOldOrSame};
-ghost use Rattle.law_office.specs.Opening.{HasOpenCause, Opens};
+ghost use Rattle.law_office.specs.Opening.{HasOpenCause, Opens, StaysUnlessFailed};
 ghost use Rattle.law_register.specs.declared.desk.damage.Damage.{Damage};
+ghost use Rattle.law_register.specs.declared.desk.open_fault.OpenFault.TheVariants as fails;
 ghost use Rattle.law_register.specs.declared.register.entry.Entry.{Entry};
 ghost use Rattle.lawdesk.specs.Checking.{HasCheckCause, IsCheckCut, IsCheckDone, IsCheckStatus, IsChecked, checked, told_damage, told_opened, told_register};
 ghost use Rattle.dossier_text.specs.Views.{report_view};
@@ -44,6 +45,8 @@ fn report_opened(alloc: Global, opened: &Result<Book, OpenFault>) -> Result<Repo
     ensures told { (told : Result (List Entry) Damage) → Opens (λ book. book.register.entries) opened.now told
         → IfOk result (λ report. report_view report ≡ told_opened told) }
     ensures cause { (before now : ℕ) → HasOpenCause before now opened.now → HasCheckCause before now result }
+    ensures stays { (before now : ℕ) → HasOpenCause before now opened.now → IfErr opened.now (StaysUnlessFailed before now)
+        → result ≢ Err fails.Failed → now ≡ before }
 {
     match opened {
         Ok(book) => Ok(report_register(alloc, &book.register)?),
@@ -60,6 +63,8 @@ fn report_kept<K: Keeper>(alloc: Global, keeper: &mut K) -> Result<Report, OpenF
     ensures told { (K.holding keeper.old).tells
         → IfOk result (λ report. report_view report ≡ checked (K.holding keeper.old).list) }
     ensures cause { HasCheckCause (K.faults keeper.old) (K.faults keeper.new) result }
+    ensures stays { (K.holding keeper.old).tells → result ≢ Err fails.Failed
+        → K.faults keeper.new ≡ K.faults keeper.old }
     ensures same { Keeps (K.holding keeper.old) (K.holding keeper.new) }
     ensures crash { LeavesOldOrSame (K.holding keeper.old) (K.holding keeper.new) }
 {
@@ -80,6 +85,7 @@ pub fn check<W: Sink, K: Keeper>(alloc: Global, sink: &mut W, keeper: &mut K) ->
         → IsCheckCut (K.holding keeper.old).list (W.written sink.old) (W.written sink.new) }
     ensures unwritten { (result ≡ 5) ⊎ (result ≡ 7) → sink.new ≡ sink.old }
     ensures keeper_stays { result ≡ 0 → K.faults keeper.new ≡ K.faults keeper.old }
+    ensures damage { result ≢ 5 → (K.holding keeper.old).tells → K.faults keeper.new ≡ K.faults keeper.old }
     ensures sink_stays { result ≢ 4 → W.faults sink.new ≡ W.faults sink.old }
     ensures same { Keeps (K.holding keeper.old) (K.holding keeper.new) }
     ensures crash { LeavesOldOrSame (K.holding keeper.old) (K.holding keeper.new) }

@@ -1,11 +1,12 @@
 //! Tabling: a table of what the register that is kept knows.
 
-ghost use Rattle.std.specs.Prelude.{◌≡◌, ◌≢◌, ◌⊎◌, ℕ, IfOk, List, Result};
+ghost use Rattle.std.specs.Prelude.{◌≡◌, ◌≢◌, ◌⊎◌, ℕ, Err, IfErr, IfOk, List, Result};
 ghost use Rattle.desk_base.specs.Streams.{risen};
 ghost use Rattle.law_keeper.specs.Keepers.{Keeps, LeavesOldOrSame};
-ghost use Rattle.law_office.specs.Opening.{HasOpenCause, Opens};
+ghost use Rattle.law_office.specs.Opening.{HasOpenCause, Opens, StaysUnlessFailed};
 ghost use Rattle.law_register.specs.declared.answer.queries.QueryRule.{QueryRule as Rule};
 ghost use Rattle.law_register.specs.declared.desk.damage.Damage.{Damage};
+ghost use Rattle.law_register.specs.declared.desk.open_fault.OpenFault.TheVariants as fails;
 ghost use Rattle.law_register.specs.declared.register.entry.Entry.{Entry};
 ghost use Rattle.law_reports.specs.Tables.{Tells};
 ghost use Rattle.lawdesk.specs.Tabling.{HasReportCause, IsReport, IsReportCut, IsReportDone, IsReportOf, IsReportStatus, IsReported, IsTabled, told_table};
@@ -76,6 +77,8 @@ fn report_opened<L: Ledger>(
     ensures told { (told : Result (List Entry) Damage) → Opens (λ book. book.register.entries) opened.now told
         → IfOk result (λ report. IsReportOf job.now told (report_view report)) }
     ensures cause { (before now : ℕ) → HasOpenCause before now opened.now → HasReportCause before now result }
+    ensures stays { (before now : ℕ) → HasOpenCause before now opened.now → IfErr opened.now (StaysUnlessFailed before now)
+        → result ≢ Err fails.Failed → now ≡ before }
 {
     match opened {
         Ok(book) => Ok(report_of(alloc, job, &book.register, steps)?),
@@ -95,6 +98,8 @@ fn report_kept<K: Keeper, L: Ledger>(
     ensures told { (K.holding keeper.old).tells
         → IfOk result (λ report. IsReported job.now (K.holding keeper.old).list (report_view report)) }
     ensures cause { HasReportCause (K.faults keeper.old) (K.faults keeper.new) result }
+    ensures stays { (K.holding keeper.old).tells → result ≢ Err fails.Failed
+        → K.faults keeper.new ≡ K.faults keeper.old }
     ensures same { Keeps (K.holding keeper.old) (K.holding keeper.new) }
     ensures crash { LeavesOldOrSame (K.holding keeper.old) (K.holding keeper.new) }
 {
@@ -122,6 +127,7 @@ pub fn tabulate<W: Sink, K: Keeper, L: Ledger>(
         → IsReportCut job.now (K.holding keeper.old).list (W.written sink.old) (W.written sink.new) }
     ensures unwritten { (result ≡ 5) ⊎ (result ≡ 7) → sink.new ≡ sink.old }
     ensures keeper_stays { (result ≡ 0) ⊎ (result ≡ 9) → K.faults keeper.new ≡ K.faults keeper.old }
+    ensures damage { result ≢ 5 → (K.holding keeper.old).tells → K.faults keeper.new ≡ K.faults keeper.old }
     ensures sink_stays { result ≢ 4 → W.faults sink.new ≡ W.faults sink.old }
     ensures same { Keeps (K.holding keeper.old) (K.holding keeper.new) }
     ensures crash { LeavesOldOrSame (K.holding keeper.old) (K.holding keeper.new) }

@@ -1,11 +1,12 @@
 use Rattle.std.proofs.Common.{rules, ◌≡◌, ◌∙◌, sym, ap, subst, List, [], ◌∷◌, ◌++◌, ℕ, Option, Some, Ok, Err, refl}
 use Rattle.std.proofs.lemmas.Result.{err_from_is_err_and}
 use Rattle.law_journal.specs.Journals.{read_into}
-use Rattle.law_keeper.specs.Keepers.{Gives}
+use Rattle.law_keeper.specs.Keepers.{Gives, HasReadCause}
+use Rattle.law_keeper.specs.declared.readiness.Readiness.{Readiness}
 use Rattle.law_register.specs.declared.register.entry.Entry.{Entry}
 use Rattle.law_office.specs.Opening.{opened, spellings, with_payload, Refuses}
 use Rattle.law_office.proofs.Openings.{opened_behind_them}
-use Rattle.law_office.proofs.Opened.{HasOpened, opened_none, keeps_then, loads_more, opens_more, opens_all, spells_all, ends_there, opens_refused, opens_fault, payload_cause}
+use Rattle.law_office.proofs.Opened.{HasOpened, opened_none, keeps_then, loads_more, opens_more, opens_all, spells_all, ends_there, opens_refused, opens_fault, payload_cause, refused_stays, same_stays}
 use Rattle.law_office.proofs.opening.load_entries.Goals as goal
 
 pub walk-init : goal.walk-init
@@ -75,6 +76,23 @@ returns-in_err-add_payload-clause-cause g c =
     let p = err_from_is_err_and c.from_residual-in_err-add_payload.result c.from_residual-in_err-add_payload.ensures.1 in
     rw (p.1, p.2)
     (payload_cause ℕ _ _ c.in_err-add_payload.field-0.0 c.in_err-add_payload.ensures.refuses (c.in_ok-next.ensures.cause ∙ c.walk.invariant.same_count))
+
+pub returns-in_err-next-clause-stays : goal.returns-in_err-next-clause-stays
+returns-in_err-next-clause-stays g c =
+    let holding = g.K.Keeper.holding in
+    let p = err_from_is_err_and c.from_residual.result c.from_residual.ensures.1 in
+    rw (p.1, p.2)
+    (refused_stays (holding c.args.keeper.now) (holding c.walk.keeper) (holding c.load.new.self) c.walk.end c.walk.register.entries c.walk.invariant.opened
+    _ _ _ c.in_err-next.field-0.0 c.walk.invariant.settled c.in_err-next.ensures.given
+    (subst (λ (r : Readiness). HasReadCause {T = Option ℕ} r (g.K.Keeper.faults c.walk.keeper) (g.K.Keeper.faults c.load.new.self) (Err c.in_err-next.field-0.0))
+    c.walk.invariant.ready c.in_err-next.ensures.cause)
+    c.walk.invariant.same_count)
+
+pub returns-in_err-add_payload-clause-stays : goal.returns-in_err-add_payload-clause-stays
+returns-in_err-add_payload-clause-stays g c =
+    let p = err_from_is_err_and c.from_residual-in_err-add_payload.result c.from_residual-in_err-add_payload.ensures.1 in
+    rw (p.1, p.2)
+    (λ told. same_stays _ _ c.in_err-add_payload.field-0.0 (c.in_ok-next.ensures.cause ∙ c.walk.invariant.same_count))
 
 pub returns-clause-held : goal.returns-clause-held
 returns-clause-held g c =

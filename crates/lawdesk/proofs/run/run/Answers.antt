@@ -61,6 +61,7 @@ returns-in-Ok-Some-Report-clause-report g c job same =
       cut = c.tabulate.ensures.cut;
       unwritten = c.tabulate.ensures.unwritten;
       keeper_stays = c.tabulate.ensures.keeper_stays;
+      damage_is_no_fault = c.tabulate.ensures.damage;
       sink_stays = c.tabulate.ensures.sink_stays;
       same = c.tabulate.ensures.same;
       crash = c.tabulate.ensures.crash;
