@@ -1,6 +1,7 @@
 -- What is right stays right behind more entries.
 use Rattle.std.proofs.Common.{◌≡◌, ◌∙◌, sym, ap, subst, ℕ, ◌+◌, ◌≤◌, List, [], ◌∷◌, ◌++◌, length, take, Option, Some, None, option_map, Contains, refl, append_assoc, arith}
 use Rattle.std.proofs.lemmas.List.{append-nil, length-append, take-append-le}
+use Rattle.lru.proofs.Splits.{Contains-nil}
 use Rattle.law_register.specs.Answer.Replay.{VersionValue}
 use Rattle.law_register.specs.Register.KnownIds.{enacted, known_at, known_by}
 use Rattle.law_register.specs.Register.LawList.{law_of, laws, front}
@@ -40,6 +41,9 @@ module _ {T : Type 0} (version_on : T → ℕ → VersionValue) where
     made = right.made;
     versions = right.versions;
   }
+
+  pub nothing_is_right : (past : List (PastKey × PastTable T)) → past ≡ [] → (entries : List Entry) → IsRight version_on entries past
+  nothing_is_right past none entries = λ e has. absurd (Contains-nil e (subst (λ l. Contains l e) none has))
 
   pub right_stays : (past : List (PastKey × PastTable T)) (es more : List Entry) → IsRight version_on es past → IsRight version_on (es ++ more) past
   right_stays past es [] right = subst (λ l. IsRight version_on l past) (sym (append-nil es)) right

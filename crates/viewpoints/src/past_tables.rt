@@ -1,16 +1,17 @@
 //! PastTables: a clause sees them as the pairs of a key and what is kept under it, the latest first.
 
-ghost use Rattle.std.specs.Prelude.{◌≡◌, ◌≤◌, [], length, IfOk, OnOk, OnErr, option_map, slice_get, Some};
+ghost use Rattle.std.specs.Prelude.{◌≡◌, ◌≤◌, List, [], length, IfOk, OnOk, OnErr, option_map, slice_get, Some};
 ghost use Rattle.std.specs.List.{IsDistinct};
 ghost use Rattle.std.specs.Map.{keys_of, lookup};
 ghost use Rattle.std.specs.NonZero.{non_zero_usize_get};
+ghost use Rattle.law_register.specs.declared.register.entry.Entry.{Entry};
 ghost use Rattle.viewpoints.specs.Keys.{is_same_key};
-ghost use Rattle.viewpoints.specs.Right.{IsLatest};
+ghost use Rattle.viewpoints.specs.Right.{IsLatest, IsRight};
 ghost use Rattle.viewpoints.specs.declared.past_tables.PastTable.{PastTable as TableValue};
 
 use crate::PastKey;
 use desk_base::Memory;
-use law_register::Known;
+use law_register::{Dated, Known};
 use lru::LruCache;
 use std::alloc::Global;
 use std::marker::Model;
@@ -59,16 +60,20 @@ fn most_tables() -> NonZeroUsize
     }
 }
 
-impl<T> PastTables<T> {
-    /// Nothing is kept at first.
+impl<T: Dated> PastTables<T> {
+    /// Nothing is kept at first, which is right for any register.
+    #[tactic(auto, using(crate::proofs::Staying::nothing_is_right))]
     pub fn new(alloc: Global) -> Result<PastTables<T>, Memory>
-        ensures { IfOk result (λ past. past ≡ []) }
+        ensures none { IfOk result (λ past. past ≡ []) }
+        ensures right { IfOk result (λ past. (entries : List Entry) → IsRight T.version_on entries past) }
     {
         Ok(PastTables {
             tables: LruCache::new(alloc, most_tables())?,
         })
     }
+}
 
+impl<T> PastTables<T> {
     /// How many are kept.
     pub fn len(&self) -> usize
         ensures len { result ≡ length self.now }
