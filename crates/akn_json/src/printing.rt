@@ -5,6 +5,7 @@ mod bearings;
 mod damages;
 mod drafts;
 mod edits;
+mod ids;
 mod lists;
 mod members;
 mod nodes;

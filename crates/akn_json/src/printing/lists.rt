@@ -8,6 +8,7 @@ ghost use Rattle.serde_json.specs.Data.{array};
 ghost use Rattle.serde_json.specs.Written.{outline, items_outline};
 ghost use Rattle.akn_json.specs.Printing.Answers.{ids_data, missed_data, texts_data, unapplied_data};
 
+use super::ids::spell;
 use super::members::put_text;
 use act_tree::Cause;
 use desk_base::{Id, Memory, Text};
@@ -40,8 +41,10 @@ fn put_each_id(out: &mut Writer, alloc: Global, ids: &[Id]) -> Result<(), Memory
         ≡ out.old.tokens ++ items_tokens (items_outline (ids_data ids.now))) }
     ensures before { OnOk result (out.new.before ≡ out.old.before) }
 {
+    let mut text = String::new(alloc);
     for id in ids {
-        out.string(id.spelled(alloc)?.as_str())?;
+        spell(&mut text, *id)?;
+        out.string(text.as_str())?;
     }
     out.end_array()?;
     Ok(())
@@ -56,15 +59,16 @@ pub fn put_ids(out: &mut Writer, alloc: Global, ids: &[Id]) -> Result<(), Memory
     put_each_id(out, alloc, ids)
 }
 
-// A modification that could not be applied, with its cause.
-fn put_missed(out: &mut Writer, alloc: Global, missed: &(Id, Cause)) -> Result<(), Memory>
+// A modification that could not be applied, with its cause. The text has room for its id.
+fn put_missed(out: &mut Writer, text: &mut String, missed: &(Id, Cause)) -> Result<(), Memory>
     ensures tokens { OnOk result (out.new.tokens
         ≡ out.old.tokens ++ json_tokens (outline (missed_data missed.now))) }
     ensures before { OnOk result (out.new.before ≡ out.old.before) }
 {
+    spell(text, missed.0)?;
     out.begin_object()?;
     put_text(out, "cause", missed.1.name())?;
-    put_text(out, "id", missed.0.spelled(alloc)?.as_str())?;
+    put_text(out, "id", text.as_str())?;
     out.end_object()?;
     Ok(())
 }
@@ -75,8 +79,9 @@ fn put_each_missed(out: &mut Writer, alloc: Global, list: &[(Id, Cause)]) -> Res
         ≡ out.old.tokens ++ items_tokens (items_outline (unapplied_data list.now))) }
     ensures before { OnOk result (out.new.before ≡ out.old.before) }
 {
+    let mut text = String::new(alloc);
     for missed in list {
-        put_missed(out, alloc, missed)?;
+        put_missed(out, &mut text, missed)?;
     }
     out.end_array()?;
     Ok(())
