@@ -1,5 +1,5 @@
 -- Fields that are exact: what is read is the spelling of what it gives, and what is spelled is read as what was spelled.
-use Rattle.std.proofs.Common.{◌≡◌, ℕ, zero, suc, ◌*◌, ◌^◌, ◌<◌, ◌≤◌, ◌==◌, Bool, true, false, ◌&&◌, if◌then◌else◌, List, [], ◌∷◌, ◌++◌, length, get_or, take, drop, min, Option, Some, None, Result, Ok, Err, refl, sym, ap, subst, ◌∙◌, append_assoc, arith}
+use Rattle.std.proofs.Common.{◌≡◌, ℕ, zero, suc, ◌*◌, ◌^◌, ◌<◌, ◌≤◌, ◌==◌, Bool, true, false, not, ◌&&◌, ◌||◌, if◌then◌else◌, inl, inr, List, [], ◌∷◌, ◌++◌, length, get_or, take, drop, min, Option, Some, None, Result, Ok, Err, refl, sym, ap, subst, ◌∙◌, append_assoc, arith}
 use Rattle.std.specs.Prelude.{nat_lt}
 use Rattle.std.specs.List.{flat_map, list_all}
 use Rattle.std.specs.Int.{Width, w16, w32, w64, byte_len, from_be_bytes, to_be_bytes}
@@ -8,7 +8,7 @@ use Rattle.std.proofs.Math.Nat.{min-eq_left}
 use Rattle.std.proofs.lemmas.List.{take_at, drop_at, take-append-drop, length-append, length-take}
 use Rattle.std.proofs.lemmas.Nat.{be_bytes_2, be_bytes_4, be_bytes_8, from_be_bytes-to_be_bytes_2, from_be_bytes-to_be_bytes_4, from_be_bytes-to_be_bytes_8}
 use Rattle.entry_codec.specs.Reads.{Read, ◌>>=◌}
-use Rattle.entry_codec.specs.Fields.{Field, byte_read, byte, chunk_read, chunk, tested, given, pair, made_where, parts_spell, parts_fit, number, nothing, chosen_spell, chosen_read, chosen_fits, one_of, counted, each_read, each}
+use Rattle.entry_codec.specs.Fields.{Field, byte_read, byte, chunk_read, chunk, tested, given, pair, made_where, parts_spell, parts_fit, number, nothing, Kind, HeldBy, kind_value, kind_byte, kind_spell, kind_fits, kind_read, told_read, one_of, counted, each_read, each}
 
 -- bytes are below 256
 abbrev pub is_byte : ℕ → Bool
@@ -269,49 +269,93 @@ number_exact w wide = made_exact (is_below w) (from_be_bytes w) (λ n. Some (to_
   whole = λ n bytes small apart. ap (from_be_bytes w) (sym (some_is (to_be_bytes w n) bytes apart)) ∙ wide.again n (ltb-true _ _ small);
 })
 
--- one of several kinds
-abbrev pub AreExact : {V : Type 0} → (V → ℕ) → List (ℕ × Field V) → Type 0
-AreExact kind [] = Unit {0}
-AreExact {V} kind (row ∷ rows) = IsExact row.1 × ((v : V) → row.1.fits v ≡ true → kind v ≡ row.0) × AreExact kind rows
+-- kinds are exact: their fields are, and a value that is made of what such a field holds is parted into it, at the kind's place
+abbrev pub AreExact : {V S : Type 0} (kinds : List (Kind V)) → (V → S) → (HeldBy kinds → S) → Type 0
+AreExact [] parts place = Unit {0}
+AreExact (one ∷ others) parts place =
+    IsExact one.field × ((held : one.Held) → one.field.fits held ≡ true → parts (one.make held) ≡ place (inl held))
+    × AreExact others parts (λ held. place (inr held))
 
-abbrev ChosenTakes : {V : Type 0} → (V → ℕ) → List (ℕ × Field V) → ℕ → List ℕ → V → List ℕ → Type 0
-ChosenTakes kind rows k bytes v rest = Taken bytes (chosen_spell rows k v) rest (chosen_fits rows k v) × (kind v ≡ k)
+-- a byte tells one of the kinds; no byte tells two
+abbrev tells : {V : Type 0} → List (Kind V) → ℕ → Bool
+tells [] told = false
+tells (one ∷ others) told = told == one.byte || tells others told
 
-chosen_takes : {V : Type 0} (kind : V → ℕ) (rows : List (ℕ × Field V)) → AreExact kind rows → (k start : ℕ) (bytes : List ℕ) (v : V) (rest : List ℕ)
-    → AreBytes bytes → chosen_read rows k start bytes ≡ Ok (v, rest) → ChosenTakes kind rows k bytes v rest
-chosen_takes kind [] exacts k start bytes v rest are e = absurd cc
-chosen_takes {V} kind (row ∷ rows) exacts k start bytes v rest are e =
-    by (k == row.0) refl e (λ later. chosen_takes kind rows exacts.2 k start bytes v rest are later)
+abbrev pub are_told_apart : {V : Type 0} → List (Kind V) → Bool
+are_told_apart [] = true
+are_told_apart (one ∷ others) = not (tells others one.byte) && are_told_apart others
+
+-- what was read of a kind that a byte told
+record Chosen {V S : Type 0} (kinds : List (Kind V)) (parts : V → S) (place : HeldBy kinds → S) (told : ℕ) (bytes : List ℕ) (v : V) (rest : List ℕ) : Type 0 where
+  held : HeldBy kinds
+  parted : parts v ≡ place held
+  byte : told ≡ kind_byte kinds held
+  taken : Taken bytes (kind_spell kinds held) rest (kind_fits kinds held)
+
+chosen_takes : {V S : Type 0} (kinds : List (Kind V)) (parts : V → S) (place : HeldBy kinds → S) → AreExact kinds parts place
+    → (told start : ℕ) (bytes : List ℕ) (v : V) (rest : List ℕ) → AreBytes bytes → told_read kinds told start bytes ≡ Ok (v, rest)
+    → Chosen kinds parts place told bytes v rest
+chosen_takes [] parts place exacts told start bytes v rest are e = absurd cc
+chosen_takes {V} (one ∷ others) parts place exacts told start bytes v rest are e =
+    by (told == one.byte) refl e (λ later. chosen_takes others parts (λ held. place (inr held)) exacts.2 told start bytes v rest are later)
   where
-    by : (t : Bool) → (k == row.0) ≡ t → (if t then row.1.read bytes else chosen_read rows k start bytes) ≡ Ok (v, rest)
-        → (chosen_read rows k start bytes ≡ Ok (v, rest) → ChosenTakes kind rows k bytes v rest)
-        → Taken bytes (if t then row.1.spell v else chosen_spell rows k v) rest (if t then row.1.fits v else chosen_fits rows k v) × (kind v ≡ k)
-    by true same read later = let t = exacts.0.takes bytes v rest are read in (t, exacts.1 v t.fits ∙ sym (eqb-true k row.0 same))
-    by false same read later = later read
+    by : (t : Bool) → (told == one.byte) ≡ t → (if t then kind_read one bytes else told_read others told start bytes) ≡ Ok (v, rest)
+        → (told_read others told start bytes ≡ Ok (v, rest) → Chosen others parts (λ held. place (inr held)) told bytes v rest)
+        → Chosen (one ∷ others) parts place told bytes v rest
+    by true same read later =
+        let s = step (one.field.read bytes) (makes one.make) (v, rest) read in
+        let t = exacts.0.takes bytes s.0.0 s.0.1 are s.1 in
+        subst (λ (p : V × List ℕ). Chosen (one ∷ others) parts place told bytes p.0 p.1) (ok_is (one.make s.0.0, s.0.1) (v, rest) s.2)
+        (record { held = inl s.0.0; parted = exacts.1 s.0.0 t.fits; byte = eqb-true told one.byte same; taken = t })
+    by false same read later = let c = later read in record { held = inr c.held; parted = c.parted; byte = c.byte; taken = c.taken }
 
-chosen_again : {V : Type 0} (kind : V → ℕ) (rows : List (ℕ × Field V)) → AreExact kind rows → (k start : ℕ) (v : V) (rest : List ℕ)
-    → chosen_fits rows k v ≡ true → chosen_read rows k start (chosen_spell rows k v ++ rest) ≡ Ok (v, rest)
-chosen_again kind [] exacts k start v rest fits = absurd cc
-chosen_again {V} kind (row ∷ rows) exacts k start v rest fits = by (k == row.0) fits (chosen_again kind rows exacts.2 k start v rest)
+-- what is spelled is told by its byte, and by no other kind's
+or_right : (x y : Bool) → y ≡ true → (x || y) ≡ true
+or_right true y e = refl
+or_right false y e = e
+
+told_by : {V : Type 0} (kinds : List (Kind V)) (held : HeldBy kinds) → tells kinds (kind_byte kinds held) ≡ true
+told_by [] held = absurd held
+told_by (one ∷ others) (inl held) = ap (λ t. t || tells others one.byte) (eq-eqb one.byte one.byte refl)
+told_by (one ∷ others) (inr held) = or_right (kind_byte others held == one.byte) _ (told_by others held)
+
+not_told : {V : Type 0} (kinds : List (Kind V)) (held : HeldBy kinds) (told : ℕ) → not (tells kinds told) ≡ true → (kind_byte kinds held == told) ≡ false
+not_told kinds held told apart = by (kind_byte kinds held == told) refl
   where
-    by : (t : Bool) → (if t then row.1.fits v else chosen_fits rows k v) ≡ true
-        → (chosen_fits rows k v ≡ true → chosen_read rows k start (chosen_spell rows k v ++ rest) ≡ Ok (v, rest))
-        → (if t then row.1.read ((if t then row.1.spell v else chosen_spell rows k v) ++ rest) else chosen_read rows k start ((if t then row.1.spell v else chosen_spell rows k v) ++ rest)) ≡ Ok (v, rest)
-    by true fit later = exacts.0.again v rest fit
-    by false fit later = later fit
+    by : (t : Bool) → (kind_byte kinds held == told) ≡ t → (kind_byte kinds held == told) ≡ false
+    by true same = absurd (let e : tells kinds told ≡ true = ap (tells kinds) (sym (eqb-true (kind_byte kinds held) told same)) ∙ told_by kinds held in let no : false ≡ true = sym (ap not e) ∙ apart in cc)
+    by false same = same
 
-one_of_takes : {V : Type 0} (kind : V → ℕ) (rows : List (ℕ × Field V)) → AreExact kind rows → (bytes : List ℕ) (v : V) (rest : List ℕ)
-    → AreBytes bytes → (one_of kind rows).read bytes ≡ Ok (v, rest) → Taken bytes (kind v ∷ chosen_spell rows (kind v) v) rest (chosen_fits rows (kind v) v)
-one_of_takes kind rows exacts [] v rest are e = absurd cc
-one_of_takes kind rows exacts (b ∷ bs) v rest are e =
-    let c = chosen_takes kind rows exacts b (length (b ∷ bs)) bs v rest (and_parts (is_byte b) (list_all is_byte bs) are).1 e in
-    subst (λ k. Taken (b ∷ bs) (k ∷ chosen_spell rows k v) rest (chosen_fits rows k v)) (sym c.1)
-    (record { parts = ap (λ x. b ∷ x) c.0.parts; left = c.0.left; fits = c.0.fits })
+abbrev told_or : {V : Type 0} → Kind V → List (Kind V) → ℕ → ℕ → List ℕ → Bool → Read V
+told_or one others told start bytes same = if same then kind_read one bytes else told_read others told start bytes
 
-pub one_of_exact : {V : Type 0} (kind : V → ℕ) (rows : List (ℕ × Field V)) → AreExact kind rows → IsExact (one_of kind rows)
-one_of_exact kind rows exacts = record {
-  takes = one_of_takes kind rows exacts;
-  again = λ v rest fits. chosen_again kind rows exacts (kind v) (length (kind v ∷ (chosen_spell rows (kind v) v ++ rest))) v rest fits;
+chosen_again : {V S : Type 0} (kinds : List (Kind V)) (parts : V → S) (place : HeldBy kinds → S) → AreExact kinds parts place → are_told_apart kinds ≡ true
+    → (held : HeldBy kinds) (start : ℕ) (rest : List ℕ) → kind_fits kinds held ≡ true
+    → told_read kinds (kind_byte kinds held) start (kind_spell kinds held ++ rest) ≡ Ok (kind_value kinds held, rest)
+chosen_again [] parts place exacts apart held start rest fits = absurd held
+chosen_again (one ∷ others) parts place exacts apart (inl held) start rest fits =
+    ap (told_or one others one.byte start (one.field.spell held ++ rest)) (eq-eqb one.byte one.byte refl)
+    ∙ ap (λ r. r >>= makes one.make) (exacts.0.again held rest fits)
+chosen_again (one ∷ others) parts place exacts apart (inr held) start rest fits =
+    let parts_apart = and_parts (not (tells others one.byte)) (are_told_apart others) apart in
+    ap (told_or one others (kind_byte others held) start (kind_spell others held ++ rest)) (not_told others held one.byte parts_apart.0)
+    ∙ chosen_again others parts (λ held. place (inr held)) exacts.2 parts_apart.1 held start rest fits
+
+one_of_takes : {V : Type 0} (kinds : List (Kind V)) (parts : V → HeldBy kinds) → AreExact kinds parts (λ held. held) → (bytes : List ℕ) (v : V) (rest : List ℕ)
+    → AreBytes bytes → (one_of kinds parts).read bytes ≡ Ok (v, rest)
+    → Taken bytes (kind_byte kinds (parts v) ∷ kind_spell kinds (parts v)) rest (kind_fits kinds (parts v))
+one_of_takes kinds parts exacts [] v rest are e = absurd cc
+one_of_takes kinds parts exacts (b ∷ bs) v rest are e =
+    let c = chosen_takes kinds parts (λ held. held) exacts b (length (b ∷ bs)) bs v rest (and_parts (is_byte b) (list_all is_byte bs) are).1 e in
+    subst (λ held. Taken (b ∷ bs) (kind_byte kinds held ∷ kind_spell kinds held) rest (kind_fits kinds held)) (sym c.parted)
+    (record { parts = ap (λ k. k ∷ bs) c.byte ∙ ap (λ x. kind_byte kinds c.held ∷ x) c.taken.parts; left = c.taken.left; fits = c.taken.fits })
+
+pub one_of_exact : {V : Type 0} (kinds : List (Kind V)) (parts : V → HeldBy kinds) → are_told_apart kinds ≡ true
+    → ((v : V) → kind_value kinds (parts v) ≡ v) → AreExact kinds parts (λ held. held) → IsExact (one_of kinds parts)
+one_of_exact kinds parts apart whole exacts = record {
+  takes = one_of_takes kinds parts exacts;
+  again = λ v rest fits. chosen_again kinds parts (λ held. held) exacts apart (parts v) (length (kind_byte kinds (parts v) ∷ (kind_spell kinds (parts v) ++ rest))) rest fits
+      ∙ ap (λ w. makes (λ _. w) (v, rest)) (whole v);
 }
 
 -- values one behind the other

@@ -46,9 +46,11 @@ use Rattle.law_register.specs.Law.Spelling.{are_spelled_nodes, is_spelled_payloa
 use Rattle.law_register.specs.Register.Drafters.{is_drafter_byte}
 use Rattle.entry_codec.specs.Fields.{Field}
 use Rattle.entry_codec.specs.Values.{number16, number32, number64, text_of, text, num, drafter, work, expression, list_of, refs, is_day, day, day_or_none, law, period, id, language, act_day, bit_of, numbering_number, numbering, source, destination, spot}
-use Rattle.entry_codec.specs.Nodes.{element, own, nodes, node}
-use Rattle.entry_codec.specs.Modifications.{payload, pos, text_pos, split_at, num_pair, num_pairs, edit, repeal, substitute_nodes, substitute_text, insert_nodes, insert_text, renumber, split, join, force_effect, efficacy_effect, modification, textual, forced, effective, modifications}
-use Rattle.entry_codec.specs.Commands.{act, act_rest, command, enact, recorded, correct, withdraw, restore, draft_add, draft_drop, file}
+use Rattle.entry_codec.specs.Nodes.{element, own, nodes, node, payload}
+use Rattle.entry_codec.specs.Acts.{act, act_rest}
+use Rattle.entry_codec.specs.Formats.{Format, first_format}
+use Rattle.entry_codec.specs.Modifications.{pos, text_pos, split_at, num_pair, num_pairs, edit, force_effect, efficacy_effect, modification, modifications}
+use Rattle.entry_codec.specs.Commands.{command}
 use Rattle.entry_codec.specs.Entries.{entry, fields, keeps_rules}
 use Rattle.entry_codec.specs.Typed.{IsNumber16, IsNumber32, IsNumber64, IsText, IsDrafterName, IsNumText, IsWorkText, IsLanguageBytes, IsPeriod, IsId, IsNumbering, IsSource, IsDestination, IsSpot, IsOwn, AreNodes, IsPayload, IsTextPos, IsSplitAt, IsNumPair, IsEdit, IsForceEffect, IsEfficacyEffect, IsModification, IsAct, IsCommand, IsTyped}
 use Rattle.entry_codec.proofs.Exact.{AreBytes}
@@ -380,7 +382,7 @@ pairs_kept ps typed able =
     (all_kept IsNumPair (λ (p : List ℕ × List ℕ). is_counted p.0) (λ _. true) num_pair.fits pair_kept ps typed (second (is_counted ps) (list_all (λ (p : List ℕ × List ℕ). is_counted p.0) ps) able) (all_true ps))
 
 edit_kept : (e : TextualMod) → IsEdit e → can_spell_edit e ≡ true → is_spelled_edit e ≡ true → edit.fits e ≡ true
-unfolding edit repeal substitute_nodes substitute_text insert_nodes insert_text renumber split join
+unfolding edit
 edit_kept (Repeal wid) typed able well = text_kept wid typed able
 edit_kept (SubstituteNodes wid new) typed able well =
     and_from _ _ (text_kept wid typed.0 (first (is_counted wid) (can_spell_payload new) able))
@@ -407,7 +409,7 @@ edit_kept (Join wid other separator) typed able well =
     and_from _ _ (text_kept wid typed.0 (first (is_counted wid) _ able))
     (and_from _ _ (text_kept other typed.1 (first (is_counted other) _ rest)) (text_kept separator typed.2 (second (is_counted other) _ rest)))
 
--- effects and modifications
+-- effects
 dates_kept : (on date : ℕ) → IsDay on × IsDay date → (day.fits on && day.fits date) ≡ true
 dates_kept on date typed = and_from _ _ (day_kept on typed.0) (day_kept date typed.1)
 
@@ -429,24 +431,7 @@ efficacy_kept on (efficacy.Prorogued date) typed well = dates_kept on date typed
 efficacy_kept on efficacy.Extra typed well = day_kept on typed
 efficacy_kept on (efficacy.Inapplied days) typed well = and_from _ _ (day_kept on typed.0) (period_kept days typed.1)
 
-modification_kept : (m : Modification) → IsModification m → can_spell_modification m ≡ true → is_spelled_modification m ≡ true → modification.fits m ≡ true
-unfolding modification textual forced effective
-modification_kept (mods.Textual s p e) typed able well =
-    and_from _ _ (source_kept s typed.0) (and_from _ _ (period_kept p typed.1) (edit_kept e typed.2 able well))
-modification_kept (mods.Force s t on e) typed able well =
-    and_from _ _ (source_kept s typed.0) (and_from _ _ (destination_kept t typed.1 able) (force_kept on e typed.2))
-modification_kept (mods.Efficacy s t on e) typed able well =
-    and_from _ _ (source_kept s typed.0) (and_from _ _ (destination_kept t typed.1 able) (efficacy_kept on e typed.2 well))
-
-modifications_kept : (ms : List Modification) → All IsModification ms → (is_counted ms && list_all can_spell_modification ms) ≡ true
-    → are_spelled_modifications ms ≡ true → modifications.fits ms ≡ true
-unfolding modifications are_spelled_modifications
-modifications_kept ms typed able well =
-    list_kept modification ms (first (is_counted ms) _ able)
-    (all_kept IsModification can_spell_modification is_spelled_modification modification.fits modification_kept ms typed
-    (second (is_counted ms) (list_all can_spell_modification ms) able) well)
-
--- acts and commands
+-- acts
 act_kept : (a : Act) → IsAct a → can_spell_payload a.body ≡ true → is_spelled_act a ≡ true → act.fits a ≡ true
 unfolding act act_rest is_spelled_act
 act_kept a typed able well =
@@ -458,18 +443,44 @@ act_kept a typed able well =
     (and_from _ _ (period_kept a.force typed.4)
     (payload_kept a.body typed.5 able (second (is_language a.language && is_spelled_day (date_named a.work) a.day) _ well))))))
 
-command_kept : (c : Command) → IsCommand c → can_spell_command c ≡ true → is_well_spelled c ≡ true → command.fits c ≡ true
-unfolding command enact recorded correct withdraw restore draft_add draft_drop file is_well_spelled
-command_kept (Enact a) typed able well = act_kept a typed able well
-command_kept (Record iri ms) typed able well = and_from _ _ (work_kept iri typed.0) (modifications_kept ms typed.1 able well)
-command_kept (Correct i body) typed able well = and_from _ _ (id_kept i typed.0) (modification_kept body typed.1 able well)
-command_kept (Withdraw i) typed able well = id_kept i typed
-command_kept (Restore i) typed able well = id_kept i typed
-command_kept (DraftAdd iri body) typed able well = and_from _ _ (work_kept iri typed.0) (modification_kept body typed.1 able well)
-command_kept (DraftDrop item) typed able well = number32_kept item typed
-command_kept (File iri seen) typed able well = and_from _ _ (work_kept iri typed.0) (number32_kept seen typed.1)
+-- modifications and commands, in a format in which acts and sources keep their rules
+record IsKeptFormat (format : Format) : Type 0 where
+  act : (a : Act) → IsAct a → can_spell_payload a.body ≡ true → is_spelled_act a ≡ true → format.act.fits a ≡ true
+  source : (s : ModSource) → IsSource s → format.source.fits s ≡ true
+
+module _ (format : Format) (kept : IsKeptFormat format) where
+  modification_kept : (m : Modification) → IsModification m → can_spell_modification m ≡ true → is_spelled_modification m ≡ true → (modification format).fits m ≡ true
+  unfolding modification
+  modification_kept (mods.Textual s p e) typed able well =
+      and_from _ _ (kept.source s typed.0) (and_from _ _ (period_kept p typed.1) (edit_kept e typed.2 able well))
+  modification_kept (mods.Force s t on e) typed able well =
+      and_from _ _ (kept.source s typed.0) (and_from _ _ (destination_kept t typed.1 able) (force_kept on e typed.2))
+  modification_kept (mods.Efficacy s t on e) typed able well =
+      and_from _ _ (kept.source s typed.0) (and_from _ _ (destination_kept t typed.1 able) (efficacy_kept on e typed.2 well))
+
+  modifications_kept : (ms : List Modification) → All IsModification ms → (is_counted ms && list_all can_spell_modification ms) ≡ true
+      → are_spelled_modifications ms ≡ true → (modifications format).fits ms ≡ true
+  unfolding modifications are_spelled_modifications
+  modifications_kept ms typed able well =
+      list_kept (modification format) ms (first (is_counted ms) _ able)
+      (all_kept IsModification can_spell_modification is_spelled_modification (modification format).fits modification_kept ms typed
+      (second (is_counted ms) (list_all can_spell_modification ms) able) well)
+
+  command_kept : (c : Command) → IsCommand c → can_spell_command c ≡ true → is_well_spelled c ≡ true → (command format).fits c ≡ true
+  unfolding command is_well_spelled
+  command_kept (Enact a) typed able well = kept.act a typed able well
+  command_kept (Record iri ms) typed able well = and_from _ _ (work_kept iri typed.0) (modifications_kept ms typed.1 able well)
+  command_kept (Correct i body) typed able well = and_from _ _ (id_kept i typed.0) (modification_kept body typed.1 able well)
+  command_kept (Withdraw i) typed able well = id_kept i typed
+  command_kept (Restore i) typed able well = id_kept i typed
+  command_kept (DraftAdd iri body) typed able well = and_from _ _ (work_kept iri typed.0) (modification_kept body typed.1 able well)
+  command_kept (DraftDrop item) typed able well = number32_kept item typed
+  command_kept (File iri seen) typed able well = and_from _ _ (work_kept iri typed.0) (number32_kept seen typed.1)
 
 -- entries
+first_format_kept : IsKeptFormat first_format
+first_format_kept = record { act = act_kept; source = source_kept }
+
 pub entry_kept : (e : Entry) → IsTyped e → can_be_spelled e ≡ true → is_well_spelled e.command ≡ true → keeps_rules e ≡ true
 unfolding keeps_rules entry fields can_be_spelled
 entry_kept e typed able well =
@@ -477,4 +488,4 @@ entry_kept e typed able well =
     (and_from _ _ (number64_kept e.request typed.1)
     (and_from _ _ (day_kept e.day typed.2)
     (and_from _ _ (law_kept e.law typed.3 (first (nat_lt 0 (unwrap_or e.law 1)) (can_spell_command e.command) able))
-    (command_kept e.command typed.4 (second (nat_lt 0 (unwrap_or e.law 1)) (can_spell_command e.command) able) well))))
+    (command_kept first_format first_format_kept e.command typed.4 (second (nat_lt 0 (unwrap_or e.law 1)) (can_spell_command e.command) able) well))))

@@ -43,9 +43,10 @@ use Rattle.std.specs.Char.{is_ascii_lowercase}
 use Rattle.law_register.specs.Law.Spelling.{is_well_spelled, is_spelled_act, is_spelled_day, is_spelled_payload}
 use Rattle.entry_codec.specs.Values as values
 use Rattle.entry_codec.specs.Values.{number16, number32, number64, text_of}
-use Rattle.entry_codec.specs.Nodes.{element, own, nodes, node}
+use Rattle.entry_codec.specs.Nodes.{element, own, nodes, node, payload}
+use Rattle.entry_codec.specs.Acts as acts
+use Rattle.entry_codec.specs.Formats.{Format, first_format}
 use Rattle.entry_codec.specs.Modifications as changes
-use Rattle.entry_codec.specs.Modifications.{payload}
 use Rattle.entry_codec.specs.Commands as commands
 use Rattle.entry_codec.specs.Entries.{spelling, entry, fields}
 
@@ -235,7 +236,7 @@ three : (a b c : ℕ) → 1 + (a + (b + c)) ≡ 1 + a + b + c
 three a b c = omega arith
 
 edit_long : (e : TextualMod) → can_spell_edit e ≡ true → length (changes.edit.spell e) ≡ edit_size e
-unfolding changes.edit changes.repeal changes.substitute_nodes changes.substitute_text changes.insert_nodes changes.insert_text changes.renumber changes.split changes.join
+unfolding changes.edit
 edit_long (Repeal wid) able = behind 1 (values.text.spell wid) _ (text_long wid)
 edit_long (SubstituteNodes wid new) able =
     let parts = and_parts (is_counted wid) (can_spell_payload new) able in
@@ -271,44 +272,10 @@ edit_long (Join wid second separator) able =
     (both (values.text.spell second) (values.text.spell separator) _ _ (text_long second) (text_long separator)))
     ∙ three (text_size wid) (text_size second) (text_size separator)
 
--- modifications
-modification_long : (m : Modification) → can_spell_modification m ≡ true → length (changes.modification.spell m) ≡ modification_size m
-unfolding changes.modification changes.textual changes.forced changes.effective
-modification_long (mods.Textual source period edit) able =
-    behind 1 (values.source.spell source ++ (values.period.spell period ++ changes.edit.spell edit)) _
-    (both (values.source.spell source) (values.period.spell period ++ changes.edit.spell edit) _ _ (source_long source)
-    (both (values.period.spell period) (changes.edit.spell edit) _ _ (period_long period) (edit_long edit able)))
-    ∙ three (source_size source) 8 (edit_size edit)
-modification_long (mods.Force source target on effect) able =
-    behind 2 (values.source.spell source ++ (values.destination.spell target ++ changes.force_effect.spell (on, effect))) _
-    (both (values.source.spell source) (values.destination.spell target ++ changes.force_effect.spell (on, effect)) _ _ (source_long source)
-    (both (values.destination.spell target) (changes.force_effect.spell (on, effect)) _ _ (destination_long target) (force_long on effect)))
-    ∙ three (source_size source) (destination_size target) (4 + force_size effect)
-modification_long (mods.Efficacy source target on effect) able =
-    behind 3 (values.source.spell source ++ (values.destination.spell target ++ changes.efficacy_effect.spell (on, effect))) _
-    (both (values.source.spell source) (values.destination.spell target ++ changes.efficacy_effect.spell (on, effect)) _ _ (source_long source)
-    (both (values.destination.spell target) (changes.efficacy_effect.spell (on, effect)) _ _ (destination_long target) (efficacy_long on effect)))
-    ∙ three (source_size source) (destination_size target) (4 + efficacy_size effect)
-
-each_modification_long : (ms : List Modification) → list_all can_spell_modification ms ≡ true
-    → length (flat_map changes.modification.spell ms) ≡ modifications_size ms
-each_modification_long [] able = refl
-each_modification_long (m ∷ ms) able =
-    let parts = and_parts (can_spell_modification m) (list_all can_spell_modification ms) able in
-    both (changes.modification.spell m) (flat_map changes.modification.spell ms) _ _
-    (modification_long m parts.0) (each_modification_long ms parts.1)
-
-modifications_long : (ms : List Modification) → list_all can_spell_modification ms ≡ true
-    → length (changes.modifications.spell ms) ≡ 2 + modifications_size ms
-unfolding changes.modifications
-modifications_long ms able =
-    both (number16.spell (min (length ms) 65535)) (flat_map changes.modification.spell ms) 2 (modifications_size ms) (long16 _)
-    (each_modification_long ms able)
-
--- acts and commands. A language has three letters
+-- acts. A language has three letters
 act_rest_long : (iri : List ℕ) (d : ℕ) (n : Numbering) (p : Period) (ns : List (Branch Own)) → can_spell_payload ns ≡ true
-    → length ((commands.act_rest iri).spell (d, (n, (p, ns)))) ≡ 4 + (2 + (8 + payload_size ns))
-unfolding commands.act_rest values.act_day
+    → length ((acts.act_rest iri).spell (d, (n, (p, ns)))) ≡ 4 + (2 + (8 + payload_size ns))
+unfolding acts.act_rest values.act_day
 act_rest_long iri d n p ns able =
     both (values.day.spell d) (values.numbering.spell n ++ (values.period.spell p ++ payload.spell ns)) 4 _ (day_long d)
     (both (values.numbering.spell n) (values.period.spell p ++ payload.spell ns) 2 _ (numbering_long n)
@@ -317,10 +284,10 @@ act_rest_long iri d n p ns able =
 seven : (a b : ℕ) → a + (3 + (4 + (2 + (8 + b)))) ≡ a + 3 + 4 + 2 + 8 + b
 seven a b = omega arith
 
-act_long : (a : Act) → length a.language ≡ 3 → can_spell_payload a.body ≡ true → length (commands.act.spell a) ≡ act_size a
-unfolding commands.act values.language
+act_long : (a : Act) → length a.language ≡ 3 → can_spell_payload a.body ≡ true → length (acts.act.spell a) ≡ act_size a
+unfolding acts.act values.language
 act_long a letters able =
-    let rest : List ℕ = (commands.act_rest a.work).spell (a.day, (a.numbering, (a.force, a.body))) in
+    let rest : List ℕ = (acts.act_rest a.work).spell (a.day, (a.numbering, (a.force, a.body))) in
     both (values.work.spell a.work) (a.language ++ rest) _ _ (work_long a.work)
     (both a.language rest 3 _ letters (act_rest_long a.work a.day a.numbering a.force a.body able))
     ∙ seven (text_size a.work) (payload_size a.body)
@@ -349,29 +316,71 @@ letters_of (DraftAdd _ _) well = tt
 letters_of (DraftDrop _) well = tt
 letters_of (File _ _) well = tt
 
-command_long : (c : Command) → HasLetters c → can_spell_command c ≡ true → length (commands.command.spell c) ≡ command_size c
-unfolding commands.command commands.enact commands.recorded commands.correct commands.withdraw commands.restore commands.draft_add commands.draft_drop commands.file
-command_long (Enact a) letters able = behind 1 (commands.act.spell a) _ (act_long a letters able)
-command_long (Record iri ms) letters able =
-    let parts = and_parts (is_counted ms) (list_all can_spell_modification ms) able in
-    behind 2 (values.work.spell iri ++ changes.modifications.spell ms) _
-    (both (values.work.spell iri) (changes.modifications.spell ms) _ _ (work_long iri) (modifications_long ms parts.1))
-    ∙ two (text_size iri) (2 + modifications_size ms)
-command_long (Correct i body) letters able =
-    behind 3 (values.id.spell i ++ changes.modification.spell body) _
-    (both (values.id.spell i) (changes.modification.spell body) _ _ (id_long i) (modification_long body able))
-    ∙ two 6 (modification_size body)
-command_long (Withdraw i) letters able = behind 4 (values.id.spell i) _ (id_long i)
-command_long (Restore i) letters able = behind 5 (values.id.spell i) _ (id_long i)
-command_long (DraftAdd iri body) letters able =
-    behind 6 (values.work.spell iri ++ changes.modification.spell body) _
-    (both (values.work.spell iri) (changes.modification.spell body) _ _ (work_long iri) (modification_long body able))
-    ∙ two (text_size iri) (modification_size body)
-command_long (DraftDrop item) letters able = behind 7 (number32.spell item) _ (long32 item)
-command_long (File iri seen) letters able =
-    behind 8 (values.work.spell iri ++ number32.spell seen) _
-    (both (values.work.spell iri) (number32.spell seen) _ _ (work_long iri) (long32 seen))
-    ∙ two (text_size iri) 4
+-- modifications and commands, in a format in which acts and sources are as long as their sizes say
+record IsLongFormat (format : Format) : Type 0 where
+  act : (a : Act) → length a.language ≡ 3 → can_spell_payload a.body ≡ true → length (format.act.spell a) ≡ act_size a
+  source : (s : ModSource) → length (format.source.spell s) ≡ source_size s
+
+module _ (format : Format) (long : IsLongFormat format) where
+  modification_long : (m : Modification) → can_spell_modification m ≡ true → length ((changes.modification format).spell m) ≡ modification_size m
+  unfolding changes.modification
+  modification_long (mods.Textual source period edit) able =
+      behind 1 (format.source.spell source ++ (values.period.spell period ++ changes.edit.spell edit)) _
+      (both (format.source.spell source) (values.period.spell period ++ changes.edit.spell edit) _ _ (long.source source)
+      (both (values.period.spell period) (changes.edit.spell edit) _ _ (period_long period) (edit_long edit able)))
+      ∙ three (source_size source) 8 (edit_size edit)
+  modification_long (mods.Force source target on effect) able =
+      behind 2 (format.source.spell source ++ (values.destination.spell target ++ changes.force_effect.spell (on, effect))) _
+      (both (format.source.spell source) (values.destination.spell target ++ changes.force_effect.spell (on, effect)) _ _ (long.source source)
+      (both (values.destination.spell target) (changes.force_effect.spell (on, effect)) _ _ (destination_long target) (force_long on effect)))
+      ∙ three (source_size source) (destination_size target) (4 + force_size effect)
+  modification_long (mods.Efficacy source target on effect) able =
+      behind 3 (format.source.spell source ++ (values.destination.spell target ++ changes.efficacy_effect.spell (on, effect))) _
+      (both (format.source.spell source) (values.destination.spell target ++ changes.efficacy_effect.spell (on, effect)) _ _ (long.source source)
+      (both (values.destination.spell target) (changes.efficacy_effect.spell (on, effect)) _ _ (destination_long target) (efficacy_long on effect)))
+      ∙ three (source_size source) (destination_size target) (4 + efficacy_size effect)
+
+  each_modification_long : (ms : List Modification) → list_all can_spell_modification ms ≡ true
+      → length (flat_map (changes.modification format).spell ms) ≡ modifications_size ms
+  each_modification_long [] able = refl
+  each_modification_long (m ∷ ms) able =
+      let parts = and_parts (can_spell_modification m) (list_all can_spell_modification ms) able in
+      both ((changes.modification format).spell m) (flat_map (changes.modification format).spell ms) _ _
+      (modification_long m parts.0) (each_modification_long ms parts.1)
+
+  modifications_long : (ms : List Modification) → list_all can_spell_modification ms ≡ true
+      → length ((changes.modifications format).spell ms) ≡ 2 + modifications_size ms
+  unfolding changes.modifications
+  modifications_long ms able =
+      both (number16.spell (min (length ms) 65535)) (flat_map (changes.modification format).spell ms) 2 (modifications_size ms) (long16 _)
+      (each_modification_long ms able)
+
+  command_long : (c : Command) → HasLetters c → can_spell_command c ≡ true → length ((commands.command format).spell c) ≡ command_size c
+  unfolding commands.command
+  command_long (Enact a) letters able = behind 1 (format.act.spell a) _ (long.act a letters able)
+  command_long (Record iri ms) letters able =
+      let parts = and_parts (is_counted ms) (list_all can_spell_modification ms) able in
+      behind 2 (values.work.spell iri ++ (changes.modifications format).spell ms) _
+      (both (values.work.spell iri) ((changes.modifications format).spell ms) _ _ (work_long iri) (modifications_long ms parts.1))
+      ∙ two (text_size iri) (2 + modifications_size ms)
+  command_long (Correct i body) letters able =
+      behind 3 (values.id.spell i ++ (changes.modification format).spell body) _
+      (both (values.id.spell i) ((changes.modification format).spell body) _ _ (id_long i) (modification_long body able))
+      ∙ two 6 (modification_size body)
+  command_long (Withdraw i) letters able = behind 4 (values.id.spell i) _ (id_long i)
+  command_long (Restore i) letters able = behind 5 (values.id.spell i) _ (id_long i)
+  command_long (DraftAdd iri body) letters able =
+      behind 6 (values.work.spell iri ++ (changes.modification format).spell body) _
+      (both (values.work.spell iri) ((changes.modification format).spell body) _ _ (work_long iri) (modification_long body able))
+      ∙ two (text_size iri) (modification_size body)
+  command_long (DraftDrop item) letters able = behind 7 (number32.spell item) _ (long32 item)
+  command_long (File iri seen) letters able =
+      behind 8 (values.work.spell iri ++ number32.spell seen) _
+      (both (values.work.spell iri) (number32.spell seen) _ _ (work_long iri) (long32 seen))
+      ∙ two (text_size iri) 4
+
+first_format_long : IsLongFormat first_format
+first_format_long = record { act = act_long; source = source_long }
 
 six : (a b : ℕ) → 1 + (a + (8 + (4 + (4 + b)))) ≡ 1 + a + 8 + 4 + 4 + b
 six a b = omega arith
@@ -381,9 +390,9 @@ unfolding spelling entry fields can_be_spelled
 entry_long e well able =
     let letters = letters_of e.command well in
     let parts = and_parts _ (can_spell_command e.command) able in
-    behind 1 (values.drafter.spell e.drafter ++ (number64.spell e.request ++ (values.day.spell e.day ++ (values.law.spell e.law ++ commands.command.spell e.command)))) _
-    (both (values.drafter.spell e.drafter) (number64.spell e.request ++ (values.day.spell e.day ++ (values.law.spell e.law ++ commands.command.spell e.command))) _ _ (drafter_long e.drafter)
-    (both (number64.spell e.request) (values.day.spell e.day ++ (values.law.spell e.law ++ commands.command.spell e.command)) 8 _ (long64 e.request)
-    (both (values.day.spell e.day) (values.law.spell e.law ++ commands.command.spell e.command) 4 _ (day_long e.day)
-    (both (values.law.spell e.law) (commands.command.spell e.command) 4 _ (law_long e.law) (command_long e.command letters parts.1)))))
+    behind 1 (values.drafter.spell e.drafter ++ (number64.spell e.request ++ (values.day.spell e.day ++ (values.law.spell e.law ++ (commands.command first_format).spell e.command)))) _
+    (both (values.drafter.spell e.drafter) (number64.spell e.request ++ (values.day.spell e.day ++ (values.law.spell e.law ++ (commands.command first_format).spell e.command))) _ _ (drafter_long e.drafter)
+    (both (number64.spell e.request) (values.day.spell e.day ++ (values.law.spell e.law ++ (commands.command first_format).spell e.command)) 8 _ (long64 e.request)
+    (both (values.day.spell e.day) (values.law.spell e.law ++ (commands.command first_format).spell e.command) 4 _ (day_long e.day)
+    (both (values.law.spell e.law) ((commands.command first_format).spell e.command) 4 _ (law_long e.law) (command_long first_format first_format_long e.command letters parts.1)))))
     ∙ six (name_size e.drafter) (command_size e.command)

@@ -30,9 +30,11 @@ use Rattle.law_register.specs.declared.law.modification.Modification.TheVariants
 use Rattle.law_register.specs.declared.register.entry.Entry.{Entry}
 use Rattle.entry_codec.specs.Fields.{Field, each}
 use Rattle.entry_codec.specs.Values.{number16, text_of, text, num, drafter, work, expression, list_of, refs, day, law, period, id, language, act_day, numbering, source, destination, spot}
-use Rattle.entry_codec.specs.Nodes.{element, own, nodes, node}
-use Rattle.entry_codec.specs.Modifications.{payload, pos, text_pos, split_at, num_pair, num_pairs, edit, repeal, substitute_nodes, substitute_text, insert_nodes, insert_text, renumber, split, join, efficacy_effect, modification, textual, forced, effective, modifications}
-use Rattle.entry_codec.specs.Commands.{act, act_rest, command, enact, recorded, correct, withdraw, restore, draft_add, draft_drop, file}
+use Rattle.entry_codec.specs.Nodes.{element, own, nodes, node, payload}
+use Rattle.entry_codec.specs.Acts.{act, act_rest}
+use Rattle.entry_codec.specs.Formats.{Format, first_format}
+use Rattle.entry_codec.specs.Modifications.{pos, text_pos, split_at, num_pair, num_pairs, edit, efficacy_effect, modification, modifications}
+use Rattle.entry_codec.specs.Commands.{command}
 use Rattle.entry_codec.specs.Entries.{entry, fields, keeps_rules, decoding}
 use Rattle.entry_codec.specs.Reads.{Gives}
 use Rattle.entry_codec.specs.declared.fault.DecodeFail.{DecodeFail}
@@ -186,7 +188,7 @@ record EditKept (e : TextualMod) : Type 0 where
   well : is_spelled_edit e ≡ true
 
 edit_kept : (e : TextualMod) → edit.fits e ≡ true → EditKept e
-unfolding edit repeal substitute_nodes substitute_text insert_nodes insert_text renumber split join
+unfolding edit
 edit_kept (Repeal wid) fits = record { able = text_short wid fits; well = refl }
 edit_kept (SubstituteNodes wid new) fits =
     let k = payload_kept new (second (text.fits wid) (payload.fits new) fits) in
@@ -221,7 +223,7 @@ edit_kept (Join wid other separator) fits =
       well = refl;
     }
 
--- modifications
+-- what modifications are directed at, and effects
 destination_able : (d : Destination) → destination.fits d ≡ true → can_spell_destination d ≡ true
 unfolding destination
 destination_able (to.Modification i) fits = refl
@@ -236,26 +238,6 @@ effect_well on (efficacy.Postponed d) fits = refl
 effect_well on (efficacy.Prorogued d) fits = refl
 effect_well on efficacy.Extra fits = refl
 effect_well on (efficacy.Inapplied d) fits = refl
-
-modification_able : (m : Modification) → modification.fits m ≡ true → can_spell_modification m ≡ true
-unfolding modification textual forced effective
-modification_able (mods.Textual s p e) fits = (edit_kept e (second (period.fits p) (edit.fits e) (second (source.fits s) _ fits))).able
-modification_able (mods.Force s t on e) fits = destination_able t (first (destination.fits t) _ (second (source.fits s) _ fits))
-modification_able (mods.Efficacy s t on e) fits = destination_able t (first (destination.fits t) _ (second (source.fits s) _ fits))
-
-modification_well : (m : Modification) → modification.fits m ≡ true → is_spelled_modification m ≡ true
-unfolding modification textual forced effective
-modification_well (mods.Textual s p e) fits = (edit_kept e (second (period.fits p) (edit.fits e) (second (source.fits s) _ fits))).well
-modification_well (mods.Force s t on e) fits = refl
-modification_well (mods.Efficacy s t on e) fits = effect_well on e (second (destination.fits t) _ (second (source.fits s) _ fits))
-
-modifications_able : (ms : List Modification) → modifications.fits ms ≡ true → (is_counted ms && list_all can_spell_modification ms) ≡ true
-unfolding modifications
-modifications_able ms fits = and_from _ _ (list_short modification ms fits) (all_from modification.fits can_spell_modification modification_able ms (list_each modification ms fits))
-
-modifications_well : (ms : List Modification) → modifications.fits ms ≡ true → are_spelled_modifications ms ≡ true
-unfolding modifications are_spelled_modifications
-modifications_well ms fits = all_from modification.fits is_spelled_modification modification_well ms (list_each modification ms fits)
 
 -- acts
 language_well : (l : List ℕ) → language.fits l ≡ true → is_language l ≡ true
@@ -282,45 +264,67 @@ act_kept a fits =
       well = and_from _ _ (and_from _ _ (language_well a.language (first _ _ b)) (day_well a.work a.day (first _ _ c))) k.well;
     }
 
-command_able : (c : Command) → command.fits c ≡ true → can_spell_command c ≡ true
-unfolding command enact recorded correct withdraw restore draft_add draft_drop file
-command_able (Enact a) fits = (act_kept a fits).able
-command_able (Record iri ms) fits = modifications_able ms (second (work.fits iri) (modifications.fits ms) fits)
-command_able (Correct i body) fits = modification_able body (second (id.fits i) (modification.fits body) fits)
-command_able (Withdraw i) fits = refl
-command_able (Restore i) fits = refl
-command_able (DraftAdd iri body) fits = modification_able body (second (work.fits iri) (modification.fits body) fits)
-command_able (DraftDrop item) fits = refl
-command_able (File iri seen) fits = refl
+-- modifications and commands, in a format in which acts that fit can be spelled, and are well spelled
+module _ (format : Format) (acts : (a : Act) → format.act.fits a ≡ true → ActKept a) where
+  modification_able : (m : Modification) → (modification format).fits m ≡ true → can_spell_modification m ≡ true
+  unfolding modification
+  modification_able (mods.Textual s p e) fits = (edit_kept e (second (period.fits p) (edit.fits e) (second (format.source.fits s) _ fits))).able
+  modification_able (mods.Force s t on e) fits = destination_able t (first (destination.fits t) _ (second (format.source.fits s) _ fits))
+  modification_able (mods.Efficacy s t on e) fits = destination_able t (first (destination.fits t) _ (second (format.source.fits s) _ fits))
 
-command_well : (c : Command) → command.fits c ≡ true → is_well_spelled c ≡ true
-unfolding command enact recorded correct withdraw restore draft_add draft_drop file is_well_spelled
-command_well (Enact a) fits = (act_kept a fits).well
-command_well (Record iri ms) fits = modifications_well ms (second (work.fits iri) (modifications.fits ms) fits)
-command_well (Correct i body) fits = modification_well body (second (id.fits i) (modification.fits body) fits)
-command_well (Withdraw i) fits = refl
-command_well (Restore i) fits = refl
-command_well (DraftAdd iri body) fits = modification_well body (second (work.fits iri) (modification.fits body) fits)
-command_well (DraftDrop item) fits = refl
-command_well (File iri seen) fits = refl
+  modification_well : (m : Modification) → (modification format).fits m ≡ true → is_spelled_modification m ≡ true
+  unfolding modification
+  modification_well (mods.Textual s p e) fits = (edit_kept e (second (period.fits p) (edit.fits e) (second (format.source.fits s) _ fits))).well
+  modification_well (mods.Force s t on e) fits = refl
+  modification_well (mods.Efficacy s t on e) fits = effect_well on e (second (destination.fits t) _ (second (format.source.fits s) _ fits))
+
+  modifications_able : (ms : List Modification) → (modifications format).fits ms ≡ true → (is_counted ms && list_all can_spell_modification ms) ≡ true
+  unfolding modifications
+  modifications_able ms fits = and_from _ _ (list_short (modification format) ms fits) (all_from (modification format).fits can_spell_modification modification_able ms (list_each (modification format) ms fits))
+
+  modifications_well : (ms : List Modification) → (modifications format).fits ms ≡ true → are_spelled_modifications ms ≡ true
+  unfolding modifications are_spelled_modifications
+  modifications_well ms fits = all_from (modification format).fits is_spelled_modification modification_well ms (list_each (modification format) ms fits)
+
+  command_able : (c : Command) → (command format).fits c ≡ true → can_spell_command c ≡ true
+  unfolding command
+  command_able (Enact a) fits = (acts a fits).able
+  command_able (Record iri ms) fits = modifications_able ms (second (work.fits iri) ((modifications format).fits ms) fits)
+  command_able (Correct i body) fits = modification_able body (second (id.fits i) ((modification format).fits body) fits)
+  command_able (Withdraw i) fits = refl
+  command_able (Restore i) fits = refl
+  command_able (DraftAdd iri body) fits = modification_able body (second (work.fits iri) ((modification format).fits body) fits)
+  command_able (DraftDrop item) fits = refl
+  command_able (File iri seen) fits = refl
+
+  command_well : (c : Command) → (command format).fits c ≡ true → is_well_spelled c ≡ true
+  unfolding command is_well_spelled
+  command_well (Enact a) fits = (acts a fits).well
+  command_well (Record iri ms) fits = modifications_well ms (second (work.fits iri) ((modifications format).fits ms) fits)
+  command_well (Correct i body) fits = modification_well body (second (id.fits i) ((modification format).fits body) fits)
+  command_well (Withdraw i) fits = refl
+  command_well (Restore i) fits = refl
+  command_well (DraftAdd iri body) fits = modification_well body (second (work.fits iri) ((modification format).fits body) fits)
+  command_well (DraftDrop item) fits = refl
+  command_well (File iri seen) fits = refl
 
 -- entries
 law_able : (o : Option ℕ) → law.fits o ≡ true → nat_lt 0 (unwrap_or o 1) ≡ true
 unfolding law
 law_able o fits = first (nat_lt 0 (unwrap_or o 1)) _ fits
 
-command_of : (e : Entry) → keeps_rules e ≡ true → (law.fits e.law && command.fits e.command) ≡ true
+command_of : (e : Entry) → keeps_rules e ≡ true → (law.fits e.law && (command first_format).fits e.command) ≡ true
 unfolding keeps_rules entry fields
 command_of e kept = second (day.fits e.day) _ (second _ _ (second (drafter.fits e.drafter) _ kept))
 
 pub entry_able : (e : Entry) → keeps_rules e ≡ true → can_be_spelled e ≡ true
 unfolding can_be_spelled
 entry_able e kept =
-    let parts = and_parts (law.fits e.law) (command.fits e.command) (command_of e kept) in
-    and_from _ _ (law_able e.law parts.0) (command_able e.command parts.1)
+    let parts = and_parts (law.fits e.law) ((command first_format).fits e.command) (command_of e kept) in
+    and_from _ _ (law_able e.law parts.0) (command_able first_format act_kept e.command parts.1)
 
 pub entry_well : (e : Entry) → keeps_rules e ≡ true → is_well_spelled e.command ≡ true
-entry_well e kept = command_well e.command (second (law.fits e.law) (command.fits e.command) (command_of e kept))
+entry_well e kept = command_well first_format act_kept e.command (second (law.fits e.law) ((command first_format).fits e.command) (command_of e kept))
 
 -- what a call gives that gives what is decoded
 pub given_well : (bytes : List ℕ) → ((i : ℕ) → get_or bytes i 0 < 256) → (result : Result Entry DecodeFail) → Gives (λ e. e) result (decoding bytes)

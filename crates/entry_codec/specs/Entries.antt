@@ -4,8 +4,9 @@ use Rattle.law_register.specs.declared.law.command.Command.{Command}
 use Rattle.law_register.specs.declared.register.entry.Entry.{Entry}
 use Rattle.entry_codec.specs.declared.fault.CodecFault.{CodecFault}
 use Rattle.entry_codec.specs.Reads.{Read}
-use Rattle.entry_codec.specs.Fields.{Field, pair, made, one_of}
+use Rattle.entry_codec.specs.Fields.{Field, Kind, pair, made, kind, first, one_of}
 use Rattle.entry_codec.specs.Values.{number64, day, law, drafter}
+use Rattle.entry_codec.specs.Formats.{Format, first_format}
 use Rattle.entry_codec.specs.Commands.{command}
 
 -- the fields of an entry behind the byte for its format
@@ -15,12 +16,16 @@ entry_from p = record { drafter = p.0; request = p.1.0; day = p.1.1.0; law = p.1
 abbrev pub entry_parts : Entry → Option (List ℕ × (ℕ × (ℕ × (Option ℕ × Command))))
 entry_parts e = Some (e.drafter, (e.request, (e.day, (e.law, e.command))))
 
-unfoldable pub fields : Field Entry
-fields = made entry_from entry_parts (pair drafter (pair number64 (pair day (pair law command))))
+unfoldable pub fields : Format → Field Entry
+fields format = made entry_from entry_parts (pair drafter (pair number64 (pair day (pair law (command format)))))
 
--- an entry: the byte 1 for its format, and its fields
+-- the formats, each by its byte; an entry is spelled in format 1
+abbrev pub formats : List (Kind Entry)
+formats = kind 1 (λ e. e) (fields first_format) ∷ []
+
+-- an entry: the byte for its format, and its fields
 unfoldable pub entry : Field Entry
-entry = one_of (λ _. 1) ((1, fields) ∷ [])
+entry = one_of formats (λ e. first e)
 
 -- the bytes of an entry
 unfoldable pub spelling : Entry → List ℕ

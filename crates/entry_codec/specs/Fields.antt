@@ -1,6 +1,7 @@
 -- Fields, of which a format is made: each says once how its values are spelled, how they are read, and which values it has. Those
 -- of larger things are made of smaller ones.
-use Rattle.std.specs.Prelude.{ℕ, zero, suc, ◌^◌, ◌*◌, ◌==◌, nat_lt, min, Bool, true, false, ◌&&◌, List, [], ◌∷◌, ◌++◌, length, take, drop, Option, Some, None, Ok, Err, if◌then◌else◌}
+use Rattle.std.specs.Prelude.{ℕ, zero, suc, ◌^◌, ◌*◌, ◌==◌, nat_lt, min, Bool, true, false, ◌&&◌, ◌⊎◌, List, [], ◌∷◌, ◌++◌, length, take, drop, Option, Some, None, Ok, Err, if◌then◌else◌}
+use Rattle.std.proofs.Common.{inl, inr}
 use Rattle.std.specs.List.{flat_map, list_all}
 use Rattle.std.specs.Int.{Width, byte_len, from_be_bytes, to_be_bytes}
 use Rattle.entry_codec.specs.Reads.{Read, ◌>>=◌}
@@ -82,25 +83,83 @@ number w =
 abbrev pub nothing : Field Unit
 nothing = record { spell = λ _. []; read = λ bytes. Ok (tt, bytes); fits = λ _. true }
 
--- one byte tells of which kind a value is, and behind it stands the field of that kind
-abbrev pub chosen_spell : {V : Type 0} → List (ℕ × Field V) → ℕ → V → List ℕ
-chosen_spell [] kind v = []
-chosen_spell (row ∷ rows) kind v = if kind == row.0 then row.1.spell v else chosen_spell rows kind v
+-- one kind of a value: the byte that tells it, the field that stands behind that byte, and the value that is made of what the
+-- field holds
+pub record Kind (V : Type 0) : Type 1 where
+  pub Held : Type 0
+  pub byte : ℕ
+  pub make : Held → V
+  pub field : Field Held
 
-abbrev pub chosen_read : {V : Type 0} → List (ℕ × Field V) → ℕ → ℕ → List ℕ → Read V
-chosen_read [] kind start bytes = Err start
-chosen_read (row ∷ rows) kind start bytes =
-    if kind == row.0 then row.1.read bytes else chosen_read rows kind start bytes
+abbrev pub kind : {A V : Type 0} → ℕ → (A → V) → Field A → Kind V
+kind {A} told make field = record { Held = A; byte = told; make = make; field = field }
 
-abbrev pub chosen_fits : {V : Type 0} → List (ℕ × Field V) → ℕ → V → Bool
-chosen_fits [] kind v = false
-chosen_fits (row ∷ rows) kind v = if kind == row.0 then row.1.fits v else chosen_fits rows kind v
+-- what the field of one of several kinds holds: either that of the first of them, or that of one of the others
+abbrev pub HeldBy : {V : Type 0} → List (Kind V) → Type 0
+HeldBy [] = ⊥
+HeldBy (one ∷ others) = one.Held ⊎ HeldBy others
 
-abbrev pub one_of : {V : Type 0} → (V → ℕ) → List (ℕ × Field V) → Field V
-one_of kind rows = record {
-  spell = λ v. kind v ∷ chosen_spell rows (kind v) v;
-  read = λ bytes. byte_read bytes >>= λ k. chosen_read rows k.0 (length bytes) k.1;
-  fits = λ v. chosen_fits rows (kind v) v;
+-- what the field of the first kind holds, that of the second, and so on
+abbrev pub first : {A B : Type 0} → A → A ⊎ B
+first a = inl a
+
+abbrev pub second : {A B C : Type 0} → B → A ⊎ B ⊎ C
+second b = inr (first b)
+
+abbrev pub third : {A B C D : Type 0} → C → A ⊎ B ⊎ C ⊎ D
+third c = inr (second c)
+
+abbrev pub fourth : {A B C D E : Type 0} → D → A ⊎ B ⊎ C ⊎ D ⊎ E
+fourth d = inr (third d)
+
+abbrev pub fifth : {A B C D E F : Type 0} → E → A ⊎ B ⊎ C ⊎ D ⊎ E ⊎ F
+fifth e = inr (fourth e)
+
+abbrev pub sixth : {A B C D E F G : Type 0} → F → A ⊎ B ⊎ C ⊎ D ⊎ E ⊎ F ⊎ G
+sixth f = inr (fifth f)
+
+abbrev pub seventh : {A B C D E F G H : Type 0} → G → A ⊎ B ⊎ C ⊎ D ⊎ E ⊎ F ⊎ G ⊎ H
+seventh g = inr (sixth g)
+
+abbrev pub eighth : {A B C D E F G H I : Type 0} → H → A ⊎ B ⊎ C ⊎ D ⊎ E ⊎ F ⊎ G ⊎ H ⊎ I
+eighth h = inr (seventh h)
+
+-- the value, the byte that tells its kind, what stands behind that byte, and whether it fits its field
+abbrev pub kind_value : {V : Type 0} → (kinds : List (Kind V)) → HeldBy kinds → V
+kind_value [] held = absurd held
+kind_value (one ∷ others) (inl held) = one.make held
+kind_value (one ∷ others) (inr held) = kind_value others held
+
+abbrev pub kind_byte : {V : Type 0} → (kinds : List (Kind V)) → HeldBy kinds → ℕ
+kind_byte [] held = absurd held
+kind_byte (one ∷ others) (inl held) = one.byte
+kind_byte (one ∷ others) (inr held) = kind_byte others held
+
+abbrev pub kind_spell : {V : Type 0} → (kinds : List (Kind V)) → HeldBy kinds → List ℕ
+kind_spell [] held = absurd held
+kind_spell (one ∷ others) (inl held) = one.field.spell held
+kind_spell (one ∷ others) (inr held) = kind_spell others held
+
+abbrev pub kind_fits : {V : Type 0} → (kinds : List (Kind V)) → HeldBy kinds → Bool
+kind_fits [] held = absurd held
+kind_fits (one ∷ others) (inl held) = one.field.fits held
+kind_fits (one ∷ others) (inr held) = kind_fits others held
+
+-- what bytes say of a value of one kind; and of the kind that a byte tells, or else the field that begins with it is broken
+abbrev pub kind_read : {V : Type 0} → Kind V → List ℕ → Read V
+kind_read one bytes = made_read one.make one.field.read bytes
+
+abbrev pub told_read : {V : Type 0} → List (Kind V) → ℕ → ℕ → List ℕ → Read V
+told_read [] told start bytes = Err start
+told_read (one ∷ others) told start bytes =
+    if told == one.byte then kind_read one bytes else told_read others told start bytes
+
+-- one byte tells of which kind a value is, and behind it stands the field of that kind; `parts` gives of what a value is made
+abbrev pub one_of : {V : Type 0} → (kinds : List (Kind V)) → (V → HeldBy kinds) → Field V
+one_of kinds parts = record {
+  spell = λ v. kind_byte kinds (parts v) ∷ kind_spell kinds (parts v);
+  read = λ bytes. byte_read bytes >>= λ k. told_read kinds k.0 (length bytes) k.1;
+  fits = λ v. kind_fits kinds (parts v);
 }
 
 -- a number of items, and the items that it announces. The count stands at `most` where there are more, which do not fit

@@ -43,6 +43,10 @@ unfoldable pub nodes : ℕ → Field (List (Branch Own))
 nodes zero = made_where (λ ns. length ns == 0) (λ _. []) (λ _. Some 0) (tested (λ n. n == 0) number16)
 nodes (suc depth) = list_of (made node_from node_parts (pair own (nodes depth)))
 
+-- the nodes that an act or an edit brings
+unfoldable pub payload : Field (List (Branch Own))
+payload = nodes 12
+
 -- a node with all beneath it, which nests so deep at most below itself
 abbrev pub node : ℕ → Field (Branch Own)
 node depth = made node_from node_parts (pair own (nodes depth))

@@ -17,7 +17,7 @@ use Rattle.law_register.specs.declared.law.modification.Destination.{Destination
 use Rattle.law_register.specs.declared.law.modification.Destination.TheVariants as to
 use Rattle.law_register.specs.declared.law.modification.ModSource.{ModSource}
 use Rattle.textual_mods.specs.declared.edit.Spot.{Spot}
-use Rattle.entry_codec.specs.Fields.{Field, byte, number, chunk, tested, pair, made, made_where, one_of, counted, each}
+use Rattle.entry_codec.specs.Fields.{Field, Kind, HeldBy, byte, number, chunk, tested, pair, made, made_where, kind, first, second, one_of, counted, each}
 
 -- numbers of two, four and eight bytes
 unfoldable pub number16 : Field ℕ
@@ -155,22 +155,15 @@ unfoldable pub source : Field ModSource
 source = made source_from (λ s. Some (s.href, s.place)) (pair work number16)
 
 -- what a modification is directed at: a modification by its id, or a provision by its wId
-abbrev pub destination_kind : Destination → ℕ
-destination_kind (to.Modification _) = 0
-destination_kind (to.Node _) = 1
+abbrev pub destination_kinds : List (Kind Destination)
+destination_kinds = kind 0 (λ i. to.Modification i) id ∷ kind 1 (λ w. to.Node w) text ∷ []
 
-abbrev pub destination_id : Destination → Option Id
-destination_id (to.Modification i) = Some i
-destination_id (to.Node _) = None
-
-abbrev pub destination_wid : Destination → Option (List ℕ)
-destination_wid (to.Modification _) = None
-destination_wid (to.Node wid) = Some wid
+abbrev pub destination_parts : Destination → HeldBy destination_kinds
+destination_parts (to.Modification i) = first i
+destination_parts (to.Node wid) = second wid
 
 unfoldable pub destination : Field Destination
-destination =
-    one_of destination_kind
-    ((0, made (λ i. to.Modification i) destination_id id) ∷ (1, made (λ w. to.Node w) destination_wid text) ∷ [])
+destination = one_of destination_kinds destination_parts
 
 -- an occurrence of a text
 abbrev pub spot_from : List ℕ × ℕ → Spot

@@ -2,7 +2,7 @@
 
 ghost use Rattle.std.specs.Prelude.{◌≡◌};
 ghost use Rattle.entry_codec.specs.Reads.{Reads};
-ghost use Rattle.entry_codec.specs.Fields.{each};
+ghost use Rattle.entry_codec.specs.Fields.{each, kind_read};
 ghost use Rattle.entry_codec.specs.Modifications as spec;
 
 use super::reader::{Reader, Stop};
@@ -73,26 +73,23 @@ impl<'a> Reader<'a> {
         Ok(pairs)
     }
 
-    #[tactic(auto, unfolding(crate::specs::Modifications::repeal))]
     fn repeal(&mut self, alloc: Global) -> Result<TextualMod, Stop>
-        ensures { Reads (λ e. e) result self.new.left.now (spec.repeal.read self.old.left.now) }
+        ensures { Reads (λ e. e) result self.new.left.now (kind_read spec.repeal self.old.left.now) }
     {
         let wid = self.text(alloc)?;
         Ok(TextualMod::Repeal { wid })
     }
 
-    #[tactic(auto, unfolding(crate::specs::Modifications::substitute_nodes))]
     fn substitute_nodes(&mut self, alloc: Global) -> Result<TextualMod, Stop>
-        ensures { Reads (λ e. e) result self.new.left.now (spec.substitute_nodes.read self.old.left.now) }
+        ensures { Reads (λ e. e) result self.new.left.now (kind_read spec.substitute_nodes self.old.left.now) }
     {
         let wid = self.text(alloc)?;
         let new = self.payload(alloc)?;
         Ok(TextualMod::SubstituteNodes { wid, new })
     }
 
-    #[tactic(auto, unfolding(crate::specs::Modifications::substitute_text))]
     fn substitute_text(&mut self, alloc: Global) -> Result<TextualMod, Stop>
-        ensures { Reads (λ e. e) result self.new.left.now (spec.substitute_text.read self.old.left.now) }
+        ensures { Reads (λ e. e) result self.new.left.now (kind_read spec.substitute_text self.old.left.now) }
     {
         let wid = self.text(alloc)?;
         let spot = self.spot(alloc)?;
@@ -100,9 +97,8 @@ impl<'a> Reader<'a> {
         Ok(TextualMod::SubstituteText { wid, spot, new })
     }
 
-    #[tactic(auto, unfolding(crate::specs::Modifications::insert_nodes))]
     fn insert_nodes(&mut self, alloc: Global) -> Result<TextualMod, Stop>
-        ensures { Reads (λ e. e) result self.new.left.now (spec.insert_nodes.read self.old.left.now) }
+        ensures { Reads (λ e. e) result self.new.left.now (kind_read spec.insert_nodes self.old.left.now) }
     {
         let wid = self.text(alloc)?;
         let pos = self.pos()?;
@@ -110,9 +106,8 @@ impl<'a> Reader<'a> {
         Ok(TextualMod::InsertNodes { wid, pos, new })
     }
 
-    #[tactic(auto, unfolding(crate::specs::Modifications::insert_text))]
     fn insert_text(&mut self, alloc: Global) -> Result<TextualMod, Stop>
-        ensures { Reads (λ e. e) result self.new.left.now (spec.insert_text.read self.old.left.now) }
+        ensures { Reads (λ e. e) result self.new.left.now (kind_read spec.insert_text self.old.left.now) }
     {
         let wid = self.text(alloc)?;
         let at = self.text_pos(alloc)?;
@@ -120,18 +115,17 @@ impl<'a> Reader<'a> {
         Ok(TextualMod::InsertText { wid, at, new })
     }
 
-    #[tactic(auto, unfolding(crate::specs::Modifications::renumber, crate::specs::Modifications::num_pairs))]
+    #[tactic(auto, unfolding(crate::specs::Modifications::num_pairs))]
     fn renumber(&mut self, alloc: Global) -> Result<TextualMod, Stop>
-        ensures { Reads (λ e. e) result self.new.left.now (spec.renumber.read self.old.left.now) }
+        ensures { Reads (λ e. e) result self.new.left.now (kind_read spec.renumber self.old.left.now) }
     {
         let count = self.number16()?;
         let pairs = self.each_pair(alloc, count)?;
         Ok(TextualMod::Renumber { pairs })
     }
 
-    #[tactic(auto, unfolding(crate::specs::Modifications::split))]
     fn split(&mut self, alloc: Global) -> Result<TextualMod, Stop>
-        ensures { Reads (λ e. e) result self.new.left.now (spec.split.read self.old.left.now) }
+        ensures { Reads (λ e. e) result self.new.left.now (kind_read spec.split self.old.left.now) }
     {
         let wid = self.text(alloc)?;
         let at = self.split_at(alloc)?;
@@ -145,9 +139,8 @@ impl<'a> Reader<'a> {
         })
     }
 
-    #[tactic(auto, unfolding(crate::specs::Modifications::join))]
     fn join(&mut self, alloc: Global) -> Result<TextualMod, Stop>
-        ensures { Reads (λ e. e) result self.new.left.now (spec.join.read self.old.left.now) }
+        ensures { Reads (λ e. e) result self.new.left.now (kind_read spec.join self.old.left.now) }
     {
         let wid = self.text(alloc)?;
         let second = self.text(alloc)?;

@@ -2,6 +2,7 @@
 
 ghost use Rattle.std.specs.Prelude.{◌≡◌};
 ghost use Rattle.entry_codec.specs.Reads.{Reads};
+ghost use Rattle.entry_codec.specs.Formats.{first_format};
 ghost use Rattle.entry_codec.specs.Entries as spec;
 
 use super::reader::{Reader, Stop};
@@ -12,7 +13,7 @@ impl<'a> Reader<'a> {
     // The fields of an entry behind the byte for its format.
     #[tactic(auto, unfolding(crate::specs::Entries::fields))]
     fn fields(&mut self, alloc: Global) -> Result<Entry, Stop>
-        ensures { Reads (λ e. e) result self.new.left.now (spec.fields.read self.old.left.now) }
+        ensures { Reads (λ e. e) result self.new.left.now ((spec.fields first_format).read self.old.left.now) }
     {
         let drafter = self.drafter(alloc)?;
         let request = self.number64()?;

@@ -2,7 +2,8 @@
 
 ghost use Rattle.std.specs.Prelude.{◌≡◌};
 ghost use Rattle.entry_codec.specs.Reads.{Reads};
-ghost use Rattle.entry_codec.specs.Fields.{each};
+ghost use Rattle.entry_codec.specs.Fields.{each, kind_read};
+ghost use Rattle.entry_codec.specs.Formats.{first_format};
 ghost use Rattle.entry_codec.specs.Modifications as spec;
 
 use super::reader::{Reader, Stop};
@@ -10,9 +11,8 @@ use law_register::{Modification, Mods};
 use std::alloc::Global;
 
 impl<'a> Reader<'a> {
-    #[tactic(auto, unfolding(crate::specs::Modifications::textual))]
     fn textual(&mut self, alloc: Global) -> Result<Modification, Stop>
-        ensures { Reads (λ m. m) result self.new.left.now (spec.textual.read self.old.left.now) }
+        ensures { Reads (λ m. m) result self.new.left.now (kind_read (spec.textual first_format) self.old.left.now) }
     {
         let source = self.source(alloc)?;
         let force = self.period()?;
@@ -24,9 +24,8 @@ impl<'a> Reader<'a> {
         })
     }
 
-    #[tactic(auto, unfolding(crate::specs::Modifications::forced))]
     fn force(&mut self, alloc: Global) -> Result<Modification, Stop>
-        ensures { Reads (λ m. m) result self.new.left.now (spec.forced.read self.old.left.now) }
+        ensures { Reads (λ m. m) result self.new.left.now (kind_read (spec.forced first_format) self.old.left.now) }
     {
         let source = self.source(alloc)?;
         let destination = self.destination(alloc)?;
@@ -39,9 +38,8 @@ impl<'a> Reader<'a> {
         })
     }
 
-    #[tactic(auto, unfolding(crate::specs::Modifications::effective))]
     fn efficacy(&mut self, alloc: Global) -> Result<Modification, Stop>
-        ensures { Reads (λ m. m) result self.new.left.now (spec.effective.read self.old.left.now) }
+        ensures { Reads (λ m. m) result self.new.left.now (kind_read (spec.effective first_format) self.old.left.now) }
     {
         let source = self.source(alloc)?;
         let destination = self.destination(alloc)?;
@@ -56,7 +54,7 @@ impl<'a> Reader<'a> {
 
     #[tactic(auto, unfolding(crate::specs::Modifications::modification))]
     pub fn modification(&mut self, alloc: Global) -> Result<Modification, Stop>
-        ensures { Reads (λ m. m) result self.new.left.now (spec.modification.read self.old.left.now) }
+        ensures { Reads (λ m. m) result self.new.left.now ((spec.modification first_format).read self.old.left.now) }
     {
         let start = self.left.len();
         match self.byte()? {
@@ -68,7 +66,7 @@ impl<'a> Reader<'a> {
     }
 
     fn each_modification(&mut self, alloc: Global, count: u16) -> Result<Mods, Stop>
-        ensures { Reads (λ m. m) result self.new.left.now ((each spec.modification count).read self.old.left.now) }
+        ensures { Reads (λ m. m) result self.new.left.now ((each (spec.modification first_format) count).read self.old.left.now) }
     {
         let mut mods = Mods::new(alloc);
         for _ in 0..count {
@@ -79,7 +77,7 @@ impl<'a> Reader<'a> {
 
     #[tactic(auto, unfolding(crate::specs::Modifications::modifications))]
     pub fn modifications(&mut self, alloc: Global) -> Result<Mods, Stop>
-        ensures { Reads (λ m. m) result self.new.left.now (spec.modifications.read self.old.left.now) }
+        ensures { Reads (λ m. m) result self.new.left.now ((spec.modifications first_format).read self.old.left.now) }
     {
         let count = self.number16()?;
         self.each_modification(alloc, count)

@@ -5,7 +5,6 @@ ghost use Rattle.act_tree.specs.Specs.{own_of, spec_view};
 ghost use Rattle.entry_codec.specs.Reads.{Reads};
 ghost use Rattle.entry_codec.specs.Fields.{each};
 ghost use Rattle.entry_codec.specs.Nodes as spec;
-ghost use Rattle.entry_codec.specs.Modifications.{payload};
 
 use super::reader::{Reader, Stop};
 use act_tree::{NodeSpec, Nodes, SharedNodes};
@@ -91,9 +90,9 @@ impl<'a> Reader<'a> {
     }
 
     /// The nodes that an act or an edit brings.
-    #[tactic(auto, unfolding(crate::specs::Modifications::payload))]
+    #[tactic(auto, unfolding(crate::specs::Nodes::payload))]
     pub fn payload(&mut self, alloc: Global) -> Result<SharedNodes, Stop>
-        ensures { Reads (λ n. n) result self.new.left.now (payload.read self.old.left.now) }
+        ensures { Reads (λ n. n) result self.new.left.now (spec.payload.read self.old.left.now) }
     {
         let nodes = self.nodes(alloc, 12)?;
         Ok(SharedNodes::new(alloc, nodes)?)

@@ -1,6 +1,8 @@
 //! Acts and commands.
 
 ghost use Rattle.std.specs.Prelude.{◌≡◌, ◌++◌, OnOk};
+ghost use Rattle.entry_codec.specs.Acts as acts;
+ghost use Rattle.entry_codec.specs.Formats.{first_format};
 ghost use Rattle.entry_codec.specs.Commands as spec;
 ghost use Rattle.entry_codec.specs.Typed as typed;
 ghost use Rattle.entry_codec.specs.Values as spec_values;
@@ -15,10 +17,10 @@ use desk_base::Memory;
 use law_register::{Act, Command};
 
 // The day of an act, and what stands behind it.
-#[tactic(auto, unfolding(crate::specs::Commands::act_rest, crate::specs::Values::act_day))]
+#[tactic(auto, unfolding(crate::specs::Acts::act_rest, crate::specs::Values::act_day))]
 fn put_act_rest(out: &mut Vec<u8>, act: &Act) -> Result<(), Memory>
     ensures bytes { OnOk result (out.new.items ≡ out.old.items
-        ++ (spec.act_rest act.now.work).spell (act.now.day, (act.now.numbering, (act.now.force, act.now.body)))) }
+        ++ (acts.act_rest act.now.work).spell (act.now.day, (act.now.numbering, (act.now.force, act.now.body)))) }
     ensures typed { OnOk result (IsDay act.now.day × typed.IsNumbering act.now.numbering
         × typed.IsPeriod act.now.force × typed.IsPayload act.now.body) }
 {
@@ -38,9 +40,9 @@ fn put_language(out: &mut Vec<u8>, language: &[u8; 3]) -> Result<(), Memory>
     Ok(())
 }
 
-#[tactic(auto, unfolding(crate::specs::Commands::act))]
+#[tactic(auto, unfolding(crate::specs::Acts::act))]
 fn put_act(out: &mut Vec<u8>, act: &Act) -> Result<(), Memory>
-    ensures bytes { OnOk result (out.new.items ≡ out.old.items ++ spec.act.spell act.now) }
+    ensures bytes { OnOk result (out.new.items ≡ out.old.items ++ acts.act.spell act.now) }
     ensures typed { OnOk result (typed.IsAct act.now) }
 {
     put_work(out, &act.work)?;
@@ -49,9 +51,9 @@ fn put_act(out: &mut Vec<u8>, act: &Act) -> Result<(), Memory>
     Ok(())
 }
 
-#[tactic(auto, unfolding(crate::specs::Commands::command, crate::specs::Commands::enact, crate::specs::Commands::recorded, crate::specs::Commands::correct, crate::specs::Commands::withdraw, crate::specs::Commands::restore, crate::specs::Commands::draft_add, crate::specs::Commands::draft_drop, crate::specs::Commands::file))]
+#[tactic(auto, unfolding(crate::specs::Commands::command))]
 pub(super) fn put_command(out: &mut Vec<u8>, command: &Command) -> Result<(), Memory>
-    ensures bytes { OnOk result (out.new.items ≡ out.old.items ++ spec.command.spell command.now) }
+    ensures bytes { OnOk result (out.new.items ≡ out.old.items ++ (spec.command first_format).spell command.now) }
     ensures typed { OnOk result (typed.IsCommand command.now) }
 {
     match command {

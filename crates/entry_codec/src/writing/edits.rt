@@ -161,7 +161,7 @@ fn put_join(out: &mut Vec<u8>, wid: &Text, second: &Text, separator: &Text) -> R
     Ok(())
 }
 
-#[tactic(auto, unfolding(crate::specs::Modifications::edit, crate::specs::Modifications::repeal, crate::specs::Modifications::substitute_nodes, crate::specs::Modifications::substitute_text, crate::specs::Modifications::insert_nodes, crate::specs::Modifications::insert_text, crate::specs::Modifications::renumber, crate::specs::Modifications::split, crate::specs::Modifications::join))]
+#[tactic(auto, unfolding(crate::specs::Modifications::edit))]
 pub(super) fn put_edit(out: &mut Vec<u8>, edit: &TextualMod) -> Result<(), Memory>
     ensures bytes { OnOk result (out.new.items ≡ out.old.items ++ spec.edit.spell edit.now) }
     ensures typed { OnOk result (typed.IsEdit edit.now) }

@@ -1,6 +1,7 @@
 //! Entries.
 
 ghost use Rattle.std.specs.Prelude.{◌≡◌, ◌++◌, OnOk};
+ghost use Rattle.entry_codec.specs.Formats.{first_format};
 ghost use Rattle.entry_codec.specs.Entries as spec;
 ghost use Rattle.entry_codec.specs.Typed as typed;
 
@@ -14,7 +15,7 @@ use law_register::Entry;
 // The fields of an entry behind the byte for its format.
 #[tactic(auto, unfolding(crate::specs::Entries::fields))]
 fn put_fields(out: &mut Vec<u8>, entry: &Entry) -> Result<(), Memory>
-    ensures bytes { OnOk result (out.new.items ≡ out.old.items ++ spec.fields.spell entry.now) }
+    ensures bytes { OnOk result (out.new.items ≡ out.old.items ++ (spec.fields first_format).spell entry.now) }
     ensures typed { OnOk result (typed.IsTyped entry.now) }
 {
     put_drafter(out, &entry.drafter)?;

@@ -2,6 +2,7 @@
 
 ghost use Rattle.std.specs.Prelude.{◌≡◌, ◌++◌, OnOk, All};
 ghost use Rattle.std.specs.List.{flat_map};
+ghost use Rattle.entry_codec.specs.Formats.{first_format};
 ghost use Rattle.entry_codec.specs.Modifications as spec;
 ghost use Rattle.entry_codec.specs.Typed as typed;
 
@@ -12,9 +13,9 @@ use super::values::{put_destination, put_period, put_source};
 use desk_base::Memory;
 use law_register::{Modification, Mods};
 
-#[tactic(auto, unfolding(crate::specs::Modifications::modification, crate::specs::Modifications::textual, crate::specs::Modifications::forced, crate::specs::Modifications::effective))]
+#[tactic(auto, unfolding(crate::specs::Modifications::modification))]
 pub(super) fn put_modification(out: &mut Vec<u8>, modification: &Modification) -> Result<(), Memory>
-    ensures bytes { OnOk result (out.new.items ≡ out.old.items ++ spec.modification.spell modification.now) }
+    ensures bytes { OnOk result (out.new.items ≡ out.old.items ++ (spec.modification first_format).spell modification.now) }
     ensures typed { OnOk result (typed.IsModification modification.now) }
 {
     match modification {
@@ -55,7 +56,7 @@ pub(super) fn put_modification(out: &mut Vec<u8>, modification: &Modification) -
 }
 
 fn put_each_modification(out: &mut Vec<u8>, mods: &[Modification]) -> Result<(), Memory>
-    ensures bytes { OnOk result (out.new.items ≡ out.old.items ++ flat_map spec.modification.spell mods.now) }
+    ensures bytes { OnOk result (out.new.items ≡ out.old.items ++ flat_map (spec.modification first_format).spell mods.now) }
     ensures typed { OnOk result (All typed.IsModification mods.now) }
 {
     for modification in mods {
@@ -66,7 +67,7 @@ fn put_each_modification(out: &mut Vec<u8>, mods: &[Modification]) -> Result<(),
 
 #[tactic(auto, unfolding(crate::specs::Modifications::modifications))]
 pub(super) fn put_modifications(out: &mut Vec<u8>, mods: &Mods) -> Result<(), Memory>
-    ensures bytes { OnOk result (out.new.items ≡ out.old.items ++ spec.modifications.spell mods.now) }
+    ensures bytes { OnOk result (out.new.items ≡ out.old.items ++ (spec.modifications first_format).spell mods.now) }
     ensures typed { OnOk result (All typed.IsModification mods.now) }
 {
     let mods = mods.as_slice();

@@ -4,7 +4,6 @@ ghost use Rattle.std.specs.Prelude.{◌≡◌, ◌++◌, map, OnOk, All};
 ghost use Rattle.std.specs.List.{flat_map};
 ghost use Rattle.act_tree.specs.Specs.{own_of, spec_view, specs_view};
 ghost use Rattle.entry_codec.specs.Nodes as spec;
-ghost use Rattle.entry_codec.specs.Modifications.{payload};
 ghost use Rattle.entry_codec.specs.Typed as typed;
 
 use super::numbers::{put_count, put_number16};
@@ -63,9 +62,9 @@ fn put_nodes(out: &mut Vec<u8>, depth: u8, nodes: &Nodes) -> Result<(), Memory>
 }
 
 /// The nodes that an act or an edit brings.
-#[tactic(auto, unfolding(crate::specs::Modifications::payload))]
+#[tactic(auto, unfolding(crate::specs::Nodes::payload))]
 pub(super) fn put_payload(out: &mut Vec<u8>, nodes: &Nodes) -> Result<(), Memory>
-    ensures bytes { OnOk result (out.new.items ≡ out.old.items ++ payload.spell nodes.now) }
+    ensures bytes { OnOk result (out.new.items ≡ out.old.items ++ spec.payload.spell nodes.now) }
     ensures typed { OnOk result (typed.IsPayload nodes.now) }
 {
     put_nodes(out, 12, nodes)
