@@ -9,11 +9,11 @@ use crate::steps::{Draw, HOME, LENGTH, NEXT, NoteLength, PassOn, PutHome, Read, 
 use crate::view::View;
 use crate::{Held, Pass, Turns};
 use atomic_table::Seat;
+use std::hint;
 use std::sync::Wait;
-use std::thread;
 
-/// So often a caller yields to the system before he sleeps.
-const PATIENCE: u32 = 64;
+/// So often a caller pauses, and looks again, before he sleeps.
+const MOST_PAUSES: u32 = 300;
 
 impl<T: Held> Turns<T> {
     /// Waits for a turn, and calls `act` at the value in it.
@@ -44,23 +44,23 @@ impl<T: Held> Turns<T> {
     {
         let shared = &self.table.shared;
         let ticket = shared.fetch_add::<Draw>(seat, NEXT, 1);
-        let mut tries = 0u32;
+        let mut looks = 0u32;
         for _ in rt.forever() {
             let served = shared.load::<Read>(seat, SERVED);
             if served == ticket {
                 shared.load::<TakeOut>(seat, SERVED);
                 return shared.exchange(seat, HOME, None).unwrap();
             }
-            tries = tries.saturating_add(1);
-            self.await_change(rt, served, tries);
+            looks = looks.saturating_add(1);
+            self.await_change(rt, served, looks);
         }
         unreachable!()
     }
 
-    // Yields to the system, or sleeps after many tries while this ticket is served.
-    fn await_change<H: Wait>(&self, rt: &H, served: u64, tries: u32) {
-        if tries < PATIENCE {
-            thread::yield_now();
+    // Pauses, or sleeps after many looks while this ticket is served.
+    fn await_change<H: Wait>(&self, rt: &H, served: u64, looks: u32) {
+        if looks <= MOST_PAUSES {
+            hint::spin_loop();
         } else {
             self.table
                 .shared

@@ -11,7 +11,7 @@ use std::thread;
 use std::time::{Clock, Duration};
 use turn_lock::{Pass, Turns};
 
-/// How long a slow turn lasts, in milliseconds: many times as long as a caller yields before he sleeps.
+/// How long a slow turn lasts, in milliseconds: many times as long as a caller pauses before he sleeps.
 const SLOW: u64 = 50;
 
 /// A caller with a pass.
