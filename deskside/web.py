@@ -1,15 +1,13 @@
 """Pages over a desk: the works, an act's days, the text of a day, two days side by side, a draft against the law, what was not applied.
 
-The addresses of pages are the desk's IRIs. One `lawdesk batch` in the folder has the register; it is asked for every word, and started again where it
-ended. The journal is read beside it for names and days alone. Only this machine is served, and no page has a script."""
+The addresses of pages are the desk's IRIs. A desk is asked for every word: one that runs at a port of this machine, or else a `lawdesk batch` in the
+folder. The journal of the folder is read beside it for names and days alone. Only this machine is served, and no page has a script."""
 import base64
 import glob
 import hashlib
 import json
 import os
 import re
-import subprocess
-import threading
 from urllib.parse import quote, urlencode
 
 import flask
@@ -20,66 +18,22 @@ import dressing
 import faults
 import journal
 import page
+import running
 import writing
 
+# The bytes of a command at most, and how often a draft is asked for that changes meanwhile.
+MOST_BYTES, MOST_TRIES = 8_388_608, 9
 # The first of the links that lead from a page.
 HOME = ("/", "The works of this desk")
 TYPES = {"xml": "application/akn+xml", "json": "application/json", "html": "text/html"}
 EXPRESSION = re.compile(r"(?P<work>/akn/.+?)/(?P<language>[a-z]{3})@(?P<day>[0-9-]*)(\.(?P<form>xml|json|html))?\Z")
 
 
-class Batch:
-    """A desk that runs in a folder. A command that got no response is sent again with its number, so that it acts once."""
-
-    def __init__(self, folder):
-        self.folder, self.turn, self.ran = folder, threading.Lock(), None
-
-    def start(self):
-        self.ran = subprocess.Popen([desk.PROGRAM, "batch"], cwd=self.folder, stdin=subprocess.PIPE, stdout=subprocess.PIPE, stderr=subprocess.DEVNULL)
-
-    def ask(self, method, target, body=b""):
-        """The status and the body of a response."""
-        head = f"{method} {target} HTTP/1.1\r\nHost: desk\r\n" + (f"Content-Length: {len(body)}\r\n" if body else "")
-        with self.turn:
-            for _ in range(3):
-                if self.ran is None or self.ran.poll() is not None:
-                    self.start()
-                try:
-                    self.ran.stdin.write(head.encode() + b"\r\n" + body)
-                    self.ran.stdin.flush()
-                    return self.response()
-                except (OSError, EOFError, ValueError):
-                    self.end()
-        raise desk.Failed(5, "the desk ended, and could not be started again")
-
-    def response(self):
-        lines = []
-        while True:
-            line = self.ran.stdout.readline()
-            if not line.endswith(b"\r\n"):
-                raise EOFError
-            if line == b"\r\n":
-                break
-            lines.append(line)
-        status = int(lines[0].split(b" ")[1])
-        length = next((int(it.partition(b":")[2]) for it in lines if it.lower().startswith(b"content-length:")), 0)
-        body = self.ran.stdout.read(length)
-        if len(body) < length:
-            raise EOFError
-        return status, body
-
-    def end(self):
-        if self.ran is not None:
-            self.ran.kill()
-            self.ran.wait()
-            self.ran = None
-
-
 class Folder:
-    """The works of a folder, with their dressings."""
+    """The works of a folder, with their dressings, and the desk that has their register."""
 
-    def __init__(self, path):
-        self.path, self.batch, self.seen, self.works, self.entries = path, Batch(path), None, None, []
+    def __init__(self, path, its):
+        self.path, self.running, self.seen, self.works, self.entries = path, its, None, None, []
 
     def read(self):
         """What the journal says of works, read again where it grew."""
@@ -119,10 +73,34 @@ class Folder:
         return self.answer("/text?" + urlencode(query, quote_via=quote, safe=""))
 
     def answer(self, target):
-        status, body = self.batch.ask("GET", target)
+        status, body = self.running.ask("GET", target)
         if status != 200:
             raise Refused(status, body)
         return json.loads(body), body
+
+    def draft(self, drafter):
+        """The items of a drafter's draft."""
+        return self.answer("/draft?" + urlencode({"drafter": drafter}))[0]["draft"]
+
+    def previewed(self, drafter, work, language, day):
+        """An answer with a draft, the items of that draft, and those of the work by the ids that they have in the answer. Others may change the draft meanwhile."""
+        target = "/preview?" + urlencode({"drafter": drafter, "expression": f"{work}/{language}@{day}"}, quote_via=quote, safe="")
+        for _ in range(MOST_TRIES):
+            before, (answer, _), items = self.draft(drafter), self.answer(target), self.draft(drafter)
+            # (filed, they would be those of the next entry)
+            next_entry = f"{answer['viewpoint']}."
+            filed = {f"{next_entry}{at}": it["modification"] for at, it in enumerate((it for it in items if it["work"] == work), 1)}
+            shown = {it for it in (*answer["applied"], *(it["id"] for it in answer["unapplied"])) if it.startswith(next_entry)}
+            if before == items and shown <= {*filed}:
+                return answer, items, filed
+        raise desk.Failed(5, f"the draft of {drafter} changes all the time")
+
+    def is_of_desk(self):
+        """Whether the journal here is that of the desk: none of them has an entry that the other has not."""
+        least = self.answer("/front")[0]["front"]
+        self.read()
+        known = max((it["law"] for it in self.entries), default=0)
+        return least <= known <= self.answer("/front")[0]["front"]
 
 
 class Refused(Exception):
@@ -140,9 +118,9 @@ def spelled(modification):
     return full(modification)
 
 
-def made(path, port):
-    """The application over a folder."""
-    app, folder = flask.Flask(__name__, template_folder=page.TEMPLATES, static_folder=None), Folder(path)
+def made(path, port, its=None):
+    """The application over a folder, and the desk that has its register: one that runs already, or else one of its own."""
+    app, folder = flask.Flask(__name__, template_folder=page.TEMPLATES, static_folder=None), Folder(path, its or running.Batch(path))
     hosts = {f"{name}:{port}" for name in ("localhost", "127.0.0.1", "[::1]")}
     origins = {f"http://{it}" for it in hosts}
     sum = base64.b64encode(hashlib.sha256(str(page.style()).encode()).digest()).decode()
@@ -169,7 +147,8 @@ def made(path, port):
 
     @app.errorhandler(desk.Failed)
     def failed(error):
-        return told("No answer", str(error)), 503
+        again = "; sent again with its number, a command acts once" if flask.request.method == "POST" else ""
+        return told("No answer", f"{error}{again}"), 503
 
     @app.errorhandler(404)
     def unknown(_):
@@ -183,7 +162,10 @@ def made(path, port):
 
     @app.post("/commands")
     def command():
-        status, body = folder.batch.ask("POST", "/commands", flask.request.get_data(cache=False))
+        # (the desk closes the stream on one that is too long, and its answer may be lost with it)
+        if (flask.request.content_length or 0) > MOST_BYTES:
+            return told("The desk refuses", f"a command has {MOST_BYTES:,} bytes at most"), 413
+        status, body = folder.running.ask("POST", "/commands", flask.request.get_data(cache=False))
         return flask.Response(body, status, mimetype="application/json")
 
     @app.get("/unapplied")
@@ -199,10 +181,7 @@ def made(path, port):
 
     @app.get("/drafts/<drafter>")
     def draft(drafter):
-        status, body = folder.batch.ask("GET", "/draft?" + urlencode({"drafter": drafter}))
-        if status != 200:
-            raise Refused(status, body)
-        return drafted(folder, drafter, json.loads(body)["draft"], flask.request.args)
+        return drafted(folder, drafter, flask.request.args)
 
     @app.get("/akn/<path:rest>")
     def akn_page(rest):
@@ -274,38 +253,40 @@ def text_page(folder, work, language, day, form, asked):
 
 
 def side_by_side(folder, work, language, first, second, reading):
-    """Two days of an act. A provision keeps its wId, so the answers tell which is which."""
-    answers = [folder.text(work, language, day, reading)[0] for day in (first, second)]
+    """Two days of an act, as known at one moment. A provision keeps its wId, so the answers tell which is which."""
+    answers = [folder.text(work, language, first, reading)[0]]
+    answers.append(folder.text(work, language, second, reading, answers[0]["viewpoint"])[0])
     trail = [HOME, (work, "The days of this act"), *((f"{work}/{language}@{day}", f"The text of {day}") for day in (first, second))]
     return compare.comparison(folder.dressing(work), compare.joined(compare.by_wid(answers), answers), answers, first, second, trail)
 
 
-def drafted(folder, drafter, items, asked):
+def drafted(folder, drafter, asked):
     """A draft, and for a work of it and a day the law with it beside the law without it."""
+    items = folder.draft(drafter)
     works = sorted({it["work"] for it in items})
     work, day = asked.get("work", works[0] if works else ""), asked.get("day", "")
     rows, unapplied, is_asked = [], [], work in folder.read().acts and faults.is_day(day)
     if is_asked:
         act, _ = folder.read().acts[work]
-        query = {"drafter": drafter, "expression": f"{work}/{act['FRBRlanguage']}@{day}"}
-        after, _ = folder.answer("/preview?" + urlencode(query, quote_via=quote, safe=""))
-        before, _ = folder.text(work, act["FRBRlanguage"], day)
+        after, items, filed = folder.previewed(drafter, work, act["FRBRlanguage"], day)
+        before, _ = folder.text(work, act["FRBRlanguage"], day, viewpoint=after["viewpoint"] - 1)
         rows = compare.joined(compare.by_wid((before, after)), (before, after), compare.DRAFTS)
-        # (filed, the items of the draft would be those of the next entry)
-        filed = {f"{after['viewpoint']}.{at}": it["modification"] for at, it in enumerate((it for it in items if it["work"] == work), 1)}
-        unapplied = page.unapplied_of({**folder.standing(work, after["viewpoint"]), **filed}, after)
+        unapplied = page.unapplied_of({**folder.standing(work, after["viewpoint"] - 1), **filed}, after)
     shown = [{**it, "words": f"{described(it['modification'])}, in {it['work']}"} for it in items]
     return page.render("draft.html", trail=[HOME, *((it, f"The days of {it}") for it in works)], title=f"The draft of {drafter}", day="", drafter=drafter, items=shown,
                        works=works, work=work, asked=day, rows=[it for it in rows if it["state"]], is_asked=is_asked, unapplied=unapplied)
 
 
-def served(path, port="8790"):
-    """Serves a folder until it is stopped."""
+def served(path, port="8790", address=""):
+    """Serves a folder until it is stopped, over the desk at an address where there is one."""
     import waitress
 
     if not os.path.isdir(path) or not re.fullmatch(r"[1-9][0-9]{0,4}", port):
         raise ValueError(f"{path} is no folder, or {port} no port")
-    app = made(path, int(port))
-    print(f"deskside: http://localhost:{port}/ over {path}; {writing.LINE}", flush=True)
+    its = running.at(address) if address else running.Batch(path)
+    app = made(path, int(port), its)
+    if address and not app.desk.is_of_desk():
+        raise ValueError(f"{its} has another register than the journal in {path}: name the folder in which it runs")
+    print(f"deskside: http://localhost:{port}/ over {its}; {writing.LINE}", flush=True)
     waitress.serve(app, listen=f"127.0.0.1:{port}", threads=4, ident=None)
     return 0

@@ -3,15 +3,21 @@ import json
 import os
 import random
 import shutil
+import socket
 import subprocess
 import tempfile
+import threading
 import time
 import urllib.request
 
 from lxml import html
 
+import bridge
 import desk
+import examples
+import journal
 import register
+import running
 import web
 
 HERE = os.path.dirname(os.path.abspath(__file__))
@@ -32,23 +38,50 @@ LOST = "act.xml:1: <b>something</b> that was lost"
 
 
 def checked(check, harms, hostile):
-    """harms: what of a page could run; hostile: a dossier with words that look like markup."""
-    with tempfile.TemporaryDirectory(prefix="deskside-") as path:
-        dossier = folder_of(path)
-        lose(path)
-        app = web.made(path, PORT)
-        try:
-            loaded(check, app, dossier)
-            texts(check, app, dossier)
-            linked(check, app, harms)
-            told_lost(check, app, dossier)
-            addressed(check, app, harms, dossier)
-            hostile_words(check, app, harms, hostile)
-            others(check, app)
-            killed(check, app)
-        finally:
-            app.desk.batch.end()
-        served(check, path)
+    """The pages over a desk of their own, and over one that runs at a port. harms: what of a page could run; hostile: a dossier with words that look like markup."""
+    for name, way in (("a batch", over_a_batch), ("a port", over_a_port)):
+        with tempfile.TemporaryDirectory(prefix="deskside-") as path:
+            way(lambda title, holds, why="": check(f"over {name}: {title}", holds, why), path, harms, hostile)
+    fallen_silent(check)
+
+
+def over_a_batch(check, path, harms, hostile):
+    dossier = folder_of(path)
+    lose(path)
+    app = web.made(path, PORT)
+    try:
+        session(check, app, dossier, harms, hostile)
+        killed(check, app)
+    finally:
+        app.desk.running.end()
+    served(check, path)
+
+
+def over_a_port(check, path, harms, hostile):
+    dossier, over = folder_of(path), bridge.Bridge(path)
+    lose(path)
+    app = web.made(path, PORT, running.at(f"127.0.0.1:{over.port}"))
+    try:
+        session(check, app, dossier, harms, hostile)
+        check("all that was asked went over one connection", over.count == 1, str(over.count))
+        over = lost_and_found(check, app, over)
+        app.desk.running.end()
+        served(check, path, "--desk", f"127.0.0.1:{over.port}")
+        refused_desks(check, path, over.port)
+    finally:
+        app.desk.running.end()
+        over.end()
+
+
+def session(check, app, dossier, harms, hostile):
+    loaded(check, app, dossier)
+    texts(check, app, dossier)
+    linked(check, app, harms)
+    told_lost(check, app, dossier)
+    addressed(check, app, harms, dossier)
+    hostile_words(check, app, harms, hostile)
+    others(check, app)
+    too_long(check, app)
 
 
 def lose(path):
@@ -169,26 +202,134 @@ def others(check, app):
         check(f"{address} fetches nothing", not page.xpath("//script|//link|//img|//iframe|//@src"))
 
 
+def too_long(check, app):
+    """A command that is longer than the desk reads is refused, and the next is answered."""
+    client = app.test_client()
+    check("a command of 9 MB is refused", client.post("/commands", data=b" " * 9_000_000, headers=HEADERS).status_code == 413)
+    check("one without a word too", client.post("/commands", headers=HEADERS).status_code == 400)
+    check("and one that is none", client.post("/commands", data=b"{}", headers=HEADERS).status_code == 400)
+
+
+def growing(drafter, work):
+    """Commands of a drafter: an act, and modifications of which each puts its request number behind the text."""
+    act = {"FRBRuri": work, "FRBRdate": "2015-05-05", "FRBRlanguage": "eng", "force": {"from": "2015-06-01"}, "body": [{"element": "section", "num": "1", "content": "one"}]}
+    yield {"drafter": drafter, "request": 1, "command": "enact", "act": act}
+    for k in range(2, 42):
+        yield {"drafter": drafter, "request": k, "command": "record", "work": work, "modifications": [{"textualMod": {"type": "insertion",
+               "source": {"href": "/akn/gb/act/2016-01-01/1", "place": k}, "force": {"from": "2016-01-01"}, "destination": {"wId": "sec_1", "pos": "end"}, "new": f" {k}"}}]}
+
+
+def stand_once(check, app, work):
+    """Each of those commands is in the text and in the journal, once and in its place."""
+    text = json.loads(app.test_client().get(f"{work}/eng@2016-01-01.json", headers=HEADERS).data)["body"][0]["content"]
+    check("no command was lost, and none doubled", text == "one" + "".join(f" {k}" for k in range(2, 42)), text)
+    kept = [it["request"] for it in journal.entries(os.path.join(app.desk.path, "lawdesk.jnl")) if it.get("work", it.get("act", {}).get("FRBRuri")) == work]
+    check("nor in the journal", kept == [*range(1, 42)], str(kept))
+
+
 def killed(check, app):
     """A desk that is killed amid a session is started again: each command acts once."""
-    client, draw = app.test_client(), random.Random(7)
-    work = "/akn/gb/act/2015-05-05/5"
-    act = {"FRBRuri": work, "FRBRdate": "2015-05-05", "FRBRlanguage": "eng", "force": {"from": "2015-06-01"}, "body": [{"element": "section", "num": "1", "content": "one"}]}
-    sent = [{"drafter": "bob", "request": 1, "command": "enact", "act": act}]
-    sent += [{"drafter": "bob", "request": k, "command": "record", "work": work, "modifications": [{"textualMod": {"type": "insertion", "source": {"href": "/akn/gb/act/2016-01-01/1", "place": k},
-              "force": {"from": "2016-01-01"}, "destination": {"wId": "sec_1", "pos": "end"}, "new": f" {k}"}}]} for k in range(2, 42)]
-    for it in sent:
-        if draw.random() < 0.4 and app.desk.batch.ran is not None:
-            app.desk.batch.ran.kill()
+    client, draw, work, its = app.test_client(), random.Random(7), "/akn/gb/act/2015-05-05/5", app.desk.running
+    for it in growing("bob", work):
+        if draw.random() < 0.4 and its.ran is not None:
+            its.ran.kill()
             if draw.random() < 0.5:
-                app.desk.batch.ran.wait()
+                its.ran.wait()
         reply = client.post("/commands", data=json.dumps(it), headers=HEADERS)
         check("a command is answered though the desk was killed", reply.status_code == 201, f"{reply.status_code} {reply.data[:80]}")
-    text = json.loads(client.get(f"{work}/eng@2016-01-01.json", headers=HEADERS).data)["body"][0]["content"]
-    check("no command was lost, and none doubled", text == "one" + "".join(f" {k}" for k in range(2, 42)), text)
+    stand_once(check, app, work)
 
 
-def served(check, path):
+def lost_and_found(check, app, over):
+    """A connection that is cut amid a session is made anew, and so is one to a desk that was killed: each command acts once. Gives the port that is open then."""
+    work, faults = "/akn/gb/act/2015-05-05/5", [*bridge.FORWARD, *bridge.BACK, "cut meanwhile", "kill meanwhile", "away", "twice", "nothing"] * 4
+    random.Random(7).shuffle(faults)
+    for it, fault in zip(growing("bob", work), faults):
+        over, again = done(fault, over)
+        reply = app.test_client().post("/commands", data=json.dumps(it), headers=HEADERS)
+        if again:
+            check(f"that it got no answer is told: {fault}", reply.status_code == 503 and again in reply.data and b"sent again with its number, a command acts once" in reply.data, f"{reply.status_code} {reply.data}")
+            over = over if fault == "twice" else bridge.Bridge(over.folder, over.port)
+            reply = app.test_client().post("/commands", data=json.dumps(it), headers=HEADERS)
+        check(f"a command is answered: {fault}", reply.status_code == 201 and not over.todo, f"{reply.status_code} {reply.data[:80]}")
+    stand_once(check, app, work)
+    return over
+
+
+def done(fault, over):
+    """Does to a desk at a port what a fault names, or has it done to what is asked next. Gives the port, and what is told where one new connection does not do."""
+    if fault == "cut meanwhile":
+        over.cut()
+    elif fault == "kill meanwhile":
+        over.ran.kill()
+    elif fault == "away":
+        over.end()
+        return over, f"nothing listens at 127.0.0.1:{over.port}".encode()
+    elif fault == "twice":
+        over.todo = ["lose the request", "lose the response"]
+        return over, b"closed the connection before it answered"
+    else:
+        over.todo = [fault] if fault != "nothing" else []
+    return over, b""
+
+
+def fallen_silent(check):
+    """What comes late answers no other question, and what is no desk is told so."""
+    with tempfile.TemporaryDirectory(prefix="deskside-") as path:
+        over = bridge.Bridge(path)
+        its = running.Served(over.port, 0.5)
+        check("a desk answers", its.ask("GET", "/front") == (200, b'{"front":0}'))
+        over.late = 1
+        check("one that is silent is left", f"the desk at 127.0.0.1:{over.port} gave no answer in 0.5 seconds" == failure(its))
+        over.late = 0
+        its.seconds = 30
+        check("and what it said late answers nothing else", its.ask("GET", "/draft?drafter=ada") == (200, b'{"draft":[]}'))
+        its.end()
+        over.end()
+    for said in (b"SSH-2.0-x\r\n", b"HTTP/1.1 200 OK\r\nContent-Type: text/html\r\nContent-Length: 2\r\n\r\nhi", b"HTTP/1.1 200 OK\r\nContent-Type: application/json\r\n\r\n{}", b"x" * 20_000):
+        check(f"{said[:60]} is no desk's", failure(running.Served(speaking(said), 5)).endswith("an answer that is none of a desk"))
+
+
+def failure(its):
+    try:
+        return str(its.ask("GET", "/front"))
+    except desk.Failed as error:
+        return str(error)
+
+
+def speaking(said):
+    """A port at which whoever comes is told the same."""
+    listening = socket.create_server(("127.0.0.1", 0))
+
+    def speak():
+        with listening:
+            link, _ = listening.accept()
+            with link:
+                link.recv(65536)
+                link.sendall(said)
+                try:
+                    link.recv(65536)
+                except OSError:
+                    pass
+
+    threading.Thread(target=speak, daemon=True).start()
+    return listening.getsockname()[1]
+
+
+def refused_desks(check, path, port):
+    """A desk that may not be asked, is not there or has another register is told in words, and nothing is served."""
+    with tempfile.TemporaryDirectory(prefix="deskside-") as other, socket.create_server(("127.0.0.1", 0)) as taken:
+        free = taken.getsockname()[1]
+        taken.close()
+        for folder, address, status, words in ((path, "localhost:8080", 2, "--desk wants 127.0.0.1"), (path, "192.0.2.1:80", 2, "--desk wants 127.0.0.1"), (path, "127.0.0.1:65536", 2, "--desk wants 127.0.0.1"),
+                                               (path, "127.0.0.1", 2, "--desk wants 127.0.0.1"), (path, f"127.0.0.1:{free}", 1, f"nothing listens at 127.0.0.1:{free}"), (other, f"127.0.0.1:{port}", 2, "has another register")):
+            ended, wrote, said = examples.ran("web", folder, "--desk", address)
+            check(f"--desk {address} over {'another folder' if folder == other else 'the folder'} is refused", ended == status and words in said and not wrote, f"{ended} {said}")
+        ended, _, said = examples.ran("web", path, "--desk")
+        check("--desk alone is no form", ended == 2 and "usage" in said)
+
+
+def served(check, path, *words):
     """The server itself, over a real socket."""
     if shutil.which("true") is None:
         return
@@ -197,7 +338,7 @@ def served(check, path):
     except ImportError:
         print("deskside: python3-waitress is not there, so the server is not started")
         return
-    ran = subprocess.Popen([os.path.join(os.path.dirname(HERE), "deskside"), "web", path, str(PORT)], stdout=subprocess.PIPE, stderr=subprocess.DEVNULL)
+    ran = subprocess.Popen([os.path.join(os.path.dirname(HERE), "deskside"), "web", path, str(PORT), *words], stdout=subprocess.PIPE, stderr=subprocess.DEVNULL)
     try:
         ran.stdout.readline()
         for _ in range(50):
