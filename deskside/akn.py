@@ -40,7 +40,7 @@ def parser():
 def parse(data, path):
     """Reads the bytes of a document, and gives its root in the standard's namespace, and whether it came in that of a draft."""
     if len(data) > MOST_BYTES:
-        raise Refused(f"{path} has {len(data):,} bytes, and at most {MOST_BYTES:,} are read")
+        raise Refused(f"{path} has more than {MOST_BYTES:,} bytes: such documents are not read")
     # (looked for before anything is parsed, so that no entity is ever declared)
     if re.search(rb"<!DOCTYPE|<!ENTITY", data) or any(it in data for it in ("<!DOCTYPE".encode("utf-16-le"), "<!DOCTYPE".encode("utf-16-be"))):
         raise Refused(f"{path} has a DOCTYPE or declares an entity: such documents are not read")

@@ -8,6 +8,8 @@ import forms
 from dressing import Dressed
 
 LINE = "The words are proved, their dress is tested."
+# What a document says of those tests beside it.
+GRAMMAR = "The grammar of the tests is not OASIS's own schema."
 # The parts of the metadata behind those of days, in the standard's order.
 BEHIND = ("references", "notes", "proprietary", "presentation")
 
@@ -132,7 +134,7 @@ def tell(meta, dressing, modifications, answer, answered, dressed):
     own.set("sum", "sha256:" + hashlib.sha256(answered).hexdigest())
     own.set("reading", answer["reading"])
     own.set("bears", str(answer["bears"]).lower())
-    etree.SubElement(own, akn.ours("note")).text = LINE
+    etree.SubElement(own, akn.ours("note")).text = f"{LINE} {GRAMMAR}"
     due = {*answer["applied"], *[it["id"] for it in answer["unapplied"]]}
     for it in answer["unapplied"]:
         line = etree.SubElement(own, akn.ours("unapplied"), id=it["id"], cause=it["cause"])
