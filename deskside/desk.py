@@ -14,8 +14,11 @@ class Failed(Exception):
     """The desk gave no answer: its status, and what it said."""
 
     def __init__(self, status, said):
-        super().__init__(said)
+        super().__init__(status, said)
         self.status, self.said = status, said
+
+    def __str__(self):
+        return self.said
 
 
 def in_words(said):

@@ -8,6 +8,8 @@ import places
 NAMES = {1: "NotJson", 2: "WrongShape", 3: "BadName", 4: "BadDay", 5: "BadElement", 6: "BadNumber", 7: "UnknownWord", 8: "DateDiffers", 9: "TooLong"}
 RULES = {5: "BadTree", 6: "BadModification", 7: "BadPeriod", 8: "UnknownModification", 11: "WrongKind", 15: "WorkFull"}
 LONGEST = 8_388_608
+# The kind of a value that is wanting.
+ABSENT = "absent"
 ID = re.compile(r"(0|[1-9][0-9]{0,9})\.(0|[1-9][0-9]{0,4})\Z")
 NODE = (("element", "num"), ("heading", "content", "refs", "children"))
 TEXTUAL = ("type", "source", "force")
@@ -69,22 +71,23 @@ class Form:
         self.faults.append(Fault("form", number, self.place, path, value.at, why))
 
     def table(self, value, path, must, may=()):
-        """The members of an object that has the keys of a table, or None."""
-        if value.kind != "object":
-            self.say(2, path, value, f"an object should stand here, and not a {value.kind}")
+        """The members of an object that a table has, or None. One that is wanting is absent, so that all else is looked at too."""
+        found = self.of_kind(value, path, "object")
+        if found is None:
             return None
         lacking, unknown = [it for it in must if it not in value.value], [it for it in value.value if it not in must and it not in may]
         for it in lacking:
             self.say(2, path, value, f"the key {it} is wanting")
         for it in unknown:
             self.say(2, f"{path}.{it}", value.value[it], f"no key {it} stands in this table")
-        return value.value if not lacking and not unknown else None
+        return {**{it: places.Value(ABSENT, None, value.at) for it in lacking}, **{key: it for key, it in found.items() if key not in unknown}}
 
     def of_kind(self, value, path, kind):
-        if value.kind != kind:
-            self.say(2, path, value, f"a {kind} should stand here, and not a {value.kind}")
-            return None
-        return value.value
+        if value.kind == kind:
+            return value.value
+        if value.kind != ABSENT:
+            self.say(2, path, value, f"{'an' if kind == 'object' else 'a'} {kind} should stand here, and not a {value.kind}")
+        return None
 
     def text(self, value, path, number=0, test=None, why=""):
         found = self.of_kind(value, path, "text")
@@ -104,12 +107,10 @@ class Form:
 
     def number(self, value, path, most):
         if value.kind != "number":
-            self.say(2, path, value, f"a number should stand here, and not a {value.kind}")
-        elif value.value is None or value.value > most:
-            self.say(6, path, value, f"no whole number from 0 to {most}")
-        else:
-            return value.value
-        return None
+            return self.of_kind(value, path, "number")
+        if value.value is None or value.value > most:
+            return self.say(6, path, value, f"no whole number from 0 to {most}")
+        return value.value
 
     def period(self, value, path):
         found = self.table(value, path, ("from",), ("until",))
@@ -182,15 +183,19 @@ class Form:
     def textual(self, value, path, word, kind):
         keys = self.keys_of_textual(value, path, word)
         if keys is None:
-            return None
+            return self.common(value, path)
         found = self.table(value, path, *keys)
-        if found is None:
-            return None
         made = {"kind": kind, "type": word.value, "path": path, "value": value}
         self.source(found["source"], f"{path}.source")
         made["periods"] = [self.period(found["force"], f"{path}.force")]
         made["edit"] = self.edit(found, path, word.value)
         return made
+
+    def common(self, value, path):
+        """Looks at what stands in a modification of any type, where its own keys can't be told."""
+        for key, look in (("source", self.source), ("force", self.period)):
+            if key in value.value:
+                look(value.value[key], f"{path}.{key}")
 
     def keys_of_textual(self, value, path, word):
         """The keys of a textual modification, by its word and by what it brings."""
@@ -272,11 +277,9 @@ class Form:
         known = FORCE if kind == "forceMod" else EFFICACY
         if word.value not in known:
             self.say(7, f"{path}.type", word, f"'{word.value[:40]}' is no type of a {kind}")
-            return None
+            return self.common(value, path)
         behind = ("on", "date") if kind == "forceMod" else EFFICACY[word.value]
         found = self.table(value, path, ("type", "source", "destination", *behind))
-        if found is None:
-            return None
         made = {"kind": kind, "type": word.value, "path": path, "value": value, "periods": [], "edit": None, "wid": None, "id": None}
         self.source(found["source"], f"{path}.source")
         self.thing(found["destination"], f"{path}.destination", made)

@@ -75,7 +75,7 @@ class Folder:
     def answer(self, target):
         status, body = self.running.ask("GET", target)
         if status != 200:
-            raise Refused(status, body)
+            raise Refused(status, body.decode(errors="replace"))
         return json.loads(body), body
 
     def draft(self, drafter):
@@ -103,10 +103,8 @@ class Folder:
         return least <= known <= self.answer("/front")[0]["front"]
 
 
-class Refused(Exception):
-    def __init__(self, status, body):
-        super().__init__(body.decode(errors="replace"))
-        self.status = status
+class Refused(desk.Failed):
+    """The desk answered, and with no 200: the status of the response, and its body."""
 
 
 def spelled(modification):

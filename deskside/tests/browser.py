@@ -56,6 +56,8 @@ def checked(check, pictures=None):
             for name, address in SHOWN.items():
                 looked_at(check, window, name, f"http://localhost:{PORT}{address}", pictures)
             looked_at(check, window, "a page of its own", alone(path), None)
+            shown = window.execute_script(WORDS)
+            check("a page of its own says what the desk says", not missing(shown, desk.text(dossier, "2006-01-01")[0]), shown[:80])
             by_keyboard(check, window)
             said(check, window)
             printed(check, window)

@@ -126,6 +126,7 @@ def texts(check, app, dossier):
         check(f"the page of {day} says what the desk says", True)
         marks = len(shown.xpath("//main//span[@class='mark']"))
         check(f"what does not bear on {day} is marked in words", marks == sum(not node["bears"] for node, _, _ in desk.provisions(answer)), str(marks))
+        check(f"{day} as HTML has the same page", client.get(f"{work}/eng@{day}.html", headers=HEADERS).data == client.get(f"{work}/eng@{day}", headers=HEADERS).data)
         check(f"{day} as XML", client.get(f"{work}/eng@{day}.xml", headers=HEADERS).data.startswith(b"<?xml"))
         check(f"{day} has headings in order", [int(it.tag[1]) for it in shown.iter("h1", "h2", "h3", "h4", "h5", "h6")][0] == 1)
     timeline = client.get(work, headers=HEADERS).data.decode()
@@ -141,8 +142,8 @@ def texts(check, app, dossier):
 
 
 def linked(check, app, harms):
-    """From the works each other page is reached, each link leads to a page, and none of them harms."""
-    client, waiting, met = app.test_client(), ["/"], {}
+    """From the works each other page is reached, each link leads to a page, and none of them harms or writes."""
+    client, waiting, met, before = app.test_client(), ["/"], {}, kept(app)
     while waiting:
         address = waiting.pop()
         if address in met:
@@ -155,8 +156,14 @@ def linked(check, app, harms):
     # (an act of which a text speaks may be unknown here)
     work = "/akn/gb/act/2001-03-14/11"
     check("each link leads to a page", all(it == 200 for address, it in met.items() if not address.startswith("/akn/") or address.startswith(work)), str(met))
+    check("no page writes in the folder", kept(app) == before)
     wanted = {"/drafts/ada", work, f"{work}/eng@", *(f"{work}/eng@{it}" for it in ("2001-03-14", "2001-06-01", "2006-01-01", "2006-01-01.xml", "2006-01-01.json", "2006-01-01?against=2001-06-01"))}
     check("from the works each page is reached", wanted <= {*met}, str(wanted - {*met}))
+
+
+def kept(app):
+    """The files of a folder, with their bytes and times."""
+    return {it.name: (open(it.path, "rb").read(), it.stat().st_mtime_ns) for it in os.scandir(app.desk.path)}
 
 
 def told_lost(check, app, dossier):
@@ -277,9 +284,10 @@ def fallen_silent(check):
     """What comes late answers no other question, and what is no desk is told so."""
     with tempfile.TemporaryDirectory(prefix="deskside-") as path:
         over = bridge.Bridge(path)
-        its = running.Served(over.port, 0.5)
+        its = running.Served(over.port, 30)
         check("a desk answers", its.ask("GET", "/front") == (200, b'{"front":0}'))
-        over.late = 1
+        its.end()
+        its.seconds, over.late = 0.5, 1
         check("one that is silent is left", f"the desk at 127.0.0.1:{over.port} gave no answer in 0.5 seconds" == failure(its))
         over.late = 0
         its.seconds = 30
