@@ -43,6 +43,7 @@ def checked(check, harms, hostile):
         with tempfile.TemporaryDirectory(prefix="deskside-") as path:
             way(lambda title, holds, why="": check(f"over {name}: {title}", holds, why), path, harms, hostile)
     fallen_silent(check)
+    not_opened(check)
 
 
 def over_a_batch(check, path, harms, hostile):
@@ -298,7 +299,25 @@ def fallen_silent(check):
         check(f"{said[:60]} is no desk's", failure(running.Served(speaking(said), 5)).endswith("an answer that is none of a desk"))
 
 
+def not_opened(check):
+    """A desk of its own that can't have its register says why."""
+    said, kept = "lawdesk: another process holds lawdesk.jnl", desk.PROGRAM
+    with tempfile.TemporaryDirectory(prefix="deskside-") as path:
+        desk.PROGRAM = os.path.join(path, "held")
+        with open(desk.PROGRAM, "w", opener=lambda name, flags: os.open(name, flags, 0o755)) as it:
+            it.write(f"#!/bin/sh\necho '{said}' >&2\nexit 5\n")
+        try:
+            why = failure(running.Batch(path))
+            check("a desk that ends at once says why", why.endswith(f"(status 5: {said})"), why)
+            desk.PROGRAM = os.path.join(path, "none")
+            why = failure(running.Batch(path))
+            check("and so does one that is not there", "could not be started" in why, why)
+        finally:
+            desk.PROGRAM = kept
+
+
 def failure(its):
+    """What is said where no answer comes."""
     try:
         return str(its.ask("GET", "/front"))
     except desk.Failed as error:
