@@ -1,4 +1,6 @@
 """Checks of the pages over a desk: what they show is the desk's answer, nobody else's page or machine is served, and a desk that dies loses no command."""
+import csv
+import io
 import json
 import os
 import random
@@ -77,6 +79,7 @@ def over_a_port(check, path, harms, hostile):
 def session(check, app, dossier, harms, hostile):
     loaded(check, app, dossier)
     texts(check, app, dossier)
+    lived(check, app, dossier)
     linked(check, app, harms)
     told_lost(check, app, dossier)
     addressed(check, app, harms, dossier)
@@ -140,6 +143,18 @@ def texts(check, app, dossier):
     check("what was not applied", work in unapplied)
     check("what is not known", client.get("/akn/gb/act/1900/1", headers=HEADERS).status_code == 404)
     check("a day before the act", client.get(f"{work}/eng@1999-01-01", headers=HEADERS).status_code in (400, 404, 409))
+
+
+def lived(check, app, dossier):
+    """The days of an act tell each event of the desk's own table of its life."""
+    work = dossier["act"]["FRBRuri"]
+    with tempfile.TemporaryDirectory(prefix="deskside-") as path:
+        desk.run(["batch"], b"".join(register.post(it) for it in register.commands(dossier)), path)
+        rows = list(csv.DictReader(io.StringIO(desk.run(["report", "lifecycle", work], b"", path)[1].decode())))
+    days = html.fromstring(app.test_client().get(work, headers=HEADERS).data).xpath("//main/ol/li")
+    told = [(day.xpath("a")[0].text, event.text.partition(",")[0]) for day in days for event in day.xpath("ul/li")]
+    check("the act's days begin with that of the act", rows[0]["type"] == "generation" and days[0].xpath("a")[0].text == rows[0]["date"])
+    check("and tell each event of its life", len(rows) == 8 and told == [(it["date"], it["id"]) for it in rows[1:]], f"{told} {rows}")
 
 
 def linked(check, app, harms):
