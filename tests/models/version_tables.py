@@ -72,6 +72,8 @@ def costs():
         for reading in ("force", "efficacy"):
             orders = told_orders(commands, work, viewpoint, reading)
             check(f"the cost of {name}, {reading}", cost(orders, touched), want)
+        both = sum(cost(told_orders(commands, work, viewpoint, reading), touched) for reading in ("force", "efficacy"))
+        check(f"the cost of {name}, as a command of a desk", both, 2 * want)
 
 
 def agreements():

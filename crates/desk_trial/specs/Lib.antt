@@ -2,3 +2,4 @@ pub mod Bearing
 pub mod Knowing
 pub mod Commands
 pub mod Bytes
+pub mod Tabling

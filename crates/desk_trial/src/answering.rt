@@ -37,7 +37,7 @@ fn asked<D: Desk, L: Ledger>(
     if question.viewpoint < desk.front() {
         desk.ask_past(alloc, question, steps)
     } else {
-        desk.ask(alloc, question, steps)
+        desk.ask(alloc, question)
     }
 }
 

@@ -14,12 +14,13 @@ mod replies;
 mod settings;
 mod stop;
 mod store;
+mod tabling;
 
 ghost use Rattle.std.specs.Prelude.{◌≡◌};
 
-use desk_base::{ListClock, Steps};
+use desk_base::{ListClock, Memory, Steps};
 use law_keeper::MapKeeper;
-use law_office::{Book, Office};
+use law_office::Office;
 use law_register::Desk;
 use lines::told_of_line;
 use replies::{marks_line, refused_line};
@@ -32,6 +33,7 @@ use std::sync::ledger::{Blank, Ledger};
 use std::thread::Threads;
 use stop::Stop;
 use store::{clock_of, keeper_of, kept_line, opened_line, reopened_line, viewed_line};
+use tabling::told_of_tables;
 
 /// How many bytes are read, and written, at a time.
 const PIECE: usize = 65_536;
@@ -50,6 +52,19 @@ fn write_line<W: Write + Drop>(
     Ok(())
 }
 
+// What is told of a line that asks for tables, or of any that a desk answers.
+fn told_by_office<L: Ledger>(
+    alloc: Global,
+    office: &mut Office<'_, '_, MapKeeper, ListClock>,
+    line: &[u8],
+    steps: &mut Steps<L>,
+) -> Result<Vec<u8>, Memory> {
+    match told_of_tables(alloc, office, line, steps)? {
+        Some(told) => Ok(told),
+        None => told_of_line(alloc, office, line, steps),
+    }
+}
+
 // Tells of a line that an office answers. After the line `front` what was written is handed on.
 fn tell_line<W: Write + Drop, L: Ledger>(
     alloc: Global,
@@ -61,7 +76,7 @@ fn tell_line<W: Write + Drop, L: Ledger>(
     let told = if line == b"marks".as_slice() {
         marks_line(alloc, office.marks())?
     } else {
-        told_of_line(alloc, office, line, steps)?
+        told_by_office(alloc, office, line, steps)?
     };
     write_line(out, told.as_slice(), line == b"front".as_slice())
 }
@@ -110,15 +125,14 @@ fn serve<R: Read + Drop, W: Write + Drop, L: Ledger>(
     out: &mut BufWriter<W>,
     steps: &mut Steps<L>,
 ) -> Result<(), Stop> {
-    match Book::open(alloc, keeper) {
-        Ok(book) => {
-            let mut office = Office::new(keeper, clock, book);
+    match Office::open(alloc, keeper, clock, steps) {
+        Ok(mut office) => {
             let told = tell_all(alloc, &mut office, first, lines, out, steps);
             drop(office);
             told
         }
-        Err(fault) => {
-            let told = refused_line(alloc, fault)?;
+        Err(refused) => {
+            let told = refused_line(alloc, refused.fault)?;
             write_line(out, told.as_slice(), true)
         }
     }

@@ -5,7 +5,7 @@ use crate::settings::View;
 use desk_base::{Day, ListClock, LoadFault, Memory};
 use entry_codec::{DecodeFail, decode};
 use law_keeper::{KeepFault, Keeper, MapKeeper, payloads};
-use law_office::Book;
+use law_office::Opened;
 use law_register::Register;
 use std::alloc::Global;
 
@@ -125,10 +125,10 @@ pub fn opened_line(alloc: Global, register: &Register) -> Result<Vec<u8>, Memory
 
 /// The line of what an opening of a keeper says.
 pub fn reopened_line(alloc: Global, keeper: &mut MapKeeper) -> Result<Vec<u8>, Memory> {
-    match Book::open(alloc, keeper) {
-        Ok(book) => {
-            let line = opened_line(alloc, &book.register);
-            drop(book);
+    match Opened::open(alloc, keeper) {
+        Ok(opened) => {
+            let line = opened_line(alloc, &opened.register);
+            drop(opened);
             line
         }
         Err(fault) => refused_line(alloc, fault),

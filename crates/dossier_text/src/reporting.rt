@@ -21,7 +21,7 @@ use desk_base::{Day, Memory, Steps};
 use law_register::{Answer, AskFault, EnterFault, Question, Reading, Register, Replayer, Rule};
 use std::alloc::Global;
 use std::sync::ledger::Ledger;
-use viewpoints::Past;
+use viewpoints::answer_replayed;
 
 // The report of an answer, or of the rule that a question breaks.
 fn report_answer(alloc: Global, told: Result<Answer, AskFault>) -> Result<Report, Memory>
@@ -51,8 +51,7 @@ fn report_asked<L: Ledger, P: Replayer>(
 ) -> Result<Report, Memory>
     ensures { IfOk result (λ report. report_view report ≡ told_answer (answer_at register.entries question)) }
 {
-    let mut past = Past::new(alloc)?;
-    let told = past.answer_past(alloc, replayer, &register, &question, steps);
+    let told = answer_replayed(alloc, replayer, &register, &question, steps);
     report_answer(alloc, told)
 }
 

@@ -1,5 +1,5 @@
 -- What a desk has after so many requests, and what is told of it.
-use Rattle.std.specs.Prelude.{ℕ, ◌≡◌, ◌≤◌, zero, suc, List, [], ◌∷◌, ◌++◌, length, codes, Option, Some, None, Result, Ok, Err}
+use Rattle.std.specs.Prelude.{ℕ, ◌≡◌, ◌≤◌, ◌+◌, zero, suc, List, [], ◌∷◌, ◌++◌, length, codes, Option, Some, None, Result, Ok, Err}
 use Rattle.std.specs.Fmt.{decimal}
 use Rattle.desk_base.specs.Streams.{risen}
 use Rattle.law_generator.specs.Acts.{first_day, work}
@@ -8,8 +8,9 @@ use Rattle.law_generator.specs.declared.generate_fault.GenerateFault.{GenerateFa
 use Rattle.law_generator.specs.declared.generate_fault.GenerateFault.TheVariants as fails
 use Rattle.law_generator.specs.declared.generated.Generated.{Generated}
 use Rattle.law_register.specs.Answer.Asking.{answer_at}
+use Rattle.law_register.specs.Answer.Renewing.{command_cost}
 use Rattle.law_register.specs.Desk.States.{Standing}
-use Rattle.law_register.specs.Register.Entering.{entered}
+use Rattle.law_register.specs.Register.Entering.{entered, entry_of}
 use Rattle.law_register.specs.Register.LawList.{front}
 use Rattle.law_register.specs.declared.answer.answer.Answer.{Answer}
 use Rattle.law_register.specs.declared.answer.queries.QueryRule.{QueryRule}
@@ -51,6 +52,18 @@ unfoldable pub course : ℕ → ℕ → Course
 course seed zero = record { entries = []; state = seed }
 course seed (suc n) =
     goes_on (course seed n).entries (suc n) (asked (suc n) (front (course seed n).entries) (course seed n).state)
+
+-- how many steps a request may take behind these entries: those of its command, on the first day
+abbrev pub sending_cost : List Entry → ℕ → Command → ℕ
+sending_cost entries request command = command_cost entries (entry_of sender request first_day None command)
+
+-- how many steps the first so many requests of a seed may take
+unfoldable pub course_cost : ℕ → ℕ → ℕ
+course_cost seed zero = 0
+course_cost seed (suc n) =
+    course_cost seed n
+    + sending_cost (course seed n).entries (suc n)
+    (asked (suc n) (front (course seed n).entries) (course seed n).state).command
 
 -- the entries of the register that a seed and a number of requests make
 unfoldable pub entries_of : ℕ → ℕ → List Entry

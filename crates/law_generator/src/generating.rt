@@ -4,7 +4,6 @@ ghost use Rattle.std.specs.Prelude.{◌≡◌, ◌+◌, ◌≤◌, [], true, IfO
 ghost use Rattle.law_generator.specs.Courses as spec;
 ghost use Rattle.law_generator.specs.Courses.{HasGenerateCause, IsCut, IsReady, Sends};
 ghost use Rattle.law_register.specs.Answer.Answers.{Answers};
-ghost use Rattle.law_register.specs.Answer.Costs.{bearing_at};
 ghost use Rattle.law_register.specs.Desk.States.{standing};
 ghost use Rattle.law_register.specs.Law.Spelling.{is_well_spelled};
 ghost use Rattle.law_register.specs.declared.answer.answer.Answer.{Answer};
@@ -55,14 +54,14 @@ fn send<D: Desk, L: Ledger>(
     requires ready { IsReady (standing (D.state desk.old)) }
     ensures sent { Sends (standing (D.state desk.old)) (standing (D.state desk.new)) request command result }
     ensures cause { HasGenerateCause (D.state desk.old).faults (D.state desk.new).faults result }
-    ensures steps { steps.new ≡ steps.old }
+    ensures steps { steps.new ≤ steps.old + spec.sending_cost (D.state desk.old).entries request command }
 {
     let outcome = desk.command(alloc, drafter, request, command, steps);
     run_of(outcome)
 }
 
 // Gives a desk the requests of a seed, one after another.
-#[tactic(auto, using(crate::proofs::Steps::course_none, crate::proofs::Steps::cut_first, crate::proofs::Steps::cut_at, crate::proofs::Steps::entries_go_on, crate::proofs::Steps::state_goes_on), unfolding(crate::specs::Courses::entries_of))]
+#[tactic(auto, using(crate::proofs::Steps::course_none, crate::proofs::Steps::cut_first, crate::proofs::Steps::cut_at), unfolding(crate::specs::Courses::entries_of))]
 fn send_all<D: Desk, L: Ledger>(
     alloc: Global,
     desk: &mut D,
@@ -75,7 +74,7 @@ fn send_all<D: Desk, L: Ledger>(
     ensures entries { OnOk result ((D.state desk.new).entries ≡ spec.entries_of seed count) }
     ensures cut { OnErr result (IsCut seed count (D.state desk.new).entries) }
     ensures cause { HasGenerateCause (D.state desk.old).faults (D.state desk.new).faults result }
-    ensures steps { steps.new ≡ steps.old }
+    ensures steps { steps.new ≤ steps.old + spec.course_cost seed count }
 {
     let drafter = sender(alloc)?;
     let mut draws = Draws { state: seed };
@@ -122,34 +121,21 @@ fn counts_of(told: Result<Answer, AskFault>) -> Result<(usize, usize), Memory>
 
 // How many modifications the text of the act on 2010-01-01 has, and how many it could not have.
 #[tactic(auto, unfolding(crate::specs::Courses::applied_at, crate::specs::Courses::unapplied_at))]
-fn asked<D: Desk, L: Ledger>(
-    alloc: Global,
-    desk: &D,
-    steps: &mut Steps<L>,
-) -> Result<(usize, usize), Memory>
+fn asked<D: Desk>(alloc: Global, desk: &D) -> Result<(usize, usize), Memory>
     ensures applied { IfOk result (λ counts. counts.0 ≡ spec.applied_at (D.state desk.now).entries) }
     ensures unapplied { IfOk result (λ counts. counts.1 ≡ spec.unapplied_at (D.state desk.now).entries) }
-    ensures steps { steps.new ≤ steps.old
-        + bearing_at (D.state desk.now).entries (spec.question (D.state desk.now).entries) }
 {
     let question = question_at(alloc, desk.front())?;
-    let told = desk.ask(alloc, &question, steps);
+    let told = desk.ask(alloc, &question);
     counts_of(told)
 }
 
 // What is told of so many requests that a desk was given.
 #[tactic(auto, unfolding(crate::specs::Courses::told_of))]
-fn told<D: Desk, L: Ledger>(
-    alloc: Global,
-    desk: &D,
-    commands: u16,
-    steps: &mut Steps<L>,
-) -> Result<Generated, Memory>
-    ensures told { IfOk result (λ generated. generated ≡ spec.told_of commands (D.state desk.now).entries) }
-    ensures steps { steps.new ≤ steps.old
-        + bearing_at (D.state desk.now).entries (spec.question (D.state desk.now).entries) }
+fn told<D: Desk>(alloc: Global, desk: &D, commands: u16) -> Result<Generated, Memory>
+    ensures { IfOk result (λ generated. generated ≡ spec.told_of commands (D.state desk.now).entries) }
 {
-    let (applied, unapplied) = asked(alloc, desk, steps)?;
+    let (applied, unapplied) = asked(alloc, desk)?;
     Ok(Generated {
         commands,
         accepted: desk.register().len(),
@@ -161,8 +147,8 @@ fn told<D: Desk, L: Ledger>(
 
 /// Gives an empty desk the requests of a seed, one after another, and tells what became of them. Its clock tells
 /// 2000-01-01 at each call. A refused command leaves the register as it was, and the next request comes. After an error
-/// the desk has the entries of the first requests.
-#[tactic(auto, using(crate::proofs::Steps::cut_last, crate::proofs::Steps::told_is, crate::proofs::Steps::costs))]
+/// the desk has the entries of the first requests. It takes no more steps than the commands of the requests may.
+#[tactic(auto, using(crate::proofs::Steps::cut_last, crate::proofs::Steps::told_is))]
 pub fn generate<D: Desk, L: Ledger>(
     alloc: Global,
     desk: &mut D,
@@ -176,9 +162,8 @@ pub fn generate<D: Desk, L: Ledger>(
     ensures entries { OnOk result ((D.state desk.new).entries ≡ spec.entries_of seed count) }
     ensures cut { OnErr result (IsCut seed count (D.state desk.new).entries) }
     ensures cause { HasGenerateCause (D.state desk.old).faults (D.state desk.new).faults result }
-    ensures steps { steps.new ≤ steps.old
-        + bearing_at (spec.entries_of seed count) (spec.question (spec.entries_of seed count)) }
+    ensures steps { steps.new ≤ steps.old + spec.course_cost seed count }
 {
     send_all(alloc, desk, seed, count, steps)?;
-    Ok(told(alloc, desk, count, steps)?)
+    Ok(told(alloc, desk, count)?)
 }

@@ -13,6 +13,7 @@ use Rattle.law_register.specs.Answer.Asking.{answer_at}
 use Rattle.law_register.specs.Answer.Previews.{preview_at}
 use Rattle.law_register.specs.Desk.Commands.{Ends}
 use Rattle.law_register.specs.Desk.States.{DeskState, Found, standing}
+use Rattle.law_register.specs.declared.answer.past_key.PastKey.{PastKey}
 use Rattle.law_register.specs.Law.Same.{same_command}
 use Rattle.law_register.specs.Register.Drafts.{draft_of, is_by}
 use Rattle.law_register.specs.Register.Entering.{entered, entered_by, entry_of}
@@ -180,30 +181,30 @@ entered_holds asked es day now said h = by_found asked es day (request_of es ask
 no_other : {A : Type 0} (response : Response) → is_created response ≡ true → is_created response ≡ false → A
 no_other response is other = absurd (let e : true ≡ false = sym is ∙ other in cc)
 
-outcome_holds : {D : Type 0} (state : D → DeskState) (crashes : D → Crashes Found) (last : Bool) (asked : Asked) (old new : D) (result : Result Outcome CommandFault) (response : Response)
-    → Does state crashes asked old new result → SaysOutcome last result response → is_created response ≡ true → Holds asked (state new).entries
-outcome_holds state crashes last asked old new (Ok said) response does says is =
+outcome_holds : {D : Type 0} (state : D → DeskState) (crashes : D → Crashes Found) (past : D → List PastKey) (last : Bool) (asked : Asked) (old new : D) (result : Result Outcome CommandFault) (response : Response)
+    → Does state crashes past asked old new result → SaysOutcome last result response → is_created response ≡ true → Holds asked (state new).entries
+outcome_holds state crashes past last asked old new (Ok said) response does says is =
     entered_holds asked does.outcome.settled does.outcome.day (state new).entries said does.outcome.entered
-outcome_holds state crashes last asked old new (Err (fails.Rule rule)) response does says is =
+outcome_holds state crashes past last asked old new (Err (fails.Rule rule)) response does says is =
     no_other response is (says_other (rule_reply last rule) response (other_status (rule_status rule) (rule_other rule) None last (compact_text (rule_data rule))) says)
-outcome_holds state crashes last asked old new (Err fails.KeeperFault) response does says is = no_other response is (ap is_created says ∙ keeper_other last)
-outcome_holds state crashes last asked old new (Err fails.Memory) response does says is = no_other response is (ap is_created says ∙ memory_other)
+outcome_holds state crashes past last asked old new (Err fails.KeeperFault) response does says is = no_other response is (ap is_created says ∙ keeper_other last)
+outcome_holds state crashes past last asked old new (Err fails.Memory) response does says is = no_other response is (ap is_created says ∙ memory_other)
 
-asking_holds : {D : Type 0} (state : D → DeskState) (crashes : D → Crashes Found) (last : Bool) (asking : Result Asking RequestRefusal) (old new : D) (response : Response)
-    → ServesAsking state crashes last asking old new response → is_created response ≡ true → (asked : Asked) × (asking ≡ Ok (asks.Command asked)) × Holds asked (state new).entries
-asking_holds state crashes last (Err refusal) old new response (stays, says) is = no_other response is (says_other (request_reply refusal last) response (request_other refusal last) says)
-asking_holds state crashes last (Ok asks.Front) old new response (stays, says) is =
+asking_holds : {D : Type 0} (state : D → DeskState) (crashes : D → Crashes Found) (past : D → List PastKey) (last : Bool) (asking : Result Asking RequestRefusal) (old new : D) (response : Response)
+    → ServesAsking state crashes past last asking old new response → is_created response ≡ true → (asked : Asked) × (asking ≡ Ok (asks.Command asked)) × Holds asked (state new).entries
+asking_holds state crashes past last (Err refusal) old new response (stays, says) is = no_other response is (says_other (request_reply refusal last) response (request_other refusal last) says)
+asking_holds state crashes past last (Ok asks.Front) old new response (stays, says) is =
     no_other response is (says_other (front_reply last (front (state old).entries)) response refl says)
-asking_holds state crashes last (Ok (asks.Text text)) old new response (stays, says) is =
+asking_holds state crashes past last (Ok (asks.Text text)) old new response (stays, says) is =
     no_other response is (says_other (answer_reply last (answer_at (state old).entries (question_at (front (state old).entries) text))) response (answer_other last (answer_at (state old).entries (question_at (front (state old).entries) text))) says)
-asking_holds state crashes last (Ok (asks.Preview preview)) old new response (stays, says) is =
+asking_holds state crashes past last (Ok (asks.Preview preview)) old new response (stays, says) is =
     let answer = preview_at (state old).entries preview.drafter (question_previewed preview) in
     no_other response is (says_other (answer_reply last answer) response (answer_other last answer) says)
-asking_holds state crashes last (Ok (asks.Draft drafter)) old new response (stays, says) is =
+asking_holds state crashes past last (Ok (asks.Draft drafter)) old new response (stays, says) is =
     no_other response is (says_other (draft_reply last (draft_of drafter (state old).entries)) response refl says)
-asking_holds state crashes last (Ok (asks.Command asked)) old new response (inl (stays, says)) is = no_other response is (ap is_created says ∙ memory_other)
-asking_holds state crashes last (Ok (asks.Command asked)) old new response (inr (result, does, says)) is =
-    (asked, refl, outcome_holds state crashes last asked old new result response does says is)
+asking_holds state crashes past last (Ok (asks.Command asked)) old new response (inl (stays, says)) is = no_other response is (ap is_created says ∙ memory_other)
+asking_holds state crashes past last (Ok (asks.Command asked)) old new response (inr (result, does, says)) is =
+    (asked, refl, outcome_holds state crashes past last asked old new result response does says is)
 
 holds_more : (asked : Asked) (a b : List Entry) → BeginWith a b → Holds asked a → Holds asked b
 holds_more asked a b (more, is) h = record {
@@ -223,17 +224,17 @@ acknowledged_more : (es : List Exchange) (a b : List Entry) → BeginWith a b �
 acknowledged_more [] a b begins all = tt
 acknowledged_more (e ∷ es) a b begins (first, rest) = ((λ is. asked_more e a b begins (first is)), acknowledged_more es a b begins rest)
 
-pub acknowledged_stand : {D : Type 0} (state : D → DeskState) (crashes : D → Crashes Found) (es : List Exchange) (old new : D) → AreServed state crashes es old new → AreAcknowledged (state new).entries es
-acknowledged_stand state crashes [] old new same = tt
-acknowledged_stand state crashes (e ∷ es) old new (mid, serves, more) = (
-  (λ is. asked_more e (state mid).entries (state new).entries (entries_grow state crashes es mid new more)
-      (asking_holds state crashes e.request.last (asking_of e.request) old mid e.response serves is)),
-  acknowledged_stand state crashes es mid new more,
+pub acknowledged_stand : {D : Type 0} (state : D → DeskState) (crashes : D → Crashes Found) (past : D → List PastKey) (es : List Exchange) (old new : D) → AreServed state crashes past es old new → AreAcknowledged (state new).entries es
+acknowledged_stand state crashes past [] old new same = tt
+acknowledged_stand state crashes past (e ∷ es) old new (mid, serves, more) = (
+  (λ is. asked_more e (state mid).entries (state new).entries (entries_grow state crashes past es mid new more)
+      (asking_holds state crashes past e.request.last (asking_of e.request) old mid e.response serves is)),
+  acknowledged_stand state crashes past es mid new more,
 )
 
-pub acknowledged_last : {D : Type 0} (state : D → DeskState) (crashes : D → Crashes Found) → ((desk : D) → AreCrashes (crashes desk)) → (before after : List Exchange) (old mid new : D)
-    → AreServed state crashes before old mid → AreServed state crashes after mid new → IsKept state crashes old
+pub acknowledged_last : {D : Type 0} (state : D → DeskState) (crashes : D → Crashes Found) (past : D → List PastKey) → ((desk : D) → AreCrashes (crashes desk)) → (before after : List Exchange) (old mid new : D)
+    → AreServed state crashes past before old mid → AreServed state crashes past after mid new → IsKept state crashes old
     → (found : Found) → (crashes new).left_since (crashes mid).moment found → (entries : List Entry) × (found ≡ Ok entries) × AreAcknowledged entries before
-acknowledged_last state crashes are before after old mid new first second kept found since =
-    let (entries, is, begins) = found_after state crashes are after mid new second (kept_on state crashes before old mid first kept) found since in
-    (entries, is, acknowledged_more before (state mid).entries entries begins (acknowledged_stand state crashes before old mid first))
+acknowledged_last state crashes past are before after old mid new first second kept found since =
+    let (entries, is, begins) = found_after state crashes past are after mid new second (kept_on state crashes past before old mid first kept) found since in
+    (entries, is, acknowledged_more before (state mid).entries entries begins (acknowledged_stand state crashes past before old mid first))

@@ -6,6 +6,7 @@ use Rattle.law_register.proofs.Apart.{same_answer, same_draft, same_preview}
 use Rattle.law_register.specs.Answer.Asking.{answer_at}
 use Rattle.law_register.specs.Answer.Previews.{own_entries, preview_at}
 use Rattle.law_register.specs.Desk.States.{DeskState, Found}
+use Rattle.law_register.specs.declared.answer.past_key.PastKey.{PastKey}
 use Rattle.law_register.specs.Register.Drafts.{draft_of}
 use Rattle.law_register.specs.Register.LawList.{front}
 use Rattle.law_register.specs.declared.register.entry.Entry.{Entry}
@@ -60,15 +61,15 @@ same_reply drafter one other day later last (Ok (asks.Draft who)) alike own =
 same_reply drafter one other day later last (Ok (asks.Command asked)) alike own = absurd own
 
 -- what a desk answers, of a request that is no command, is what is said where its entries stand
-said_by : {D : Type 0} (state : D → DeskState) (crashes : D → Crashes Found) (drafter : List ℕ) (last : Bool) (asking : Result Asking RequestRefusal)
-    (old new : D) (response : Response) → AsksOwn drafter asking → ServesAsking state crashes last asking old new response
+said_by : {D : Type 0} (state : D → DeskState) (crashes : D → Crashes Found) (past : D → List PastKey) (drafter : List ℕ) (last : Bool) (asking : Result Asking RequestRefusal)
+    (old new : D) (response : Response) → AsksOwn drafter asking → ServesAsking state crashes past last asking old new response
     → Says (reply_on (state old).entries 0 last asking) response
-said_by state crashes drafter last (Err refusal) old new response own serves = serves.1
-said_by state crashes drafter last (Ok asks.Front) old new response own serves = serves.1
-said_by state crashes drafter last (Ok (asks.Text text)) old new response own serves = serves.1
-said_by state crashes drafter last (Ok (asks.Preview preview)) old new response own serves = serves.1
-said_by state crashes drafter last (Ok (asks.Draft who)) old new response own serves = serves.1
-said_by state crashes drafter last (Ok (asks.Command asked)) old new response own serves = absurd own
+said_by state crashes past drafter last (Err refusal) old new response own serves = serves.1
+said_by state crashes past drafter last (Ok asks.Front) old new response own serves = serves.1
+said_by state crashes past drafter last (Ok (asks.Text text)) old new response own serves = serves.1
+said_by state crashes past drafter last (Ok (asks.Preview preview)) old new response own serves = serves.1
+said_by state crashes past drafter last (Ok (asks.Draft who)) old new response own serves = serves.1
+said_by state crashes past drafter last (Ok (asks.Command asked)) old new response own serves = absurd own
 
 bytes_said : (reply : Reply) (response : Response) → Says reply response → response ≢ MemoryFault → response_bytes response ≡ reply_bytes reply
 bytes_said reply response (inl made) had = ap response_bytes made
@@ -80,12 +81,12 @@ pub same_bytes : (drafter : List ℕ) (one other : List Entry) (day later : ℕ)
 same_bytes drafter one other day later request alike own =
     ap reply_bytes (same_reply drafter one other day later request.last (asking_of request) alike own)
 
-pub same_response : {D E : Type 0} (state : D → DeskState) (crashes : D → Crashes Found) (standing : E → DeskState) (leaving : E → Crashes Found)
+pub same_response : {D E : Type 0} (state : D → DeskState) (crashes : D → Crashes Found) (past : D → List PastKey) (standing : E → DeskState) (leaving : E → Crashes Found) (keeping : E → List PastKey)
     (drafter : List ℕ) (request : Request) (one next : D) (other after : E) (response answer : Response)
     → AreAlike drafter (state one).entries (standing other).entries → AsksOwn drafter (asking_of request)
-    → Serves state crashes request one next response → Serves standing leaving request other after answer
+    → Serves state crashes past request one next response → Serves standing leaving keeping request other after answer
     → response ≢ MemoryFault → answer ≢ MemoryFault → response_bytes response ≡ response_bytes answer
-same_response state crashes standing leaving drafter request one next other after response answer alike own serves serving had has =
-    bytes_said _ response (said_by state crashes drafter request.last (asking_of request) one next response own serves) had
+same_response state crashes past standing leaving keeping drafter request one next other after response answer alike own serves serving had has =
+    bytes_said _ response (said_by state crashes past drafter request.last (asking_of request) one next response own serves) had
     ∙ same_bytes drafter (state one).entries (standing other).entries 0 0 request alike own
-    ∙ sym (bytes_said _ answer (said_by standing leaving drafter request.last (asking_of request) other after answer own serving) has)
+    ∙ sym (bytes_said _ answer (said_by standing leaving keeping drafter request.last (asking_of request) other after answer own serving) has)

@@ -6,6 +6,7 @@ use Rattle.desk_base.specs.Clocks.{GivesDay, later_days}
 use Rattle.desk_base.specs.Crashes.{Crashes}
 use Rattle.law_register.specs.Desk.Commands.{AreSettled, Ends}
 use Rattle.law_register.specs.Desk.States.{DeskState, Found, standing}
+use Rattle.law_register.specs.declared.answer.past_key.PastKey.{PastKey}
 use Rattle.law_register.specs.Register.Entering.{entered}
 use Rattle.law_register.specs.declared.desk.command_fault.CommandFault.{CommandFault}
 use Rattle.law_register.specs.declared.desk.command_fault.CommandFault.TheVariants as fails
@@ -72,7 +73,7 @@ record IsOn {D : Type 0} (state : D → DeskState) (last : Bool) (asking : Resul
   pub none_pending : (state new).pending ≡ None
   pub with_days : (later : ℕ → ℕ) → AreDays (state new).days later → IsSaidOn state last asking old new response later
 
-module _ {D : Type 0} (state : D → DeskState) (crashes : D → Crashes Found) where
+module _ {D : Type 0} (state : D → DeskState) (crashes : D → Crashes Found) (past : D → List PastKey) where
   outcome_on : (last : Bool) (asked : Asked) (old new : D) (result : Result Outcome CommandFault) (response : Response)
       → Ends asked.drafter asked.request asked.command (standing (state old)) (standing (state new)) result → SaysOutcome last result response
       → (state old).pending ≡ None → response ≢ MemoryFault → fault_told response ≡ 0 → IsOn state last (Ok (asks.Command asked)) old new response
@@ -105,13 +106,13 @@ module _ {D : Type 0} (state : D → DeskState) (crashes : D → Crashes Found) 
   outcome_on last asked old new (Err fails.KeeperFault) response is says none had quiet = absurd (omega (arith, quiet, ap fault_told says))
   outcome_on last asked old new (Err fails.Memory) response is says none had quiet = absurd (had says)
 
-  command_on : (last : Bool) (asked : Asked) (old new : D) (response : Response) → ServesCommand state crashes last asked old new response
+  command_on : (last : Bool) (asked : Asked) (old new : D) (response : Response) → ServesCommand state crashes past last asked old new response
       → (state old).pending ≡ None → response ≢ MemoryFault → fault_told response ≡ 0 → IsOn state last (Ok (asks.Command asked)) old new response
   command_on last asked old new response (inl (stays, fault)) none had quiet = absurd (had fault)
   command_on last asked old new response (inr (result, does, says)) none had quiet =
       outcome_on last asked old new result response does.outcome says none had quiet
 
-  asking_on : (last : Bool) (asking : Result Asking RequestRefusal) (old new : D) (response : Response) → ServesAsking state crashes last asking old new response
+  asking_on : (last : Bool) (asking : Result Asking RequestRefusal) (old new : D) (response : Response) → ServesAsking state crashes past last asking old new response
       → (state old).pending ≡ None → response ≢ MemoryFault → fault_told response ≡ 0 → IsOn state last asking old new response
   asking_on last (Ok (asks.Command asked)) old new response serves none had quiet = command_on last asked old new response serves none had quiet
   asking_on last asking old new response (stays, says) none had quiet = record {
@@ -158,19 +159,19 @@ joined state request response old mid new responses members others on = record {
   none_pending = others.none_pending;
 }
 
-all_said : {D : Type 0} (state : D → DeskState) (crashes : D → Crashes Found) (es : List Exchange) (old new : D) (closing : List Response) (more : List Heard)
-    → AreServed state crashes es old new → (state old).pending ≡ None → HadMemory (responses_of es ++ closing) → faults_told es ≡ 0 → Closes closing more
+all_said : {D : Type 0} (state : D → DeskState) (crashes : D → Crashes Found) (past : D → List PastKey) (es : List Exchange) (old new : D) (closing : List Response) (more : List Heard)
+    → AreServed state crashes past es old new → (state old).pending ≡ None → HadMemory (responses_of es ++ closing) → faults_told es ≡ 0 → Closes closing more
     → AreSaidTo state old new (responses_of es ++ closing) (map heard.Request (requests_of es) ++ more)
-all_said state crashes [] old new closing more same none had quiet closes = record {
+all_said state crashes past [] old new closing more same none had quiet closes = record {
   days = some_days (state old).days;
   are_days = some_are_days (state old).days;
   said = closes.said (state old).entries (some_days (state old).days);
   entries = ap (λ d. (state d).entries) same ∙ closes.entries (state old).entries (some_days (state old).days);
   none_pending = ap (λ d. (state d).pending) same ∙ none;
 }
-all_said state crashes (e ∷ es) old new closing more (mid, serves, rest) none (had, have) quiet closes =
-    let one = asking_on state crashes e.request.last (asking_of e.request) old mid e.response serves none had (omega (arith, quiet)) in
-    let others = all_said state crashes es mid new closing more rest one.none_pending have (omega (arith, quiet)) closes in
+all_said state crashes past (e ∷ es) old new closing more (mid, serves, rest) none (had, have) quiet closes =
+    let one = asking_on state crashes past e.request.last (asking_of e.request) old mid e.response serves none had (omega (arith, quiet)) in
+    let others = all_said state crashes past es mid new closing more rest one.none_pending have (omega (arith, quiet)) closes in
     joined state e.request e.response old mid new (responses_of es ++ closing) (map heard.Request (requests_of es) ++ more) others (one.with_days others.days others.are_days)
 
 none_told : (n : ℕ) → (n ≢ 0 → ⊥) → n ≡ 0
@@ -191,10 +192,10 @@ closes_at_end closing none = record { said = λ entries days. ap responses_bytes
 closes_refused : (closing : List Response) (refusal : MessageRefusal) → closing ≡ refused refusal ∷ [] → Closes closing (heard.Refused refusal ∷ [])
 closes_refused closing refusal is = record { said = λ entries days. ap responses_bytes is; entries = λ entries days. refl }
 
-pub determined : {D : Type 0} (state : D → DeskState) (crashes : D → Crashes Found) (left over before now : Option (List ℕ)) (old new : D) (steps later : ℕ) (served : Served)
-    → IsStreamed state crashes left over before now old new steps later served → (state old).pending ≡ None → IsFaultless served
+pub determined : {D : Type 0} (state : D → DeskState) (crashes : D → Crashes Found) (past : D → List PastKey) (left over before now : Option (List ℕ)) (old new : D) (steps later : ℕ) (served : Served)
+    → IsStreamed state crashes past left over before now old new steps later served → (state old).pending ≡ None → IsFaultless served
     → IsDetermined left before now (state old).entries (state old).days (state new).entries × ((state new).pending ≡ None)
-determined state crashes left over before now old new steps later served s none faultless =
+determined state crashes past left over before now old new steps later served s none faultless =
     by served.end faultless.whole s.ends s.puts
   where
     quiet : faults_told s.exchanges ≡ 0
@@ -203,7 +204,7 @@ determined state crashes left over before now old new steps later served s none 
     put : (more : List Heard) → HearsAll left (requests_of s.exchanges) more → Closes s.closing more → AreWritten before now (responses_of s.exchanges ++ s.closing)
         → IsDetermined left before now (state old).entries (state old).days (state new).entries × ((state new).pending ≡ None)
     put more hears closes written =
-        let all = all_said state crashes s.exchanges old new s.closing more s.answered none written.had_memory quiet closes in (
+        let all = all_said state crashes past s.exchanges old new s.closing more s.answered none written.had_memory quiet closes in (
           record {
             members = map heard.Request (requests_of s.exchanges) ++ more;
             heard = all_heard left (requests_of s.exchanges) more hears;

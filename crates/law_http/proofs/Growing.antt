@@ -4,6 +4,7 @@ use Rattle.std.proofs.lemmas.List.{append-nil}
 use Rattle.desk_base.specs.Crashes.{AreCrashes, Crashes, LeavesOnly, LeavesSince}
 use Rattle.law_register.specs.Desk.Commands.{AreSettled, Ends, IsFoundBetween, LeavesBetween, LeavesNoMore}
 use Rattle.law_register.specs.Desk.States.{DeskState, Found, IsFoundOf, Standing, standing}
+use Rattle.law_register.specs.declared.answer.past_key.PastKey.{PastKey}
 use Rattle.law_register.specs.Register.Entering.{entered, entered_by, entry_of}
 use Rattle.law_register.specs.Register.Verdicts.{verdict}
 use Rattle.law_register.specs.declared.desk.command_fault.CommandFault.{CommandFault}
@@ -17,7 +18,7 @@ use Rattle.law_register.specs.declared.register.verdict.Verdict.TheVariants.{Acc
 use Rattle.akn_json.specs.declared.asked.Asked.{Asked}
 use Rattle.law_http.specs.Asking.{asking_of}
 use Rattle.law_http.specs.Lasting.{BeginWith, FindsAfter, IsFoundAmong, IsKept, StoodAmong}
-use Rattle.law_http.specs.Serving.{Does, Serves, ServesAsking, ServesCommand, Stays}
+use Rattle.law_http.specs.Serving.{Does, Serves, ServesAsking, ServesCommand}
 use Rattle.law_http.specs.Streaming.{AreServed, Exchange}
 use Rattle.law_http.specs.declared.asking.Asking.{Asking}
 use Rattle.law_http.specs.declared.asking.Asking.TheVariants as asks
@@ -68,14 +69,14 @@ record Step {D : Type 0} (state : D → DeskState) (crashes : D → Crashes Foun
   pub left : IsKept state crashes old → (t : ℕ) (found : Found) → t ≤ (crashes old).moment → (crashes new).left_since t found
       → (crashes old).left_since t found ⊎ IsFoundBetween (state old) (state new) found
 
-stays_step : {D : Type 0} (state : D → DeskState) (crashes : D → Crashes Found) (old new : D) → Stays state crashes old new → Step state crashes old new
-stays_step state crashes old new stays =
-    let only : IsKept state crashes old → LeavesOnly (crashes old).may_leave (crashes old) (crashes new) = λ k. stays.crash k.tells in record {
-      grows = begins_same (state old).entries (state new).entries (ap (λ (s : DeskState). s.entries) stays.same);
+same_step : {D : Type 0} (state : D → DeskState) (crashes : D → Crashes Found) (old new : D) → state new ≡ state old → LeavesNoMore (crashes old) (crashes new) → Step state crashes old new
+same_step state crashes old new same crash =
+    let only : IsKept state crashes old → LeavesOnly (crashes old).may_leave (crashes old) (crashes new) = λ k. crash k.tells in record {
+      grows = begins_same (state old).entries (state new).entries (ap (λ (s : DeskState). s.entries) same);
       kept = λ k. record {
         tells = (only k).tells;
         tells_moments = ((only k).any_moment k.tells_moments).tells;
-        durable = λ found may. subst (λ (s : DeskState). IsFoundOf s.entries s.pending found) (sym stays.same) (k.durable found ((only k).now found may));
+        durable = λ found may. subst (λ (s : DeskState). IsFoundOf s.entries s.pending found) (sym same) (k.durable found ((only k).now found may));
       };
       later = λ k. ((only k).any_moment k.tells_moments).later;
       left = λ k t found le since. sides (((only k).any_moment k.tells_moments).before t found le since) (λ may. inl (k.durable found may));
@@ -85,9 +86,9 @@ stays_step state crashes old new stays =
     sides (inl a) f = inl a
     sides (inr b) f = inr (f b)
 
-does_step : {D : Type 0} (state : D → DeskState) (crashes : D → Crashes Found) (asked : Asked) (old new : D) (result : Result Outcome CommandFault)
-    → Does state crashes asked old new result → Step state crashes old new
-does_step state crashes asked old new result does =
+does_step : {D : Type 0} (state : D → DeskState) (crashes : D → Crashes Found) (past : D → List PastKey) (asked : Asked) (old new : D) (result : Result Outcome CommandFault)
+    → Does state crashes past asked old new result → Step state crashes old new
+does_step state crashes past asked old new result does =
     let only : IsKept state crashes old → LeavesOnly (IsFoundBetween (state old) (state new)) (crashes old) (crashes new) = λ k. does.crash k.tells in record {
       grows = ends_begin asked.drafter asked.request asked.command (standing (state old)) (standing (state new)) result does.outcome;
       kept = λ k. record {
@@ -99,38 +100,38 @@ does_step state crashes asked old new result does =
       left = λ k. ((only k).any_moment k.tells_moments).before;
     }
 
-asking_step : {D : Type 0} (state : D → DeskState) (crashes : D → Crashes Found) (last : Bool) (asking : Result Asking RequestRefusal) (old new : D) (response : Response)
-    → ServesAsking state crashes last asking old new response → Step state crashes old new
-asking_step state crashes last (Err refusal) old new response (stays, says) = stays_step state crashes old new stays
-asking_step state crashes last (Ok asks.Front) old new response (stays, says) = stays_step state crashes old new stays
-asking_step state crashes last (Ok (asks.Text text)) old new response (stays, says) = stays_step state crashes old new stays
-asking_step state crashes last (Ok (asks.Preview preview)) old new response (stays, says) = stays_step state crashes old new stays
-asking_step state crashes last (Ok (asks.Draft drafter)) old new response (stays, says) = stays_step state crashes old new stays
-asking_step state crashes last (Ok (asks.Command asked)) old new response (inl (stays, says)) = stays_step state crashes old new stays
-asking_step state crashes last (Ok (asks.Command asked)) old new response (inr (result, does, says)) = does_step state crashes asked old new result does
+asking_step : {D : Type 0} (state : D → DeskState) (crashes : D → Crashes Found) (past : D → List PastKey) (last : Bool) (asking : Result Asking RequestRefusal) (old new : D) (response : Response)
+    → ServesAsking state crashes past last asking old new response → Step state crashes old new
+asking_step state crashes past last (Err refusal) old new response (stays, says) = same_step state crashes old new stays.same stays.crash
+asking_step state crashes past last (Ok asks.Front) old new response (stays, says) = same_step state crashes old new stays.same stays.crash
+asking_step state crashes past last (Ok (asks.Text text)) old new response (stays, says) = same_step state crashes old new stays.same stays.crash
+asking_step state crashes past last (Ok (asks.Preview preview)) old new response (stays, says) = same_step state crashes old new stays.same stays.crash
+asking_step state crashes past last (Ok (asks.Draft drafter)) old new response (stays, says) = same_step state crashes old new stays.same stays.crash
+asking_step state crashes past last (Ok (asks.Command asked)) old new response (inl (stays, says)) = same_step state crashes old new stays.same stays.crash
+asking_step state crashes past last (Ok (asks.Command asked)) old new response (inr (result, does, says)) = does_step state crashes past asked old new result does
 
-step_of : {D : Type 0} (state : D → DeskState) (crashes : D → Crashes Found) (e : Exchange) (old new : D) → Serves state crashes e.request old new e.response → Step state crashes old new
-step_of state crashes e old new serves = asking_step state crashes e.request.last (asking_of e.request) old new e.response serves
+step_of : {D : Type 0} (state : D → DeskState) (crashes : D → Crashes Found) (past : D → List PastKey) (e : Exchange) (old new : D) → Serves state crashes past e.request old new e.response → Step state crashes old new
+step_of state crashes past e old new serves = asking_step state crashes past e.request.last (asking_of e.request) old new e.response serves
 
-pub entries_grow : {D : Type 0} (state : D → DeskState) (crashes : D → Crashes Found) (es : List Exchange) (old new : D) → AreServed state crashes es old new → BeginWith (state old).entries (state new).entries
-entries_grow state crashes [] old new same = begins_same (state old).entries (state new).entries (ap (λ d. (state d).entries) same)
-entries_grow state crashes (e ∷ es) old new (mid, serves, more) =
-    begins_then (state old).entries (state mid).entries (state new).entries (step_of state crashes e old mid serves).grows (entries_grow state crashes es mid new more)
+pub entries_grow : {D : Type 0} (state : D → DeskState) (crashes : D → Crashes Found) (past : D → List PastKey) (es : List Exchange) (old new : D) → AreServed state crashes past es old new → BeginWith (state old).entries (state new).entries
+entries_grow state crashes past [] old new same = begins_same (state old).entries (state new).entries (ap (λ d. (state d).entries) same)
+entries_grow state crashes past (e ∷ es) old new (mid, serves, more) =
+    begins_then (state old).entries (state mid).entries (state new).entries (step_of state crashes past e old mid serves).grows (entries_grow state crashes past es mid new more)
 
-pub kept_on : {D : Type 0} (state : D → DeskState) (crashes : D → Crashes Found) (es : List Exchange) (old new : D) → AreServed state crashes es old new → IsKept state crashes old → IsKept state crashes new
-kept_on state crashes [] old new same kept = subst (IsKept state crashes) (sym same) kept
-kept_on state crashes (e ∷ es) old new (mid, serves, more) kept = kept_on state crashes es mid new more ((step_of state crashes e old mid serves).kept kept)
+pub kept_on : {D : Type 0} (state : D → DeskState) (crashes : D → Crashes Found) (past : D → List PastKey) (es : List Exchange) (old new : D) → AreServed state crashes past es old new → IsKept state crashes old → IsKept state crashes new
+kept_on state crashes past [] old new same kept = subst (IsKept state crashes) (sym same) kept
+kept_on state crashes past (e ∷ es) old new (mid, serves, more) kept = kept_on state crashes past es mid new more ((step_of state crashes past e old mid serves).kept kept)
 
-pub moments_on : {D : Type 0} (state : D → DeskState) (crashes : D → Crashes Found) (es : List Exchange) (old new : D) → AreServed state crashes es old new → IsKept state crashes old → (crashes old).moment ≤ (crashes new).moment
-moments_on state crashes [] old new same kept = subst (λ d. (crashes old).moment ≤ (crashes d).moment) (sym same) (omega arith)
-moments_on state crashes (e ∷ es) old new (mid, serves, more) kept =
-    let step = step_of state crashes e old mid serves in
-    omega (arith, step.later kept, moments_on state crashes es mid new more (step.kept kept))
+pub moments_on : {D : Type 0} (state : D → DeskState) (crashes : D → Crashes Found) (past : D → List PastKey) (es : List Exchange) (old new : D) → AreServed state crashes past es old new → IsKept state crashes old → (crashes old).moment ≤ (crashes new).moment
+moments_on state crashes past [] old new same kept = subst (λ d. (crashes old).moment ≤ (crashes d).moment) (sym same) (omega arith)
+moments_on state crashes past (e ∷ es) old new (mid, serves, more) kept =
+    let step = step_of state crashes past e old mid serves in
+    omega (arith, step.later kept, moments_on state crashes past es mid new more (step.kept kept))
 
 -- where a desk stood among more
-stood_behind : {D : Type 0} (state : D → DeskState) (crashes : D → Crashes Found) (e : Exchange) (es : List Exchange) (old mid new desk : D)
-    → Serves state crashes e.request old mid e.response → StoodAmong state crashes es mid new desk → StoodAmong state crashes (e ∷ es) old new desk
-stood_behind state crashes e es old mid new desk serves s = record {
+stood_behind : {D : Type 0} (state : D → DeskState) (crashes : D → Crashes Found) (past : D → List PastKey) (e : Exchange) (es : List Exchange) (old mid new desk : D)
+    → Serves state crashes past e.request old mid e.response → StoodAmong state crashes past es mid new desk → StoodAmong state crashes past (e ∷ es) old new desk
+stood_behind state crashes past e es old mid new desk serves s = record {
   before = e ∷ s.before;
   after = s.after;
   are = ap (λ l. e ∷ l) s.are;
@@ -138,51 +139,51 @@ stood_behind state crashes e es old mid new desk serves s = record {
   serves = s.serves;
 }
 
-found_behind : {D : Type 0} (state : D → DeskState) (crashes : D → Crashes Found) (e : Exchange) (es : List Exchange) (old mid new : D) (found : Found)
-    → Serves state crashes e.request old mid e.response → IsFoundAmong state crashes es mid new found → IsFoundAmong state crashes (e ∷ es) old new found
-found_behind state crashes e es old mid new found serves f = record {
+found_behind : {D : Type 0} (state : D → DeskState) (crashes : D → Crashes Found) (past : D → List PastKey) (e : Exchange) (es : List Exchange) (old mid new : D) (found : Found)
+    → Serves state crashes past e.request old mid e.response → IsFoundAmong state crashes past es mid new found → IsFoundAmong state crashes past (e ∷ es) old new found
+found_behind state crashes past e es old mid new found serves f = record {
   desk = f.desk;
-  stood = stood_behind state crashes e es old mid new f.desk serves f.stood;
+  stood = stood_behind state crashes past e es old mid new f.desk serves f.stood;
   is = f.is;
-  grew = begins_then (state old).entries (state mid).entries (state f.desk).entries (step_of state crashes e old mid serves).grows f.grew;
+  grew = begins_then (state old).entries (state mid).entries (state f.desk).entries (step_of state crashes past e old mid serves).grows f.grew;
   grows = f.grows;
 }
 
-found_first : {D : Type 0} (state : D → DeskState) (crashes : D → Crashes Found) (es : List Exchange) (old new : D) (found : Found)
-    → AreServed state crashes es old new → IsFoundOf (state old).entries (state old).pending found → IsFoundAmong state crashes es old new found
-found_first state crashes es old new found served is = record {
+found_first : {D : Type 0} (state : D → DeskState) (crashes : D → Crashes Found) (past : D → List PastKey) (es : List Exchange) (old new : D) (found : Found)
+    → AreServed state crashes past es old new → IsFoundOf (state old).entries (state old).pending found → IsFoundAmong state crashes past es old new found
+found_first state crashes past es old new found served is = record {
   desk = old;
   stood = record { before = []; after = es; are = refl; served = refl; serves = served };
   is = is;
   grew = begins_same (state old).entries (state old).entries refl;
-  grows = entries_grow state crashes es old new served;
+  grows = entries_grow state crashes past es old new served;
 }
 
 -- what a crash since a moment before these left before them, or one of the desks among them
-left_among : {D : Type 0} (state : D → DeskState) (crashes : D → Crashes Found) (es : List Exchange) (old new : D) → AreServed state crashes es old new → IsKept state crashes old
-    → (t : ℕ) (found : Found) → t ≤ (crashes old).moment → (crashes new).left_since t found → (crashes old).left_since t found ⊎ IsFoundAmong state crashes es old new found
-left_among state crashes [] old new same kept t found le since = inl (subst (λ d. (crashes d).left_since t found) same since)
-left_among state crashes (e ∷ es) old new (mid, serves, more) kept t found le since =
-    let step = step_of state crashes e old mid serves in
-    by (left_among state crashes es mid new more (step.kept kept) t found (omega (arith, le, step.later kept)) since)
+left_among : {D : Type 0} (state : D → DeskState) (crashes : D → Crashes Found) (past : D → List PastKey) (es : List Exchange) (old new : D) → AreServed state crashes past es old new → IsKept state crashes old
+    → (t : ℕ) (found : Found) → t ≤ (crashes old).moment → (crashes new).left_since t found → (crashes old).left_since t found ⊎ IsFoundAmong state crashes past es old new found
+left_among state crashes past [] old new same kept t found le since = inl (subst (λ d. (crashes d).left_since t found) same since)
+left_among state crashes past (e ∷ es) old new (mid, serves, more) kept t found le since =
+    let step = step_of state crashes past e old mid serves in
+    by (left_among state crashes past es mid new more (step.kept kept) t found (omega (arith, le, step.later kept)) since)
   where
-    early : (crashes old).left_since t found ⊎ IsFoundBetween (state old) (state mid) found → (crashes old).left_since t found ⊎ IsFoundAmong state crashes (e ∷ es) old new found
+    early : (crashes old).left_since t found ⊎ IsFoundBetween (state old) (state mid) found → (crashes old).left_since t found ⊎ IsFoundAmong state crashes past (e ∷ es) old new found
     early (inl before) = inl before
-    early (inr (inl is)) = inr (found_first state crashes (e ∷ es) old new found (mid, serves, more) is)
-    early (inr (inr is)) = inr (found_behind state crashes e es old mid new found serves (found_first state crashes es mid new found more is))
+    early (inr (inl is)) = inr (found_first state crashes past (e ∷ es) old new found (mid, serves, more) is)
+    early (inr (inr is)) = inr (found_behind state crashes past e es old mid new found serves (found_first state crashes past es mid new found more is))
 
-    by : (crashes mid).left_since t found ⊎ IsFoundAmong state crashes es mid new found → (crashes old).left_since t found ⊎ IsFoundAmong state crashes (e ∷ es) old new found
-    by (inl before) = early ((step_of state crashes e old mid serves).left kept t found le before)
-    by (inr later) = inr (found_behind state crashes e es old mid new found serves later)
+    by : (crashes mid).left_since t found ⊎ IsFoundAmong state crashes past es mid new found → (crashes old).left_since t found ⊎ IsFoundAmong state crashes past (e ∷ es) old new found
+    by (inl before) = early ((step_of state crashes past e old mid serves).left kept t found le before)
+    by (inr later) = inr (found_behind state crashes past e es old mid new found serves later)
 
 -- a crash at any moment since the first of these
-pub found_among : {D : Type 0} (state : D → DeskState) (crashes : D → Crashes Found) → ((desk : D) → AreCrashes (crashes desk)) → (es : List Exchange) (old new : D) → AreServed state crashes es old new
-    → IsKept state crashes old → (found : Found) → (crashes new).left_since (crashes old).moment found → IsFoundAmong state crashes es old new found
-found_among state crashes are es old new served kept found since =
-    by (left_among state crashes es old new served kept (crashes old).moment found (omega arith) since)
+pub found_among : {D : Type 0} (state : D → DeskState) (crashes : D → Crashes Found) (past : D → List PastKey) → ((desk : D) → AreCrashes (crashes desk)) → (es : List Exchange) (old new : D) → AreServed state crashes past es old new
+    → IsKept state crashes old → (found : Found) → (crashes new).left_since (crashes old).moment found → IsFoundAmong state crashes past es old new found
+found_among state crashes past are es old new served kept found since =
+    by (left_among state crashes past es old new served kept (crashes old).moment found (omega arith) since)
   where
-    by : (crashes old).left_since (crashes old).moment found ⊎ IsFoundAmong state crashes es old new found → IsFoundAmong state crashes es old new found
-    by (inl before) = found_first state crashes es old new found served (kept.durable found ((are old).only_now kept.tells_moments found before))
+    by : (crashes old).left_since (crashes old).moment found ⊎ IsFoundAmong state crashes past es old new found → IsFoundAmong state crashes past es old new found
+    by (inl before) = found_first state crashes past es old new found served (kept.durable found ((are old).only_now kept.tells_moments found before))
     by (inr is) = is
 
 found_begins : (entries : List Entry) (pending : Option Entry) (found : Found) → IsFoundOf entries pending found → FindsAfter entries found
@@ -191,9 +192,9 @@ found_begins entries (Some e) found (inl is) = (entries, is, begins_same entries
 found_begins entries (Some e) found (inr is) = (entries ++ e ∷ [], is, (e ∷ [], refl))
 
 -- so it leaves what stood at that moment
-pub found_after : {D : Type 0} (state : D → DeskState) (crashes : D → Crashes Found) → ((desk : D) → AreCrashes (crashes desk)) → (es : List Exchange) (old new : D) → AreServed state crashes es old new
+pub found_after : {D : Type 0} (state : D → DeskState) (crashes : D → Crashes Found) (past : D → List PastKey) → ((desk : D) → AreCrashes (crashes desk)) → (es : List Exchange) (old new : D) → AreServed state crashes past es old new
     → IsKept state crashes old → (found : Found) → (crashes new).left_since (crashes old).moment found → FindsAfter (state old).entries found
-found_after state crashes are es old new served kept found since =
-    let among = found_among state crashes are es old new served kept found since in
+found_after state crashes past are es old new served kept found since =
+    let among = found_among state crashes past are es old new served kept found since in
     let (entries, is, begins) = found_begins (state among.desk).entries (state among.desk).pending found among.is in
     (entries, is, begins_then (state old).entries (state among.desk).entries entries among.grew begins)

@@ -3,6 +3,7 @@ use Rattle.std.proofs.Common.{◌≡◌, ◌∙◌, sym, ap, refl, ℕ, ◌+◌,
 use Rattle.desk_base.specs.Crashes.{Crashes}
 use Rattle.law_register.specs.Desk.Commands.{HasCommandCause}
 use Rattle.law_register.specs.Desk.States.{DeskState, Found}
+use Rattle.law_register.specs.declared.answer.past_key.PastKey.{PastKey}
 use Rattle.law_register.specs.declared.desk.command_fault.CommandFault.{CommandFault}
 use Rattle.law_register.specs.declared.desk.command_fault.CommandFault.TheVariants as fails
 use Rattle.law_register.specs.declared.register.verdict.Reply.{Reply as Outcome}
@@ -41,53 +42,53 @@ outcome_rises last (Err (fails.Rule rule)) response before now cause says = unmo
 outcome_rises last (Err fails.KeeperFault) response before now cause says = risen (2 ^ 64 - 1) (fault_told response) before now (ap fault_told says) cause
 outcome_rises last (Err fails.Memory) response before now cause says = unmoved (2 ^ 64 - 1) (fault_told response) before now (ap fault_told says) cause
 
-command_rises : {D : Type 0} (state : D → DeskState) (crashes : D → Crashes Found) (last : Bool) (asked : Asked) (old new : D) (response : Response)
-    → ServesCommand state crashes last asked old new response → RoseBy (fault_told response) (state old).faults (state new).faults
-command_rises state crashes last asked old new response (inl (stays, fault)) =
+command_rises : {D : Type 0} (state : D → DeskState) (crashes : D → Crashes Found) (past : D → List PastKey) (last : Bool) (asked : Asked) (old new : D) (response : Response)
+    → ServesCommand state crashes past last asked old new response → RoseBy (fault_told response) (state old).faults (state new).faults
+command_rises state crashes past last asked old new response (inl (stays, fault)) =
     unmoved (2 ^ 64 - 1) (fault_told response) (state old).faults (state new).faults (ap fault_told fault) (ap (λ (s : DeskState). s.faults) stays.same)
-command_rises state crashes last asked old new response (inr (result, does, says)) =
+command_rises state crashes past last asked old new response (inr (result, does, says)) =
     outcome_rises last result response (state old).faults (state new).faults does.cause says
 
-asking_rises : {D : Type 0} (state : D → DeskState) (crashes : D → Crashes Found) (last : Bool) (asking : Result Asking RequestRefusal) (old new : D) (response : Response)
-    → ServesAsking state crashes last asking old new response → RoseBy (fault_told response) (state old).faults (state new).faults
-asking_rises state crashes last (Err refusal) old new response (stays, says) =
+asking_rises : {D : Type 0} (state : D → DeskState) (crashes : D → Crashes Found) (past : D → List PastKey) (last : Bool) (asking : Result Asking RequestRefusal) (old new : D) (response : Response)
+    → ServesAsking state crashes past last asking old new response → RoseBy (fault_told response) (state old).faults (state new).faults
+asking_rises state crashes past last (Err refusal) old new response (stays, says) =
     unmoved (2 ^ 64 - 1) (fault_told response) (state old).faults (state new).faults (quiet (request_reply refusal last) response says) (ap (λ (s : DeskState). s.faults) stays.same)
-asking_rises state crashes last (Ok asks.Front) old new response (stays, says) =
+asking_rises state crashes past last (Ok asks.Front) old new response (stays, says) =
     unmoved (2 ^ 64 - 1) (fault_told response) (state old).faults (state new).faults (quiet (front_reply last (front (state old).entries)) response says) (ap (λ (s : DeskState). s.faults) stays.same)
-asking_rises state crashes last (Ok (asks.Text text)) old new response (stays, says) =
+asking_rises state crashes past last (Ok (asks.Text text)) old new response (stays, says) =
     unmoved (2 ^ 64 - 1) (fault_told response) (state old).faults (state new).faults (quiet (answer_reply last (answer_at (state old).entries (question_at (front (state old).entries) text))) response says) (ap (λ (s : DeskState). s.faults) stays.same)
-asking_rises state crashes last (Ok (asks.Preview preview)) old new response (stays, says) =
+asking_rises state crashes past last (Ok (asks.Preview preview)) old new response (stays, says) =
     let answer = preview_at (state old).entries preview.drafter (question_previewed preview) in
     unmoved (2 ^ 64 - 1) (fault_told response) (state old).faults (state new).faults (quiet (answer_reply last answer) response says) (ap (λ (s : DeskState). s.faults) stays.same)
-asking_rises state crashes last (Ok (asks.Draft drafter)) old new response (stays, says) =
+asking_rises state crashes past last (Ok (asks.Draft drafter)) old new response (stays, says) =
     unmoved (2 ^ 64 - 1) (fault_told response) (state old).faults (state new).faults (quiet (draft_reply last (draft_of drafter (state old).entries)) response says) (ap (λ (s : DeskState). s.faults) stays.same)
-asking_rises state crashes last (Ok (asks.Command asked)) old new response serves = command_rises state crashes last asked old new response serves
+asking_rises state crashes past last (Ok (asks.Command asked)) old new response serves = command_rises state crashes past last asked old new response serves
 
-pub faults_rise : {D : Type 0} (state : D → DeskState) (crashes : D → Crashes Found) (exchanges : List Exchange) (old new : D)
-    → AreServed state crashes exchanges old new → RoseBy (faults_told exchanges) (state old).faults (state new).faults
-faults_rise state crashes [] old new same = unmoved (2 ^ 64 - 1) 0 (state old).faults (state new).faults refl (ap (λ d. (state d).faults) same)
-faults_rise state crashes (e ∷ es) old new (mid, serves, more) =
+pub faults_rise : {D : Type 0} (state : D → DeskState) (crashes : D → Crashes Found) (past : D → List PastKey) (exchanges : List Exchange) (old new : D)
+    → AreServed state crashes past exchanges old new → RoseBy (faults_told exchanges) (state old).faults (state new).faults
+faults_rise state crashes past [] old new same = unmoved (2 ^ 64 - 1) 0 (state old).faults (state new).faults refl (ap (λ d. (state d).faults) same)
+faults_rise state crashes past (e ∷ es) old new (mid, serves, more) =
     then_risen (2 ^ 64 - 1) (fault_told e.response) (faults_told es) (state old).faults (state mid).faults (state new).faults
-    (asking_rises state crashes e.request.last (asking_of e.request) old mid e.response serves) (faults_rise state crashes es mid new more)
+    (asking_rises state crashes past e.request.last (asking_of e.request) old mid e.response serves) (faults_rise state crashes past es mid new more)
 
 -- the names of what the desk was lent
 
-command_origin : {D : Type 0} (state : D → DeskState) (crashes : D → Crashes Found) (last : Bool) (asked : Asked) (old new : D) (response : Response)
-    → ServesCommand state crashes last asked old new response → (state new).origin ≡ (state old).origin
-command_origin state crashes last asked old new response (inl (stays, fault)) = ap (λ (s : DeskState). s.origin) stays.same
-command_origin state crashes last asked old new response (inr (result, does, says)) = does.origin
+command_origin : {D : Type 0} (state : D → DeskState) (crashes : D → Crashes Found) (past : D → List PastKey) (last : Bool) (asked : Asked) (old new : D) (response : Response)
+    → ServesCommand state crashes past last asked old new response → (state new).origin ≡ (state old).origin
+command_origin state crashes past last asked old new response (inl (stays, fault)) = ap (λ (s : DeskState). s.origin) stays.same
+command_origin state crashes past last asked old new response (inr (result, does, says)) = does.origin
 
-asking_origin : {D : Type 0} (state : D → DeskState) (crashes : D → Crashes Found) (last : Bool) (asking : Result Asking RequestRefusal) (old new : D) (response : Response)
-    → ServesAsking state crashes last asking old new response → (state new).origin ≡ (state old).origin
-asking_origin state crashes last (Err refusal) old new response (stays, says) = ap (λ (s : DeskState). s.origin) stays.same
-asking_origin state crashes last (Ok asks.Front) old new response (stays, says) = ap (λ (s : DeskState). s.origin) stays.same
-asking_origin state crashes last (Ok (asks.Text text)) old new response (stays, says) = ap (λ (s : DeskState). s.origin) stays.same
-asking_origin state crashes last (Ok (asks.Preview preview)) old new response (stays, says) = ap (λ (s : DeskState). s.origin) stays.same
-asking_origin state crashes last (Ok (asks.Draft drafter)) old new response (stays, says) = ap (λ (s : DeskState). s.origin) stays.same
-asking_origin state crashes last (Ok (asks.Command asked)) old new response serves = command_origin state crashes last asked old new response serves
+asking_origin : {D : Type 0} (state : D → DeskState) (crashes : D → Crashes Found) (past : D → List PastKey) (last : Bool) (asking : Result Asking RequestRefusal) (old new : D) (response : Response)
+    → ServesAsking state crashes past last asking old new response → (state new).origin ≡ (state old).origin
+asking_origin state crashes past last (Err refusal) old new response (stays, says) = ap (λ (s : DeskState). s.origin) stays.same
+asking_origin state crashes past last (Ok asks.Front) old new response (stays, says) = ap (λ (s : DeskState). s.origin) stays.same
+asking_origin state crashes past last (Ok (asks.Text text)) old new response (stays, says) = ap (λ (s : DeskState). s.origin) stays.same
+asking_origin state crashes past last (Ok (asks.Preview preview)) old new response (stays, says) = ap (λ (s : DeskState). s.origin) stays.same
+asking_origin state crashes past last (Ok (asks.Draft drafter)) old new response (stays, says) = ap (λ (s : DeskState). s.origin) stays.same
+asking_origin state crashes past last (Ok (asks.Command asked)) old new response serves = command_origin state crashes past last asked old new response serves
 
-pub origin_stays : {D : Type 0} (state : D → DeskState) (crashes : D → Crashes Found) (exchanges : List Exchange) (old new : D)
-    → AreServed state crashes exchanges old new → (state new).origin ≡ (state old).origin
-origin_stays state crashes [] old new same = ap (λ d. (state d).origin) same
-origin_stays state crashes (e ∷ es) old new (mid, serves, more) =
-    origin_stays state crashes es mid new more ∙ asking_origin state crashes e.request.last (asking_of e.request) old mid e.response serves
+pub origin_stays : {D : Type 0} (state : D → DeskState) (crashes : D → Crashes Found) (past : D → List PastKey) (exchanges : List Exchange) (old new : D)
+    → AreServed state crashes past exchanges old new → (state new).origin ≡ (state old).origin
+origin_stays state crashes past [] old new same = ap (λ d. (state d).origin) same
+origin_stays state crashes past (e ∷ es) old new (mid, serves, more) =
+    origin_stays state crashes past es mid new more ∙ asking_origin state crashes past e.request.last (asking_of e.request) old mid e.response serves

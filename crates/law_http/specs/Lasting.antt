@@ -4,6 +4,7 @@ use Rattle.std.specs.List.{AllByRecursion, starts_with}
 use Rattle.akn_json.specs.declared.asked.Asked.{Asked}
 use Rattle.desk_base.specs.Crashes.{Crashes}
 use Rattle.law_register.specs.Desk.States.{DeskState, Found, IsFoundOf}
+use Rattle.law_register.specs.declared.answer.past_key.PastKey.{PastKey}
 use Rattle.law_register.specs.declared.register.entry.Entry.{Entry}
 use Rattle.law_http.specs.Asking.{asking_of}
 use Rattle.law_http.specs.Responses.{response_bytes}
@@ -27,13 +28,14 @@ module _ {D : Type 0} (state : D → DeskState) (crashes : D → Crashes Found) 
     pub durable : (found : Found) → (crashes desk).may_leave found
         → IsFoundOf (state desk).entries (state desk).pending found
 
+module _ {D : Type 0} (state : D → DeskState) (crashes : D → Crashes Found) (past : D → List PastKey) where
   -- a desk that stood between two of the exchanges, or before them, or behind them
   pub record StoodAmong (exchanges : List Exchange) (old new mid : D) : Type 0 where
     pub before : List Exchange
     pub after : List Exchange
     pub are : exchanges ≡ before ++ after
-    pub served : AreServed state crashes before old mid
-    pub serves : AreServed state crashes after mid new
+    pub served : AreServed state crashes past before old mid
+    pub serves : AreServed state crashes past after mid new
 
   -- what is found was there at some moment: the entries of a desk that stood among these, with the one that was pending
   -- or without it; and they are a front part of the entries in the end

@@ -1,18 +1,21 @@
 -- What a desk serves: what it answers to a request, and what comes of the desk.
-use Rattle.std.specs.Prelude.{◌≡◌, ◌⊎◌, ℕ, ◌+◌, Bool, true, false, List, [], ◌∷◌, ◌++◌, length, codes, Option, None, Some, Result, Ok, Err}
+use Rattle.std.specs.Prelude.{◌≡◌, ◌≤◌, ◌⊎◌, ℕ, ◌+◌, nat_lt, Bool, true, false, if◌then◌else◌, List, [], ◌∷◌, ◌++◌, length, codes, Option, None, Some, Result, Ok, Err}
+use Rattle.std.proofs.Common.{inl, inr}
 use Rattle.std.specs.Fmt.{decimal}
 use Rattle.serde_json.specs.Written.{compact_text}
 use Rattle.desk_base.specs.Crashes.{Crashes}
 use Rattle.law_register.specs.Answer.Asking.{answer_at}
-use Rattle.law_register.specs.Answer.Costs.{bearing_at}
+use Rattle.law_register.specs.Answer.PastAsking.{keys_asked, past_cost}
 use Rattle.law_register.specs.Answer.Previews.{preview_at, previewing_at}
-use Rattle.law_register.specs.Desk.Commands.{Ends, HasCommandCause, LeavesBetween, LeavesNoMore, mark_of, marks_after}
+use Rattle.law_register.specs.Desk.Commands.{Ends, HasCommandCause, LeavesBetween, LeavesNoMore, mark_of, marks_after, spending}
 use Rattle.law_register.specs.Desk.States.{DeskState, Found, IsDurable, IsSound, standing}
 use Rattle.law_register.specs.Register.Drafts.{draft_of}
 use Rattle.law_register.specs.Register.LawList.{front}
 use Rattle.law_register.specs.declared.answer.answer.Answer.{Answer}
+use Rattle.law_register.specs.declared.answer.past_key.PastKey.{PastKey}
 use Rattle.law_register.specs.declared.answer.queries.QueryRule.{QueryRule}
 use Rattle.law_register.specs.declared.answer.queries.QueryRule.TheVariants as query
+use Rattle.law_register.specs.declared.answer.question.Question.{Question}
 use Rattle.law_register.specs.declared.desk.command_fault.CommandFault.{CommandFault}
 use Rattle.law_register.specs.declared.desk.command_fault.CommandFault.TheVariants as fails
 use Rattle.law_register.specs.declared.register.draft.DraftItem.{DraftItem}
@@ -96,12 +99,33 @@ SaysOutcome last (Err (fails.Rule rule)) response = Says (rule_reply last rule) 
 SaysOutcome last (Err fails.KeeperFault) response = response ≡ KeeperFault last
 SaysOutcome last (Err fails.Memory) response = response ≡ MemoryFault
 
--- a desk of any kind: how it stands, and what a crash leaves of it
-module _ {D : Type 0} (state : D → DeskState) (crashes : D → Crashes Found) where
+-- a question asks for a viewpoint before the front
+abbrev pub is_past : List Entry → Question → Bool
+is_past entries q = nat_lt q.viewpoint (front entries)
+
+-- the keys of the tables of past viewpoints once a question is answered: at the front, or ahead of it, they are as before
+abbrev pub keys_answered : List Entry → Question → List PastKey → List PastKey
+keys_answered entries q keys = if is_past entries q then keys_asked entries q keys else keys
+
+-- how many ids are applied at most to answer a question: none at the front, or ahead of it
+abbrev pub answering_cost : List Entry → Question → List PastKey → ℕ
+answering_cost entries q keys = if is_past entries q then past_cost entries q keys else 0
+
+-- a desk of any kind: how it stands, what a crash leaves of it, and the keys of the tables that it keeps of past viewpoints
+module _ {D : Type 0} (state : D → DeskState) (crashes : D → Crashes Found) (past : D → List PastKey) where
   -- a call that changes nothing
   pub record Stays (old new : D) : Type 0 where
     pub same : state new ≡ state old
     pub crash : LeavesNoMore (crashes old) (crashes new)
+    pub keys : past new ≡ past old
+
+  -- a question that is answered so changes nothing but which tables are kept of past viewpoints; for want of memory it
+  -- may leave these too
+  pub record Asks (q : Question) (old new : D) (response : Response) : Type 0 where
+    pub same : state new ≡ state old
+    pub crash : LeavesNoMore (crashes old) (crashes new)
+    pub keys : (past new ≡ keys_answered (state old).entries q (past old))
+        ⊎ ((response ≡ MemoryFault) × (past new ≡ past old))
 
   -- a command that was asked for is done, with this outcome
   pub record Does (asked : Asked) (old new : D) (result : Result Outcome CommandFault) : Type 0 where
@@ -113,6 +137,7 @@ module _ {D : Type 0} (state : D → DeskState) (crashes : D → Crashes Found) 
     pub sound : IsSound (state new)
     pub durable : IsDurable (state new) (crashes new)
     pub origin : (state new).origin ≡ (state old).origin
+    pub keys : past new ≡ past old
 
   -- a command is done and its outcome said, or there was no memory for it before anything was done
   abbrev pub ServesCommand : Bool → Asked → D → D → Response → Type 0
@@ -125,7 +150,8 @@ module _ {D : Type 0} (state : D → DeskState) (crashes : D → Crashes Found) 
   ServesAsking last (Err refusal) old new response = Stays old new × Says (request_reply refusal last) response
   ServesAsking last (Ok asks.Front) old new response =
       Stays old new × Says (front_reply last (front (state old).entries)) response
-  ServesAsking last (Ok (asks.Text text)) old new response = Stays old new
+  ServesAsking last (Ok (asks.Text text)) old new response =
+      Asks (question_at (front (state old).entries) text) old new response
       × Says (answer_reply last (answer_at (state old).entries (question_at (front (state old).entries) text))) response
   ServesAsking last (Ok (asks.Preview preview)) old new response = Stays old new
       × Says (answer_reply last (preview_at (state old).entries preview.drafter (question_previewed preview))) response
@@ -137,15 +163,32 @@ module _ {D : Type 0} (state : D → DeskState) (crashes : D → Crashes Found) 
   abbrev pub Serves : Request → D → D → Response → Type 0
   Serves request old new response = ServesAsking request.last (asking_of request) old new response
 
--- the steps that an answer may take
-abbrev pub asking_cost : List Entry → Result Asking RequestRefusal → ℕ
-asking_cost entries (Err refusal) = 0
-asking_cost entries (Ok asks.Front) = 0
-asking_cost entries (Ok (asks.Text text)) = bearing_at entries (question_at (front entries) text)
-asking_cost entries (Ok (asks.Preview preview)) = previewing_at entries preview.drafter (question_previewed preview)
-asking_cost entries (Ok (asks.Draft drafter)) = 0
-asking_cost entries (Ok (asks.Command asked)) = 0
+  -- the steps that a command may take, by what came of it
+  abbrev pub commanding_cost : (last : Bool) (asked : Asked) (old new : D) (response : Response)
+      → ServesCommand last asked old new response → ℕ
+  commanding_cost last asked old new response (inl nothing) = 0
+  commanding_cost last asked old new response (inr (result, does, says)) =
+      spending asked.drafter asked.request asked.command (standing (state old)) (standing (state new)) result does.outcome
 
--- the steps that the answer to a request may take
-abbrev pub serving_cost : List Entry → Request → ℕ
-serving_cost entries request = asking_cost entries (asking_of request)
+  -- the steps that an answer may take, by what is answered
+  abbrev pub asking_cost : (last : Bool) (asking : Result Asking RequestRefusal) (old new : D) (response : Response)
+      → ServesAsking last asking old new response → ℕ
+  asking_cost last (Err refusal) old new response served = 0
+  asking_cost last (Ok asks.Front) old new response served = 0
+  asking_cost last (Ok (asks.Text text)) old new response served =
+      answering_cost (state old).entries (question_at (front (state old).entries) text) (past old)
+  asking_cost last (Ok (asks.Preview preview)) old new response served =
+      previewing_at (state old).entries preview.drafter (question_previewed preview)
+  asking_cost last (Ok (asks.Draft drafter)) old new response served = 0
+  asking_cost last (Ok (asks.Command asked)) old new response served =
+      commanding_cost last asked old new response served
+
+  -- the steps that the answer to a request may take
+  abbrev pub serving_cost : (request : Request) (old new : D) (response : Response) → Serves request old new response → ℕ
+  serving_cost request old new response served = asking_cost request.last (asking_of request) old new response served
+
+  -- what is asked is answered, and so many steps were taken before it, and after
+  pub record ServesWithin (last : Bool) (asking : Result Asking RequestRefusal) (old new : D) (response : Response)
+      (before after : ℕ) : Type 0 where
+    pub serves : ServesAsking last asking old new response
+    pub within : after ≤ before + asking_cost last asking old new response serves

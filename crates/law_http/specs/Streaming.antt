@@ -5,6 +5,7 @@ use Rattle.std.specs.List.{AllByRecursion}
 use Rattle.desk_base.specs.Crashes.{Crashes}
 use Rattle.desk_base.specs.Streams.{AppendsFront, risen}
 use Rattle.law_register.specs.Desk.States.{DeskState, Found}
+use Rattle.law_register.specs.declared.answer.past_key.PastKey.{PastKey}
 use Rattle.law_http.specs.Cutting.{after_empty_lines}
 use Rattle.law_http.specs.Hearing.{AreHeard, HoldsNoRequest, IsFirstHeard}
 use Rattle.law_http.specs.Refusals.{message_reply}
@@ -150,17 +151,17 @@ abbrev pub HasWriteCause : StreamEnd → ℕ → ℕ → Type 0
 HasWriteCause ends.WriteFault before now = now ≡ risen before
 HasWriteCause end before now = now ≡ before
 
-module _ {D : Type 0} (state : D → DeskState) (crashes : D → Crashes Found) where
+module _ {D : Type 0} (state : D → DeskState) (crashes : D → Crashes Found) (past : D → List PastKey) where
   -- these requests are answered one after another, and the desk goes from old to new
   abbrev pub AreServed : List Exchange → D → D → Type 0
   AreServed [] old new = new ≡ old
-  AreServed (e ∷ es) old new = (mid : D) × Serves state crashes e.request old mid e.response × AreServed es mid new
+  AreServed (e ∷ es) old new = (mid : D) × Serves state crashes past e.request old mid e.response × AreServed es mid new
 
-  -- the steps that the answers may take
+  -- the steps that the answers may take, by what is answered
   abbrev pub serving_costs : (exchanges : List Exchange) (old new : D) → AreServed exchanges old new → ℕ
   serving_costs [] old new served = 0
   serving_costs (e ∷ es) old new served =
-      serving_cost (state old).entries e.request + serving_costs es served.0 new served.2
+      serving_cost state crashes past e.request old served.0 e.response served.1 + serving_costs es served.0 new served.2
 
   -- what is served of a stream that had these bytes left, and has these over, and wrote behind these, where its link
   -- tells them, and how many steps were taken before and after

@@ -4,6 +4,7 @@ use Rattle.desk_base.specs.Crashes.{Crashes}
 use Rattle.desk_base.specs.Streams.{AppendsFront, risen}
 use Rattle.desk_base.specs.declared.source.Failed.{Failed}
 use Rattle.law_register.specs.Desk.States.{DeskState, Found}
+use Rattle.law_register.specs.declared.answer.past_key.PastKey.{PastKey}
 use Rattle.law_http.specs.Hearing.{IsHeardOf}
 use Rattle.law_http.specs.Refusals.{message_reply}
 use Rattle.law_http.specs.Responses.{Says, response_bytes}
@@ -74,7 +75,7 @@ abbrev pub SpendsTurn : Option StreamEnd → ℕ → ℕ → Type 0
 SpendsTurn None before now = now < before
 SpendsTurn (Some end) before now = now ≤ before
 
-module _ {D : Type 0} (state : D → DeskState) (crashes : D → Crashes Found) where
+module _ {D : Type 0} (state : D → DeskState) (crashes : D → Crashes Found) (past : D → List PastKey) where
   -- a request that does not close the stream is answered
   pub record IsExchanged (left rest before now : Option (List ℕ)) (old new : D) (steps later : ℕ) (told : Bool)
       : Type 0 where
@@ -82,11 +83,11 @@ module _ {D : Type 0} (state : D → DeskState) (crashes : D → Crashes Found) 
     pub response : Response
     pub heard : IsHeardOf left rest (heard.Request request)
     pub goes_on : IsFalse request.last
-    pub serves : Serves state crashes request old new response
+    pub serves : Serves state crashes past request old new response
     pub had_memory : response ≢ MemoryFault
     pub written : AppendsAll before now (response_bytes response)
     pub faulted : IsTrue told ↔ (fault_told response ≢ 0)
-    pub cost : later ≤ steps + serving_cost (state old).entries request
+    pub cost : later ≤ steps + serving_cost state crashes past request old new response serves
 
   -- a turn is taken, behind which the link has these bytes over
   abbrev pub IsTurn : Option (List ℕ) → Option (List ℕ) → Option (List ℕ) → Option (List ℕ) → Option (List ℕ) → D → D
@@ -94,12 +95,12 @@ module _ {D : Type 0} (state : D → DeskState) (crashes : D → Crashes Found) 
   IsTurn left rest over before now old new steps later told None =
       IsExchanged left rest before now old new steps later told
   IsTurn left rest over before now old new steps later told (Some end) =
-      IsStreamed state crashes left over before now old new steps later (record { end = end; faulted = told })
+      IsStreamed state crashes past left over before now old new steps later (record { end = end; faulted = told })
 
   -- whatever is streamed from here on is streamed from the start
   abbrev pub GoesOn : Option (List ℕ) → Option (List ℕ) → Option (List ℕ) → Option (List ℕ) → D → D → ℕ → ℕ → Bool
       → Type 0
   GoesOn left here before written old desk steps later told =
       (over now : Option (List ℕ)) (new : D) (last : ℕ) (served : Served)
-      → IsStreamed state crashes here over written now desk new later last served
-      → IsStreamed state crashes left over before now old new steps last (with_fault told served)
+      → IsStreamed state crashes past here over written now desk new later last served
+      → IsStreamed state crashes past left over before now old new steps last (with_fault told served)

@@ -53,28 +53,28 @@ pub fn response_is_read_back()
 
 /// The entries of a desk only grow while requests are answered: those from before stand in front.
 pub fn entries_only_grow<D: Desk>()
-    ensures { (exchanges : List Exchange) (old new : D) → AreServed D.state D.crashes exchanges old new
+    ensures { (exchanges : List Exchange) (old new : D) → AreServed D.state D.crashes D.past exchanges old new
         → lasting.BeginWith (D.state old).entries (D.state new).entries }
 {}
 
 /// Each response that says that the keeper failed has a fault of the keeper of its own.
 pub fn faults_are_counted<D: Desk>()
-    ensures { (exchanges : List Exchange) (old new : D) → AreServed D.state D.crashes exchanges old new
+    ensures { (exchanges : List Exchange) (old new : D) → AreServed D.state D.crashes D.past exchanges old new
         → RoseBy (faults_told exchanges) (D.state old).faults (D.state new).faults }
 {}
 
 /// A desk of which it is told what a crash leaves stays one while requests are answered, and its moments never fall.
 pub fn kept_stays_kept<D: Desk>()
-    ensures kept { (exchanges : List Exchange) (old new : D) → AreServed D.state D.crashes exchanges old new
+    ensures kept { (exchanges : List Exchange) (old new : D) → AreServed D.state D.crashes D.past exchanges old new
         → lasting.IsKept D.state D.crashes old → lasting.IsKept D.state D.crashes new }
-    ensures moments { (exchanges : List Exchange) (old new : D) → AreServed D.state D.crashes exchanges old new
+    ensures moments { (exchanges : List Exchange) (old new : D) → AreServed D.state D.crashes D.past exchanges old new
         → lasting.IsKept D.state D.crashes old → (D.crashes old).moment ≤ (D.crashes new).moment }
 {}
 
 /// What a desk has lasts: a crash at any moment from then on, in the midst of a request too, leaves entries that begin
 /// with those.
 pub fn entries_last<D: Desk>()
-    ensures { (after : List Exchange) (mid new : D) → AreServed D.state D.crashes after mid new
+    ensures { (after : List Exchange) (mid new : D) → AreServed D.state D.crashes D.past after mid new
         → lasting.IsKept D.state D.crashes mid
         → (found : Found) → (D.crashes new).left_since (D.crashes mid).moment found
         → lasting.FindsAfter (D.state mid).entries found }
@@ -83,16 +83,16 @@ pub fn entries_last<D: Desk>()
 /// What a crash leaves, at any moment since a stream began, is what the desk had at some moment of it: a front part of
 /// the entries in the end, with the entry that was pending there or without it, and never damage.
 pub fn crash_leaves_a_front_part<D: Desk>()
-    ensures { (exchanges : List Exchange) (old new : D) → AreServed D.state D.crashes exchanges old new
+    ensures { (exchanges : List Exchange) (old new : D) → AreServed D.state D.crashes D.past exchanges old new
         → lasting.IsKept D.state D.crashes old
         → (found : Found) → (D.crashes new).left_since (D.crashes old).moment found
-        → lasting.IsFoundAmong D.state D.crashes exchanges old new found }
+        → lasting.IsFoundAmong D.state D.crashes D.past exchanges old new found }
 {}
 
 /// A response that says 201 has its entry among those of the desk from then on: the command that its request asked for,
 /// with the drafter and the number of the request.
 pub fn acknowledged_stand<D: Desk>()
-    ensures { (exchanges : List Exchange) (old new : D) → AreServed D.state D.crashes exchanges old new
+    ensures { (exchanges : List Exchange) (old new : D) → AreServed D.state D.crashes D.past exchanges old new
         → lasting.AreAcknowledged (D.state new).entries exchanges }
 {}
 
@@ -100,7 +100,7 @@ pub fn acknowledged_stand<D: Desk>()
 /// and among them those that this response and the ones before it acknowledged.
 pub fn acknowledged_last<D: Desk>()
     ensures { (before after : List Exchange) (old mid new : D)
-        → AreServed D.state D.crashes before old mid → AreServed D.state D.crashes after mid new
+        → AreServed D.state D.crashes D.past before old mid → AreServed D.state D.crashes D.past after mid new
         → lasting.IsKept D.state D.crashes old
         → (found : Found) → (D.crashes new).left_since (D.crashes mid).moment found
         → (entries : List Entry) × (found ≡ Ok entries) × lasting.AreAcknowledged entries before }
@@ -120,7 +120,7 @@ pub fn repeat_changes_nothing()
 /// pending.
 pub fn served_without_fault_is_determined<D: Desk>()
     ensures { (left over before now : Option (List ℕ)) (old new : D) (steps later : ℕ) (served : Served)
-        → IsStreamed D.state D.crashes left over before now old new steps later served
+        → IsStreamed D.state D.crashes D.past left over before now old new steps later served
         → (D.state old).pending ≡ None → IsFaultless served
         → IsDetermined left before now (D.state old).entries (D.state old).days (D.state new).entries
         × ((D.state new).pending ≡ None) }
@@ -150,6 +150,6 @@ pub fn drafters_are_apart()
 pub fn responses_are_apart<D: Desk, E: Desk>()
     ensures { (drafter : List ℕ) (request : Request) (one next : D) (other after : E) (response answer : Response)
         → AreAlike drafter (D.state one).entries (E.state other).entries → AsksOwn drafter (asking_of request)
-        → Serves D.state D.crashes request one next response → Serves E.state E.crashes request other after answer
+        → Serves D.state D.crashes D.past request one next response → Serves E.state E.crashes E.past request other after answer
         → response ≢ MemoryFault → answer ≢ MemoryFault → response_bytes response ≡ response_bytes answer }
 {}

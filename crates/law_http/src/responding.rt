@@ -1,18 +1,22 @@
 //! Responding: what a desk answers to a request.
 
-ghost use Rattle.std.specs.Prelude.{◌≡◌, ◌≤◌, ◌+◌, true, None, Result, Ok, length, vec_capacity};
+ghost use Rattle.std.specs.Prelude.{◌≡◌, ◌≤◌, ◌+◌, true, None, List, Result, Ok, Err, length, vec_capacity};
 ghost use Rattle.law_register.specs.Answer.Answers.{Answers};
 ghost use Rattle.law_register.specs.Answer.Asking.{answer_at};
-ghost use Rattle.law_register.specs.Answer.Costs.{bearing_at};
+ghost use Rattle.law_register.specs.Answer.PastAsking.{AreKeysAfter};
 ghost use Rattle.law_register.specs.Answer.Previews.{preview_at, previewing_at};
+ghost use Rattle.law_register.specs.Desk.Commands.{LeavesNoMore};
 ghost use Rattle.law_register.specs.Law.Spelling.{is_well_spelled};
 ghost use Rattle.law_register.specs.Register.Drafts.{draft_of};
 ghost use Rattle.law_register.specs.Register.LawList.{front};
 ghost use Rattle.law_register.specs.declared.answer.answer.Answer.{Answer as AnswerValue};
 ghost use Rattle.law_register.specs.declared.answer.queries.QueryRule.{QueryRule as RuleOfQuestion};
-ghost use Rattle.law_http.specs.Asking.{IsSpelled, question_at, question_previewed};
+ghost use Rattle.law_register.specs.declared.answer.queries.AskFault.TheVariants as ask;
+ghost use Rattle.law_http.specs.Asking.{IsSpelled, asking_of, question_at, question_previewed};
 ghost use Rattle.law_http.specs.Responses.{Says, first_lines};
 ghost use Rattle.law_http.specs.Serving as spec;
+ghost use Rattle.law_http.specs.declared.asking.Asking.TheVariants as asks;
+ghost use Rattle.law_http.specs.declared.response.Response.TheVariants.{MemoryFault};
 ghost use Rattle.law_http.specs.declared.status.Status.TheVariants as status;
 
 use crate::acknowledging::{acknowledged, begun, numbered};
@@ -72,8 +76,9 @@ fn shown(alloc: Global, answer: &Answer, last: bool) -> Response
 }
 
 fn answer_response(alloc: Global, told: Result<Answer, AskFault>, last: bool) -> Response
-    ensures { (answer : Result AnswerValue RuleOfQuestion) → Answers told answer
+    ensures says { (answer : Result AnswerValue RuleOfQuestion) → Answers told answer
         → Says (spec.answer_reply last answer) result }
+    ensures memory { told ≡ Err ask.Memory → result ≡ MemoryFault }
 {
     match told {
         Ok(answer) => shown(alloc, &answer, last),
@@ -118,13 +123,17 @@ fn answer_of<D: Desk, L: Ledger>(
     steps: &mut Steps<L>,
 ) -> Result<Answer, AskFault>
     ensures answer { Answers result (answer_at (D.state desk.old).entries question.now) }
-    ensures stays { spec.Stays D.state D.crashes desk.old desk.new }
-    ensures steps { steps.new ≤ steps.old + bearing_at (D.state desk.old).entries question.now }
+    ensures same { D.state desk.new ≡ D.state desk.old }
+    ensures crash { LeavesNoMore (D.crashes desk.old) (D.crashes desk.new) }
+    ensures keys { AreKeysAfter result (D.past desk.old)
+        (spec.keys_answered (D.state desk.old).entries question.now (D.past desk.old)) (D.past desk.new) }
+    ensures steps { steps.new ≤ steps.old
+        + spec.answering_cost (D.state desk.old).entries question.now (D.past desk.old) }
 {
     if question.viewpoint < desk.front() {
         desk.ask_past(alloc, question, steps)
     } else {
-        desk.ask(alloc, question, steps)
+        desk.ask(alloc, question)
     }
 }
 
@@ -137,9 +146,10 @@ fn text_response<D: Desk, L: Ledger>(
 ) -> Response
     ensures says { Says (spec.answer_reply last (answer_at (D.state desk.old).entries
         (question_at (front (D.state desk.old).entries) text))) result }
-    ensures stays { spec.Stays D.state D.crashes desk.old desk.new }
-    ensures steps { steps.new ≤ steps.old + bearing_at (D.state desk.old).entries
-        (question_at (front (D.state desk.old).entries) text) }
+    ensures asks { spec.Asks D.state D.crashes D.past
+        (question_at (front (D.state desk.old).entries) text) desk.old desk.new result }
+    ensures steps { steps.new ≤ steps.old + spec.answering_cost (D.state desk.old).entries
+        (question_at (front (D.state desk.old).entries) text) (D.past desk.old) }
 {
     let question = text.question(desk.front());
     let told = answer_of(alloc, desk, &question, steps);
@@ -155,7 +165,7 @@ fn preview_response<D: Desk, L: Ledger>(
 ) -> Response
     ensures says { Says (spec.answer_reply last (preview_at (D.state desk.old).entries preview.drafter
         (question_previewed preview))) result }
-    ensures stays { spec.Stays D.state D.crashes desk.old desk.new }
+    ensures stays { spec.Stays D.state D.crashes D.past desk.old desk.new }
     ensures steps { steps.new ≤ steps.old + previewing_at (D.state desk.old).entries preview.drafter
         (question_previewed preview) }
 {
@@ -175,7 +185,7 @@ fn items_response(alloc: Global, draft: &Draft, last: bool) -> Response
 
 fn draft_response<D: Desk>(alloc: Global, desk: &mut D, drafter: Drafter, last: bool) -> Response
     ensures says { Says (spec.draft_reply last (draft_of drafter (D.state desk.old).entries)) result }
-    ensures stays { spec.Stays D.state D.crashes desk.old desk.new }
+    ensures stays { spec.Stays D.state D.crashes D.past desk.old desk.new }
 {
     match desk.draft(alloc, &drafter) {
         Ok(draft) => items_response(alloc, &draft, last),
@@ -192,8 +202,8 @@ fn command_response<D: Desk, L: Ledger>(
     steps: &mut Steps<L>,
 ) -> Response
     requires { is_well_spelled asked.command ≡ true }
-    ensures served { spec.ServesCommand D.state D.crashes last asked desk.old desk.new result }
-    ensures steps { steps.new ≡ steps.old }
+    ensures { spec.ServesWithin D.state D.crashes D.past last (Ok (asks.Command asked)) desk.old desk.new result
+        steps.old steps.new }
 {
     let Ok(message) = begun(alloc, Status::Created, last) else {
         return Response::MemoryFault;
@@ -215,8 +225,8 @@ fn answered<D: Desk, L: Ledger>(
     steps: &mut Steps<L>,
 ) -> Response
     requires { IsSpelled asking }
-    ensures served { spec.ServesAsking D.state D.crashes last (Ok asking) desk.old desk.new result }
-    ensures steps { steps.new ≤ steps.old + spec.asking_cost (D.state desk.old).entries (Ok asking) }
+    ensures { spec.ServesWithin D.state D.crashes D.past last (Ok asking) desk.old desk.new result
+        steps.old steps.new }
 {
     match asking {
         Asking::Front => front_response(alloc, desk.front(), last),
@@ -235,8 +245,8 @@ pub fn respond<D: Desk, L: Ledger>(
     request: &Request,
     steps: &mut Steps<L>,
 ) -> Response
-    ensures served { spec.Serves D.state D.crashes request.now desk.old desk.new result }
-    ensures steps { steps.new ≤ steps.old + spec.serving_cost (D.state desk.old).entries request.now }
+    ensures { spec.ServesWithin D.state D.crashes D.past request.now.last (asking_of request.now) desk.old desk.new result
+        steps.old steps.new }
 {
     match request.asking(alloc) {
         Ok(Ok(asking)) => answered(alloc, desk, asking, request.last, steps),

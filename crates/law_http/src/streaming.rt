@@ -107,7 +107,7 @@ fn answer<K: Link, D: Desk, L: Ledger>(
     steps: &mut Steps<L>,
 ) -> Turn
     ensures turn { (left rest over : Option (List ℕ)) → IsHeardOf left rest (Heard.Request request.now)
-        → spec.IsTurn D.state D.crashes left rest over (K.written link.old) (K.written link.new) desk.old desk.new
+        → spec.IsTurn D.state D.crashes D.past left rest over (K.written link.old) (K.written link.new) desk.old desk.new
         steps.old steps.new result.faulted result.end }
     ensures reads { spec.HasTurnCause stream.HasReadCause result.end
         (K.read_faults link.old) (K.read_faults link.new) }
@@ -158,7 +158,7 @@ fn act_on<K: Link, D: Desk, L: Ledger>(
     steps: &mut Steps<L>,
 ) -> Turn
     ensures turn { (left rest over : Option (List ℕ)) → IsHeardOf left rest heard.now
-        → spec.IsTurn D.state D.crashes left rest over (K.written link.old) (K.written link.new) desk.old desk.new
+        → spec.IsTurn D.state D.crashes D.past left rest over (K.written link.old) (K.written link.new) desk.old desk.new
         steps.old steps.new result.faulted result.end }
     ensures spent { (before now : ℕ) → Spends before now heard.now → spec.SpendsTurn result.end before now }
     ensures reads { spec.HasTurnCause stream.HasReadCause result.end
@@ -189,7 +189,7 @@ fn take_turn<K: Link, D: Desk, L: Ledger>(
     desk: &mut D,
     steps: &mut Steps<L>,
 ) -> Turn
-    ensures turn { spec.IsTurn D.state D.crashes
+    ensures turn { spec.IsTurn D.state D.crashes D.past
         (prepend_known rest.old (K.left link.old)) (prepend_known rest.new (K.left link.new)) (K.left link.new)
         (K.written link.old) (K.written link.new) desk.old desk.new steps.old steps.new result.faulted result.end }
     ensures spent { spec.SpendsTurn result.end
@@ -224,7 +224,7 @@ pub fn serve_stream<K: Link, D: Desk, L: Ledger>(
     desk: &mut D,
     steps: &mut Steps<L>,
 ) -> Served
-    ensures served { stream.IsStreamed D.state D.crashes (K.left link.old) (K.left link.new)
+    ensures served { stream.IsStreamed D.state D.crashes D.past (K.left link.old) (K.left link.new)
         (K.written link.old) (K.written link.new) desk.old desk.new steps.old steps.new result }
     ensures reads { stream.HasReadCause result.end (K.read_faults link.old) (K.read_faults link.new) }
     ensures writes { stream.HasWriteCause result.end (K.write_faults link.old) (K.write_faults link.new) }

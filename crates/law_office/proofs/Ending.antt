@@ -1,5 +1,5 @@
 -- What a command makes of its keeper's list follows of what it makes of the book, and of how the keeper stands to that.
-use Rattle.std.proofs.Common.{◌≡◌, ◌∙◌, sym, ap, subst, refl, inl, inr, ℕ, List, Option, None, Result, Ok, Err}
+use Rattle.std.proofs.Common.{◌≡◌, ◌∙◌, sym, ap, subst, refl, inl, inr, ℕ, ◌+◌, ◌≤◌, List, Option, None, Result, Ok, Err, arith}
 use Rattle.std.specs.Prelude.{◌↔◌}
 use Rattle.desk_base.specs.Clocks.{GivesDay}
 use Rattle.law_journal.specs.Grammar.{Listing}
@@ -11,10 +11,12 @@ use Rattle.law_register.specs.declared.law.command.Command.{Command}
 use Rattle.law_register.specs.declared.register.entry.Entry.{Entry}
 use Rattle.law_register.specs.declared.register.rules.Rule.{Rule}
 use Rattle.law_register.specs.declared.register.verdict.Reply.{Reply}
-use Rattle.law_register.specs.declared.register.verdict.Verdict.TheVariants.{Accepted}
-use Rattle.law_register.specs.Desk.Commands.{AreSettled, Begins, Waits}
+use Rattle.law_register.specs.declared.register.verdict.Verdict.{Verdict}
+use Rattle.law_register.specs.declared.register.verdict.Verdict.TheVariants.{Accepted, Repeat, Refused}
+use Rattle.law_register.specs.Answer.Renewing.{command_cost, cost_said}
+use Rattle.law_register.specs.Desk.Commands.{AreSettled, Begins, EndsWithin, IsIdle, IsPending, IsRefused, IsReplied, Waits}
 use Rattle.law_register.specs.Desk.States.{Standing}
-use Rattle.law_register.specs.Register.Entering.{entered, entry_of}
+use Rattle.law_register.specs.Register.Entering.{entered, entered_by, entry_of}
 use Rattle.law_register.specs.Register.Registers.{Contents}
 use Rattle.law_register.specs.Register.Verdicts.{verdict}
 use Rattle.entry_codec.specs.Entries.{spelling}
@@ -41,6 +43,31 @@ waits_of days old new same = record {
   pending = ap (λ (b : Book). pending_of b.pending) same;
   days = refl;
 }
+
+-- it took no step
+pub waits_within : (drafter : List ℕ) (request : ℕ) (command : Command) (old new : Standing) (steps : ℕ) → Waits old new
+    → EndsWithin drafter request command old new steps steps (Err fails.Memory)
+waits_within drafter request command old new steps waits = record { ends = inl waits; within = omega arith }
+
+-- so it is where what was pending could not be settled
+pub stops_within : (drafter : List ℕ) (request : ℕ) (command : Command) (days : Option (ℕ → ℕ)) (old new : Book) (steps : ℕ) (fault : CommandFault)
+    → Settles old new (Err fault) → EndsWithin drafter request command (standing_of old days) (standing_of new days) steps steps (Err fault)
+stops_within drafter request command days old new steps (fails.Rule rule) settles = absurd settles
+stops_within drafter request command days old new steps fails.KeeperFault settles =
+    record { ends = inl (waits_of days old new settles.0, settles.1); within = omega arith }
+stops_within drafter request command days old new steps fails.Memory settles =
+    waits_within drafter request command (standing_of old days) (standing_of new days) steps (waits_of days old new settles)
+
+-- a command that breaks a rule costs nothing
+refused_free : (es : List Entry) (drafter : List ℕ) (request day : ℕ) (command : Command) (rule : Rule) → entered es drafter request day command ≡ Err rule
+    → command_cost es (entry_of drafter request day None command) ≡ 0
+unfolding entered command_cost
+refused_free es drafter request day command rule is = by (verdict es drafter request command) is
+  where
+    by : (said : Verdict) → entered_by es drafter request day command said ≡ Err rule → cost_said es (entry_of drafter request day None command) said ≡ 0
+    by (Accepted law reply) is = absurd (cc is)
+    by (Repeat reply) is = absurd (cc is)
+    by (Refused other) is = refl
 
 -- the list stays, and the command ends so over a list that stays
 stays_over : (drafter : List ℕ) (request : ℕ) (command : Command) (old new : Standing) (h k : Holding)
@@ -93,56 +120,82 @@ module _ (drafter : List ℕ) (request : ℕ) (command : Command) (day : ℕ) (d
     gives = gives;
   }
 
+  replied : (reply : Reply) → Acts e mid new (Ok reply) → IsReplied drafter request command (standing_of old days) (standing_of new later) reply
+  replied reply acts = record {
+    settled = mid.register.entries;
+    day = day;
+    begins = record { settles = settles; gives = gives };
+    entered = acts.0;
+    pending = ap pending_of acts.1;
+  }
+
+  refused : (rule : Rule) → Acts e mid new (Err (fails.Rule rule)) → IsRefused drafter request command (standing_of old days) (standing_of new later) rule
+  refused rule acts = record {
+    day = day;
+    begins = begins (acts.1).entries;
+    refused = subst (λ (es : List Entry). entered es drafter request day command ≡ Err rule) (sym (acts.1).entries) acts.0;
+    pending = ap pending_of (acts.1).pending;
+  }
+
+  left : Acts e mid new (Err fails.KeeperFault) → IsPending drafter request command (standing_of old days) (standing_of new later)
+  left acts = record {
+    day = day;
+    begins = begins acts.entries;
+    law = acts.law;
+    reply = acts.reply;
+    accepted = subst (λ (es : List Entry). verdict es drafter request command ≡ Accepted acts.law acts.reply)
+        (sym acts.entries) acts.accepted;
+    pending = acts.pending;
+  }
+
+  idle : Acts e mid new (Err fails.Memory) → IsIdle drafter request command (standing_of old days) (standing_of new later)
+  idle acts = record { day = day; begins = begins acts.entries; pending = ap pending_of acts.pending }
+
+  cost_same : (before after : ℕ) → new.register.entries ≡ mid.register.entries → after ≤ before + command_cost mid.register.entries e
+      → after ≤ before + command_cost new.register.entries e
+  cost_same before after same = subst (λ (es : List Entry). after ≤ before + command_cost es e) (sym same)
+
+  -- a command ends within the steps that it may take
+  pub ends_within : (before after : ℕ) (result : Result Reply CommandFault) → Acts e mid new result → after ≤ before + command_cost mid.register.entries e
+      → EndsWithin drafter request command (standing_of old days) (standing_of new later) before after result
+  unfolding replied left idle
+  ends_within before after (Ok reply) acts cost = record { ends = replied reply acts; within = cost }
+  ends_within before after (Err (fails.Rule rule)) acts cost = record {
+    ends = refused rule acts;
+    within = subst (λ (n : ℕ). after ≤ before + n) (refused_free mid.register.entries drafter request day command rule acts.0) cost;
+  }
+  ends_within before after (Err fails.KeeperFault) acts cost =
+      record { ends = inr (left acts); within = cost_same before after acts.entries cost }
+  ends_within before after (Err fails.Memory) acts cost =
+      record { ends = inr (idle acts); within = cost_same before after acts.entries cost }
+
   ends_still : (m.tells → n.tells) → (still : IsStill mid new) → h.tells → n.list ≡ h.list
   ends_still leads still told = has leads (ap pending_of still.pending) told ∙ sym (had_same still.entries told)
 
   ends_with : (m.tells → n.tells) → (result : Result Reply CommandFault) → Acts e mid new result → h.tells
       → EndsWith drafter request command (standing_of old days) (standing_of new later) h.list n.list result
+  unfolding replied left
   ends_with leads (Ok reply) acts told = record {
-    replied = record {
-      settled = mid.register.entries;
-      day = day;
-      begins = record { settles = settles; gives = gives };
-      entered = acts.0;
-      pending = ap pending_of acts.1;
-    };
+    replied = replied reply acts;
     found = had told;
     kept = has leads (ap pending_of acts.1) told;
     stays = λ same. has leads (ap pending_of acts.1) told ∙ sym (had_same same told);
   }
   ends_with leads (Err (fails.Rule rule)) acts told = record {
-    refused = record {
-      day = day;
-      begins = begins (acts.1).entries;
-      refused = subst (λ (es : List Entry). entered es drafter request day command ≡ Err rule) (sym (acts.1).entries) acts.0;
-      pending = ap pending_of (acts.1).pending;
-    };
+    refused = refused rule acts;
     found = had_same (acts.1).entries told;
     stays = ends_still leads acts.1 told;
   }
   ends_with leads (Err fails.KeeperFault) acts told = inr (record {
-    left = record {
-      day = day;
-      begins = begins acts.entries;
-      law = acts.law;
-      reply = acts.reply;
-      accepted = subst (λ (es : List Entry). verdict es drafter request command ≡ Accepted acts.law acts.reply)
-          (sym acts.entries) acts.accepted;
-      pending = acts.pending;
-    };
+    left = left acts;
     found = had_same acts.entries told;
     kept = subst (λ (list : Listing). IsWithOrWithout list (spelling (entry_of drafter request day acts.law command)) n.list)
         (sym (had_same acts.entries told))
         (subst (λ (p : Option Entry). Spells new.register.entries p n.list) acts.pending
         (holds.list (leads (keeps.tells.0 told))));
   })
-  ends_with leads (Err fails.Memory) acts told = (
-    inr (record {
-      idle = record { day = day; begins = begins acts.entries; pending = ap pending_of acts.pending };
-      found = had_same acts.entries told;
-    }),
-    ends_still leads acts told,
-  )
+  ends_with leads (Err fails.Memory) acts told =
+      (inr (record { idle = idle acts; found = had_same acts.entries told }), ends_still leads acts told)
 
   pub ends_over : (m.tells ↔ n.tells) → (result : Result Reply CommandFault) → Acts e mid new result
       → EndsOver drafter request command (standing_of old days) (standing_of new later) h n result

@@ -2,28 +2,32 @@
 use Rattle.std.proofs.Common.{◌≡◌, ◌⊎◌, inl, inr, ⊎_elim, ◌∙◌, sym, ap, subst, refl, ℕ, List, [], ◌∷◌, ◌++◌, Option, Some, None, Result, Ok, Err}
 use Rattle.std.specs.Prelude.{IfSome}
 use Rattle.desk_base.specs.Crashes as crash
+use Rattle.indexmap.specs.IndexMap.{IndexMap}
 use Rattle.law_journal.specs.Grammar.{Listing}
 use Rattle.law_keeper.specs.Keepers.{Holding, IsHolding, LeavesOnly}
 use Rattle.law_keeper.specs.declared.readiness.Readiness.{Readiness}
 use Rattle.law_keeper.proofs.Moments.{rests, weaker}
 use Rattle.law_register.specs.declared.register.entry.Entry.{Entry}
 use Rattle.law_register.specs.Desk.States.{Found, IsFoundOf}
+use Rattle.law_register.specs.Register.Registers.{Contents}
+use Rattle.version_cache.specs.declared.work_tables.WorkTables.{WorkTables}
 use Rattle.law_office.specs.Crashing.{crashes_of, LeavesLists, SpellsBook, SpellsEither}
 use Rattle.law_office.specs.Offices.{Spells, Holds, HoldsBook, IsRight, MayLeave, IsPendingOn, pending_of}
 use Rattle.law_office.specs.Opening.{spellings, opened, opened_of}
 use Rattle.law_office.specs.declared.book.Book.{Book}
 use Rattle.law_office.specs.declared.book.Pending.{Pending}
-use Rattle.law_office.proofs.Opened.{spellings_last}
+use Rattle.law_office.proofs.Loading.{spellings_last}
 use Rattle.law_office.proofs.Openings.{opened_more}
 
 -- a list that spells entries is opened as these, with the one that is pending or without it
-spelled_found : (entries : List Entry) (spare : ℕ) (pending : Option Pending) → opened (spellings entries) ≡ Ok entries
-    → IfSome pending (IsPendingOn entries spare) → (list : Listing) → Spells entries (pending_of pending) list
-    → IsFoundOf entries (pending_of pending) (opened_of list)
-spelled_found entries spare None opens may list spells = ap opened_of spells ∙ opens
-spelled_found entries spare (Some p) opens may list (inl without) = inl (ap opened_of without ∙ opens)
-spelled_found entries spare (Some p) opens may list (inr with) =
-    inr (ap opened_of (with ∙ ap Ok (sym (spellings_last entries p.entry))) ∙ opened_more entries p.entry opens may.follows may.kept)
+spelled_found : {S : Type 0} (register : Contents) (tables : IndexMap (List ℕ) WorkTables S) (pending : Option Pending)
+    → opened (spellings register.entries) ≡ Ok register.entries → IfSome pending (IsPendingOn register tables) → (list : Listing)
+    → Spells register.entries (pending_of pending) list → IsFoundOf register.entries (pending_of pending) (opened_of list)
+spelled_found register tables None opens may list spells = ap opened_of spells ∙ opens
+spelled_found register tables (Some p) opens may list (inl without) = inl (ap opened_of without ∙ opens)
+spelled_found register tables (Some p) opens may list (inr with) =
+    inr (ap opened_of (with ∙ ap Ok (sym (spellings_last register.entries p.entry)))
+    ∙ opened_more register.entries p.entry opens may.follows may.kept)
 
 -- what a crash leaves to be found, of what it leaves of the list
 pub found_of_lists : (P : Listing → Type 0) (Q : Found → Type 0) (o n : Holding) → n.tells
@@ -64,7 +68,7 @@ rests_on h readiness old new is held =
 -- what is found after a crash, by the book
 module _ (book : Book) (right : IsRight book) where
   spelled_of : (list : Listing) → SpellsBook book list → IsFoundOf book.register.entries (pending_of book.pending) (opened_of list)
-  spelled_of = spelled_found book.register.entries book.register.spare book.pending right.opens right.pending
+  spelled_of = spelled_found book.register book.tables book.pending right.opens right.pending
 
   pub found_now : (h : Holding) (readiness : Readiness) → HoldsBook h readiness book → h.tells
       → IsFoundOf book.register.entries (pending_of book.pending) (opened_of h.list)

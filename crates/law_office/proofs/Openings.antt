@@ -15,7 +15,7 @@ use Rattle.law_register.specs.Register.Verdicts.{is_accepted, is_legal, is_legal
 use Rattle.entry_codec.specs.Entries.{keeps_rules, spelling}
 use Rattle.entry_codec.proofs.Decoding.{spelled_decoding}
 use Rattle.law_office.specs.Opening.{spellings, order_rule, with_ordered, with_entry, with_decoded, with_payload, goes_on, opened_behind, opened}
-use Rattle.law_office.proofs.Opened.{spellings_last}
+use Rattle.law_office.proofs.Loading.{spellings_last}
 
 -- what is opened of payloads with one more, by what is opened of the payloads
 goes_to_end : (r : Result (List Entry) Damage) → goes_on r (λ more. Ok more) ≡ r

@@ -3,3 +3,4 @@ pub mod Crashing
 pub mod Lists
 pub mod Offices
 pub mod Opening
+pub mod Tables

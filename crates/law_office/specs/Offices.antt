@@ -1,26 +1,34 @@
 -- What an office has, and how it stands to its keeper.
 use Rattle.std.specs.Prelude.{ℕ, true, ◌≡◌, ◌≢◌, ◌≤◌, List, [], ◌∷◌, length, All, Option, Some, None, IfSome, Ok}
 use Rattle.std.specs.Option.{option_map}
+use Rattle.indexmap.specs.IndexMap.{IndexMap, spare}
 use Rattle.law_journal.specs.Grammar.{Listing}
 use Rattle.law_keeper.specs.Keepers.{Holding, IsSettled, IsWithOrWithout}
 use Rattle.law_keeper.specs.declared.readiness.Readiness.{Readiness}
 use Rattle.law_keeper.specs.declared.readiness.Readiness.TheVariants.{Unopened, Ready}
 use Rattle.law_register.specs.declared.desk.fault_mark.FaultMark.{FaultMark}
+use Rattle.law_register.specs.declared.answer.past_key.PastKey.{PastKey}
 use Rattle.law_register.specs.declared.register.entry.Entry.{Entry}
 use Rattle.law_register.specs.Desk.States.{DeskState, MayFollow, Standing}
+use Rattle.law_register.specs.Register.Registers.{Contents}
 use Rattle.entry_codec.specs.Entries.{keeps_rules, spelling}
+use Rattle.version_cache.specs.declared.work_tables.WorkTables.{WorkTables}
+use Rattle.viewpoints.specs.Right as viewpoints
 use Rattle.law_office.specs.Opening.{opened, spellings}
+use Rattle.law_office.specs.Tables.{AreChangesOf, AreTablesOf, kept_in, table_on}
 use Rattle.law_office.specs.declared.book.Book.{Book}
 use Rattle.law_office.specs.declared.book.Pending.{Pending}
 
 -- what contracts see of an office: its keeper and its clock as they are now, its entries, the one that is pending,
--- the marks of faults, and the names of the keeper and the clock that it was lent
+-- the marks of faults, the keys of what it keeps of past viewpoints, and the names of the keeper and the clock that it
+-- was lent
 pub record OfficeState (K C : Type 0) : Type 0 where
   pub keeper : K
   pub clock : C
   pub entries : List Entry
   pub pending : Option Entry
   pub marks : List FaultMark
+  pub past : List PastKey
   pub origin : List ℕ
 
 -- the names of a keeper and a clock
@@ -31,20 +39,25 @@ names_of keeper clock = keeper ∷ clock ∷ []
 abbrev pub pending_of : Option Pending → Option Entry
 pending_of pending = option_map (λ p. p.entry) pending
 
--- an entry that is pending may stand behind the others, there is room for it, its bytes are those that spell it, and
--- it keeps the rules of the format
-pub record IsPendingOn (entries : List Entry) (spare : ℕ) (p : Pending) : Type 0 where
-  pub follows : MayFollow entries p.entry
-  pub room : 1 ≤ spare
+-- an entry that is pending may stand behind the others, there is room for it, its bytes are those that spell it, it keeps
+-- the rules of the format, and its changes are those that it makes of what is kept, where there is room for one work more
+pub record IsPendingOn {S : Type 0} (register : Contents) (tables : IndexMap (List ℕ) WorkTables S) (p : Pending) : Type 0 where
+  pub follows : MayFollow register.entries p.entry
+  pub room : 1 ≤ register.spare
   pub bytes : p.bytes.items ≡ spelling p.entry
   pub kept : keeps_rules p.entry ≡ true
+  pub changes : AreChangesOf register.entries p.entry (kept_in tables) p.changes
+  pub space : 1 ≤ spare tables
 
--- the book of an office is right in itself: its entries are those that an opening finds in what spells them, and so are
--- what is pending, and its marks, which were made when so many entries stood as there are, or fewer
+-- the book of an office is right in itself: its entries are those that an opening finds in what spells them, what is
+-- pending is right, its marks were made when so many entries stood as there are, or fewer, and what it keeps of works and
+-- of past viewpoints is for its entries
 pub record IsRight (book : Book) : Type 0 where
   pub opens : opened (spellings book.register.entries) ≡ Ok book.register.entries
-  pub pending : IfSome book.pending (IsPendingOn book.register.entries book.register.spare)
+  pub pending : IfSome book.pending (IsPendingOn book.register book.tables)
   pub marks : All (λ mark. mark.entries ≤ length book.register.entries) book.marks.items
+  pub tables : AreTablesOf book.register.entries (kept_in book.tables)
+  pub past : viewpoints.IsRight table_on book.register.entries book.past
 
 -- a list of payloads spells entries; where one is pending, it may stand behind them or not
 abbrev pub Spells : List Entry → Option Entry → Listing → Type 0

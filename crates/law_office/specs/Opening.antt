@@ -1,8 +1,9 @@
 -- Which entries the payloads of a keeper stand for, or what keeps a register from being opened.
-use Rattle.std.specs.Prelude.{ℕ, ◌≡◌, ◌⊎◌, ◌+◌, ◌<◌, List, [], ◌∷◌, ◌++◌, length, map, Option, Some, None, Result, Ok, Err, IfOk, if◌then◌else◌}
+use Rattle.std.specs.Prelude.{ℕ, ◌≡◌, ◌⊎◌, ◌+◌, ◌<◌, ◌≤◌, List, [], ◌∷◌, ◌++◌, length, map, Option, Some, None, Result, Ok, Err, IfOk, if◌then◌else◌}
 use Rattle.std.specs.List.{AllByRecursion}
 use Rattle.desk_base.specs.Streams.{risen}
 use Rattle.law_journal.specs.Grammar.{Listing}
+use Rattle.law_keeper.specs.Keepers.{Holding}
 use Rattle.law_register.specs.declared.desk.damage.Damage.{Damage}
 use Rattle.law_register.specs.declared.desk.damage.Damage.TheVariants as damage
 use Rattle.law_register.specs.declared.desk.open_fault.OpenFault.{OpenFault}
@@ -10,6 +11,7 @@ use Rattle.law_register.specs.declared.desk.open_fault.OpenFault.TheVariants as 
 use Rattle.law_register.specs.declared.register.entry.Entry.{Entry}
 use Rattle.law_register.specs.declared.register.verdict.Verdict.{Verdict}
 use Rattle.law_register.specs.declared.register.verdict.Verdict.TheVariants.{Accepted, Repeat, Refused}
+use Rattle.law_register.specs.Answer.Renewing.{opening_cost}
 use Rattle.law_register.specs.Law.Same.{same_number}
 use Rattle.law_register.specs.Register.Rules.{register_number}
 use Rattle.law_register.specs.Register.Verdicts.{verdict}
@@ -113,3 +115,14 @@ abbrev pub StaysUnlessFailed : ℕ → ℕ → OpenFault → Type 0
 StaysUnlessFailed before now fails.Failed = Unit {0}
 StaysUnlessFailed before now (fails.Damaged broken) = now ≡ before
 StaysUnlessFailed before now fails.Memory = now ≡ before
+
+-- how many ids are applied to make what is kept of the works that are found; none, where there is damage
+abbrev pub cost_opened : Result (List Entry) Damage → ℕ
+cost_opened (Ok entries) = opening_cost entries
+cost_opened (Err broken) = 0
+
+-- the steps of an opening that was refused: none, but where there was not enough memory for what is kept of the works
+abbrev pub TakesRefused : Holding → ℕ → ℕ → OpenFault → Type 0
+TakesRefused h before after (fails.Damaged damage) = after ≡ before
+TakesRefused h before after fails.Failed = after ≡ before
+TakesRefused h before after fails.Memory = h.tells → after ≤ before + cost_opened (opened_of h.list)

@@ -1,8 +1,10 @@
 //! Acting: a command is done in two steps. What is pending is settled, and the command is judged and acts.
 
-ghost use Rattle.std.specs.Prelude.{◌≡◌, ◌≤◌, ◌↔◌, ◌∷◌, ◌++◌, [], true, None, IfOk};
+ghost use Rattle.std.specs.Prelude.{◌≡◌, ◌+◌, ◌≤◌, ◌↔◌, ◌∷◌, ◌++◌, [], true, None, IfOk};
 ghost use Rattle.law_keeper.specs.Keepers.{Keeps};
-ghost use Rattle.law_register.specs.Desk.Commands.{Ends, HasCommandCause, mark_of, marks_after};
+ghost use Rattle.indexmap.specs.IndexMap.{spare};
+ghost use Rattle.law_register.specs.Answer.Renewing.{command_cost, entry_cost};
+ghost use Rattle.law_register.specs.Desk.Commands.{EndsWithin, HasCommandCause, mark_of, marks_after};
 ghost use Rattle.law_register.specs.Desk.States.{MayFollow};
 ghost use Rattle.law_register.specs.Law.Spelling.{is_well_spelled};
 ghost use Rattle.law_register.specs.Register.Verdicts.{verdict};
@@ -13,39 +15,44 @@ ghost use Rattle.law_office.specs.Crashing.{LeavesLists, SpellsBook, SpellsEithe
 ghost use Rattle.law_office.specs.Lists.{EndsOver};
 ghost use Rattle.law_office.specs.Offices.{HoldsBook, IsPendingOn, IsRight, standing_of};
 
-use crate::book::{Book, Pending};
+use crate::book::{Book, Changes, Pending};
+use crate::changes::make_changes;
 use crate::sent::Sent;
-use desk_base::{Clock, LoadFault, Memory};
+use desk_base::{Clock, LoadFault, Memory, Steps};
 use entry_codec::encode;
 use law_keeper::{KeepFault, Keeper, settle};
-use law_register::{CommandFault, Entry, Register, Reply, Verdict, laws};
+use law_register::{CommandFault, Entry, Reply, Verdict, laws};
 use std::alloc::Global;
+use std::sync::ledger::Ledger;
 
 // Does a command. Room for a mark is made before all else.
-pub(crate) fn command<K: Keeper, C: Clock>(
+pub(crate) fn command<K: Keeper, C: Clock, L: Ledger>(
     alloc: Global,
     keeper: &mut K,
     clock: &mut C,
     book: &mut Book,
     sent: Sent,
+    steps: &mut Steps<L>,
 ) -> Result<Reply, CommandFault>
     requires right { IsRight book.old }
     requires held { HoldsBook (K.holding keeper.old) (K.readiness keeper.old) book.old }
     requires spelled { is_well_spelled sent.command ≡ true }
-    ensures outcome { Ends sent.drafter sent.request sent.command
-        (standing_of book.old (C.days clock.old)) (standing_of book.new (C.days clock.new)) result }
+    ensures outcome { EndsWithin sent.drafter sent.request sent.command
+        (standing_of book.old (C.days clock.old)) (standing_of book.new (C.days clock.new))
+        steps.old steps.new result }
     ensures over { EndsOver sent.drafter sent.request sent.command
         (standing_of book.old (C.days clock.old)) (standing_of book.new (C.days clock.new))
         (K.holding keeper.old) (K.holding keeper.new) result }
     ensures marks { book.new.marks.items ≡ marks_after book.old.marks.items
         (mark_of sent.drafter sent.request book.new.register.entries) result }
+    ensures past { book.new.past ≡ book.old.past }
     ensures right { IsRight book.new }
     ensures held { HoldsBook (K.holding keeper.new) (K.readiness keeper.new) book.new }
     ensures crash { LeavesLists (SpellsEither book.old book.new) (K.holding keeper.old) (K.holding keeper.new) }
     ensures cause { HasCommandCause (K.faults keeper.old) (K.faults keeper.new) result }
 {
     match book.reserve_mark(&sent.drafter, sent.request) {
-        Ok(mark) => match settle_and_act(alloc, keeper, clock, book, sent) {
+        Ok(mark) => match settle_and_act(alloc, keeper, clock, book, sent, steps) {
             Err(CommandFault::KeeperFault) => {
                 book.add_mark(mark);
                 Err(CommandFault::KeeperFault)
@@ -60,22 +67,25 @@ pub(crate) fn command<K: Keeper, C: Clock>(
 }
 
 // Settles what is pending, asks the clock for the day, and does what the verdict says.
-fn settle_and_act<K: Keeper, C: Clock>(
+fn settle_and_act<K: Keeper, C: Clock, L: Ledger>(
     alloc: Global,
     keeper: &mut K,
     clock: &mut C,
     book: &mut Book,
     sent: Sent,
+    steps: &mut Steps<L>,
 ) -> Result<Reply, CommandFault>
     requires right { IsRight book.old }
     requires held { HoldsBook (K.holding keeper.old) (K.readiness keeper.old) book.old }
     requires spelled { is_well_spelled sent.command ≡ true }
-    ensures outcome { Ends sent.drafter sent.request sent.command
-        (standing_of book.old (C.days clock.old)) (standing_of book.new (C.days clock.new)) result }
+    ensures outcome { EndsWithin sent.drafter sent.request sent.command
+        (standing_of book.old (C.days clock.old)) (standing_of book.new (C.days clock.new))
+        steps.old steps.new result }
     ensures over { EndsOver sent.drafter sent.request sent.command
         (standing_of book.old (C.days clock.old)) (standing_of book.new (C.days clock.new))
         (K.holding keeper.old) (K.holding keeper.new) result }
     ensures marks { book.new.marks ≡ book.old.marks }
+    ensures past { book.new.past ≡ book.old.past }
     ensures right { IsRight book.new }
     ensures held { HoldsBook (K.holding keeper.new) (K.readiness keeper.new) book.new }
     ensures crash { LeavesLists (SpellsEither book.old book.new) (K.holding keeper.old) (K.holding keeper.new) }
@@ -84,7 +94,7 @@ fn settle_and_act<K: Keeper, C: Clock>(
     match settle_pending(alloc, keeper, book) {
         Ok(()) => {
             let day = clock.today();
-            act(alloc, keeper, book, sent.on(day))
+            act(alloc, keeper, book, sent.on(day), steps)
         }
         Err(fault) => {
             drop(sent);
@@ -104,6 +114,7 @@ fn settle_pending<K: Keeper>(
     ensures settles { Settles book.old book.new result }
     ensures same { Keeps (K.holding keeper.old) (K.holding keeper.new) }
     ensures marks { book.new.marks ≡ book.old.marks }
+    ensures past { book.new.past ≡ book.old.past }
     ensures right { IsRight book.new }
     ensures held { HoldsBook (K.holding keeper.new) (K.readiness keeper.new) book.new }
     ensures crash { LeavesLists (SpellsBook book.old) (K.holding keeper.old) (K.holding keeper.new) }
@@ -124,12 +135,13 @@ fn settle_pending<K: Keeper>(
 }
 
 // Judges the command of an entry whose law number is not known yet, behind entries of which none is pending.
-#[tactic(auto, unfolding(law_register::specs::Register::Entering::entered))]
-fn act<K: Keeper>(
+#[tactic(auto, unfolding(law_register::specs::Register::Entering::entered, law_register::specs::Answer::Renewing::command_cost))]
+fn act<K: Keeper, L: Ledger>(
     alloc: Global,
     keeper: &mut K,
     book: &mut Book,
     entry: Entry,
+    steps: &mut Steps<L>,
 ) -> Result<Reply, CommandFault>
     requires right { IsRight book.old }
     requires settled { book.old.pending ≡ None }
@@ -138,17 +150,19 @@ fn act<K: Keeper>(
     ensures acts { Acts entry book.old book.new result }
     ensures tells { (K.holding keeper.old).tells ↔ (K.holding keeper.new).tells }
     ensures marks { book.new.marks ≡ book.old.marks }
+    ensures past { book.new.past ≡ book.old.past }
     ensures right { IsRight book.new }
     ensures held { HoldsBook (K.holding keeper.new) (K.readiness keeper.new) book.new }
     ensures crash { LeavesLists (SpellsEither book.old book.new) (K.holding keeper.old) (K.holding keeper.new) }
     ensures cause { HasCommandCause (K.faults keeper.old) (K.faults keeper.new) result }
+    ensures steps { steps.new ≤ steps.old + command_cost book.old.register.entries entry }
 {
     match book
         .register
         .judge(alloc, &entry.drafter, entry.request, &entry.command)
     {
         Ok(Verdict::Accepted { law, reply }) => {
-            keep(alloc, keeper, book, with_law(entry, law), reply)
+            keep(alloc, keeper, book, with_law(entry, law), reply, steps)
         }
         Ok(Verdict::Repeat(reply)) => let_go(entry, Ok(reply)),
         Ok(Verdict::Refused(rule)) => let_go(entry, Err(CommandFault::Rule(rule))),
@@ -185,12 +199,13 @@ fn with_law(entry: Entry, law: Option<u32>) -> Entry
 }
 
 // Keeps an entry that is accepted with this reply. All memory is taken before the keeper is asked.
-fn keep<K: Keeper>(
+fn keep<K: Keeper, L: Ledger>(
     alloc: Global,
     keeper: &mut K,
     book: &mut Book,
     entry: Entry,
     reply: Reply,
+    steps: &mut Steps<L>,
 ) -> Result<Reply, CommandFault>
     requires right { IsRight book.old }
     requires settled { book.old.pending ≡ None }
@@ -201,27 +216,48 @@ fn keep<K: Keeper>(
     ensures acts { Acts entry book.old book.new result }
     ensures tells { (K.holding keeper.old).tells ↔ (K.holding keeper.new).tells }
     ensures marks { book.new.marks ≡ book.old.marks }
+    ensures past { book.new.past ≡ book.old.past }
     ensures right { IsRight book.new }
     ensures held { HoldsBook (K.holding keeper.new) (K.readiness keeper.new) book.new }
     ensures crash { LeavesLists (SpellsEither book.old book.new) (K.holding keeper.old) (K.holding keeper.new) }
     ensures cause { HasCommandCause (K.faults keeper.old) (K.faults keeper.new) result }
+    ensures steps { steps.new ≤ steps.old + entry_cost book.old.register.entries entry }
 {
-    match prepare(alloc, &mut book.register, &entry) {
-        Ok(bytes) => append(alloc, keeper, book, Pending { entry, bytes }, reply),
+    match book.reserve_entry(&entry) {
+        Ok(()) => match prepare(alloc, book, &entry, steps) {
+            Ok((bytes, changes)) => {
+                let pending = Pending {
+                    entry,
+                    bytes,
+                    changes,
+                };
+                append(alloc, keeper, book, pending, reply)
+            }
+            Err(Memory) => let_go(entry, Err(CommandFault::Memory)),
+        },
         Err(Memory) => let_go(entry, Err(CommandFault::Memory)),
     }
 }
 
-// Makes room for an entry, and spells it.
-fn prepare(alloc: Global, register: &mut Register, entry: &Entry) -> Result<Vec<u8>, Memory>
-    requires { MayFollow register.old.entries entry.now }
-    ensures entries { register.new.entries ≡ register.old.entries }
-    ensures pending { IfOk result (λ bytes. IsPendingOn register.new.entries register.new.spare
-        (record { entry = entry.now; bytes = bytes })) }
+// Spells an entry for which there is room, and makes its changes.
+fn prepare<L: Ledger>(
+    alloc: Global,
+    book: &Book,
+    entry: &Entry,
+    steps: &mut Steps<L>,
+) -> Result<(Vec<u8>, Changes), Memory>
+    requires follows { MayFollow book.now.register.entries entry.now }
+    requires room { 1 ≤ book.now.register.spare }
+    requires space { 1 ≤ spare book.now.tables }
+    requires right { IsRight book.now }
+    ensures pending { IfOk result (λ made. IsPendingOn book.now.register book.now.tables
+        (record { entry = entry.now; bytes = made.0; changes = made.1 })) }
+    ensures steps { steps.new ≤ steps.old + entry_cost book.now.register.entries entry.now }
 {
-    register.reserve(entry)?;
-    laws::accepted_can_be_spelled(register, entry);
-    encode(alloc, entry)
+    laws::accepted_can_be_spelled(&book.register, entry);
+    let bytes = encode(alloc, entry)?;
+    let changes = make_changes(alloc, &book.register, &book.tables, entry, steps)?;
+    Ok((bytes, changes))
 }
 
 // Gives an entry to the keeper, and commits it once the keeper has it.
@@ -236,12 +272,13 @@ fn append<K: Keeper>(
     requires right { IsRight book.old }
     requires settled { book.old.pending ≡ None }
     requires held { HoldsBook (K.holding keeper.old) (K.readiness keeper.old) book.old }
-    requires follows { IsPendingOn book.old.register.entries book.old.register.spare pending }
+    requires follows { IsPendingOn book.old.register book.old.tables pending }
     requires accepted { verdict book.old.register.entries pending.entry.drafter pending.entry.request
         pending.entry.command ≡ Accepted pending.entry.law reply }
     ensures acts { Acts pending.entry book.old book.new result }
     ensures tells { (K.holding keeper.old).tells ↔ (K.holding keeper.new).tells }
     ensures marks { book.new.marks ≡ book.old.marks }
+    ensures past { book.new.past ≡ book.old.past }
     ensures right { IsRight book.new }
     ensures held { HoldsBook (K.holding keeper.new) (K.readiness keeper.new) book.new }
     ensures crash { LeavesLists (SpellsEither book.old book.new) (K.holding keeper.old) (K.holding keeper.new) }

@@ -1,8 +1,23 @@
-//! Book: what an office writes down: its register, how far its keeper is known to go, what is pending, and the marks
-//! of faults.
+//! Book: what an office writes down: its register, how far its keeper is known to go, what is pending, the marks of
+//! faults, and what it keeps of works, so that it need not be replayed.
 
+use frbr_names::WorkName;
+use indexmap::IndexMap;
 use law_register::{Entry, FaultMark, Register};
-use viewpoints::Past;
+use version_cache::{Table, WorkRevision, WorkTables};
+use viewpoints::PastTables;
+
+/// What is kept of the works that law entries enact, by their names.
+pub type KeptWorks = IndexMap<WorkName, WorkTables>;
+
+/// What becomes of what is kept once an entry stands behind the others. A clause sees what is kept then (`applied`).
+#[derive(Drop)]
+pub struct Changes {
+    /// The work that it enacts, if it enacts one, and what is to be kept of it.
+    pub enacted: Option<(WorkName, WorkTables)>,
+    /// The works of which something else is known with it, each with the revision of what is kept.
+    pub revised: Vec<(WorkName, WorkRevision)>,
+}
 
 /// An entry of which it is not known whether the keeper has it.
 #[derive(Drop)]
@@ -11,6 +26,8 @@ pub struct Pending {
     pub entry: Entry,
     /// The bytes that spell it.
     pub bytes: Vec<u8>,
+    /// What becomes of what is kept once it stands there.
+    pub changes: Changes,
 }
 
 /// What an office writes down.
@@ -24,6 +41,8 @@ pub struct Book {
     pub pending: Option<Pending>,
     /// The marks of the commands that a fault of the keeper answered.
     pub marks: Vec<FaultMark>,
+    /// What is kept of each work that these entries enact.
+    pub tables: KeptWorks,
     /// What is kept of past viewpoints.
-    pub past: Past,
+    pub past: PastTables<Table>,
 }

@@ -4,11 +4,15 @@
 
 mod acting;
 mod book;
+mod changes;
 pub mod laws;
 mod office;
 mod opening;
+mod renewing;
 mod sent;
+mod tabling;
 mod writing;
 
-pub use book::{Book, Pending};
+pub use book::{Book, Changes, KeptWorks, Pending};
 pub use office::{Closed, Office, OpenRefused};
+pub use opening::Opened;

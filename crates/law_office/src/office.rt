@@ -1,36 +1,44 @@
 //! Office: a desk over a keeper and a clock that it is lent. A clause sees both as they are, its entries, the one
-//! that is pending, its marks, and the names of what it was lent.
+//! that is pending, its marks, the keys of what it keeps of past viewpoints, and the names of what it was lent.
 
-ghost use Rattle.std.specs.Prelude.{◌≡◌, ◌≢◌, ◌↔◌, ◌+◌, ◌<◌, ◌≤◌, [], true, None, Ok, IfOk, IfErr, IsTrue};
+ghost use Rattle.std.specs.Prelude.{◌≡◌, ◌≢◌, ◌↔◌, ◌+◌, ◌<◌, ◌≤◌, [], true, None, Some, Ok, IfOk, IfErr, IfSome, IsTrue, is_some};
 ghost use Rattle.law_keeper.specs.Keepers.{Keeps, LeavesOldOrSame};
 ghost use Rattle.law_keeper.specs.declared.readiness.Readiness.TheVariants.{Ready, Unopened};
 ghost use Rattle.law_register.specs.Answer.Answers.{Answers};
 ghost use Rattle.law_register.specs.Answer.Asking.{answer_at};
-ghost use Rattle.law_register.specs.Answer.Costs.{bearing_at};
-ghost use Rattle.law_register.specs.Desk.Commands.{Ends, HasCommandCause, LeavesBetween, LeavesNoMore, mark_of, marks_after};
+ghost use Rattle.law_register.specs.Answer.PastAsking.{AreKeysAfter, keys_asked, past_cost};
+ghost use Rattle.law_register.specs.Answer.Renewing.{opening_cost};
+ghost use Rattle.law_register.specs.Desk.Commands.{EndsWithin, HasCommandCause, LeavesBetween, LeavesNoMore, mark_of, marks_after};
 ghost use Rattle.law_register.specs.Desk.States.{Found, IsDurable, IsFoundOf, IsSound, standing};
 ghost use Rattle.law_register.specs.Law.Spelling.{is_well_spelled};
+ghost use Rattle.law_register.specs.Register.KnownNext.{known_now};
 ghost use Rattle.law_register.specs.Register.LawList.{front};
+ghost use Rattle.law_register.specs.declared.register.known.Known.{Known as KnownValue};
+ghost use Rattle.std.specs.Map.{keys_of};
+ghost use Rattle.version_cache.specs.Seen.{table_view};
+ghost use Rattle.version_cache.specs.Tables as tables;
 ghost use Rattle.law_office.specs.Crashing.{crashes_of};
 ghost use Rattle.law_office.specs.Lists.{EndsOver};
 ghost use Rattle.law_office.specs.Offices.{HoldsBook, IsRight, Spells, desk_of, names_of, pending_of};
-ghost use Rattle.law_office.specs.Opening.{HasRefusalCause, Refuses, StaysUnlessFailed, opened_of};
+ghost use Rattle.law_office.specs.Opening.{HasRefusalCause, Refuses, StaysUnlessFailed, cost_opened, opened_of};
 
 use crate::acting::command as do_command;
 use crate::book::Book;
 use crate::sent::Sent;
 use desk_base::{Clock, Memory, Steps};
 use draft_sessions::{draft_of, preview};
+use frbr_names::WorkName;
 use law_keeper::Keeper;
+use law_register::laws::entries_are_legal;
 use law_register::{
-    Answer, AskFault, Command, CommandFault, Desk, Draft, Drafter, FaultMark, OpenFault, Question,
-    Register, Reply,
+    Answer, AskFault, Command, CommandFault, Desk, Draft, Drafter, FaultMark, OpenFault, QueryRule,
+    Question, Reading, Register, Reply,
 };
 use replay_core::FromEnacted;
 use std::alloc::Global;
 use std::marker::Model;
 use std::sync::ledger::Ledger;
-use viewpoints::Past;
+use version_cache::Table;
 
 /// A keeper of which no office could be opened, and why.
 #[derive(Drop)]
@@ -61,6 +69,7 @@ pub struct Office<'k, 'c, K: Keeper, C: Clock> {
 }
 
 impl<'k, 'c, K: Keeper, C: Clock> Model for Office<'k, 'c, K, C> {
+    ghost use Rattle.std.specs.Map.{keys_of};
     ghost use Rattle.law_office.specs.Offices.{HoldsBook, IsRight, OfficeState, names_of, pending_of};
 
     ghost Value = { OfficeState K C };
@@ -77,6 +86,7 @@ impl<'k, 'c, K: Keeper, C: Clock> Model for Office<'k, 'c, K, C> {
       entries = o.book.register.entries;
       pending = pending_of o.book.pending;
       marks = o.book.marks.items;
+      past = keys_of o.book.past;
       origin = names_of o.keeper.ghost_name o.clock.ghost_name;
     } };
 
@@ -86,11 +96,12 @@ impl<'k, 'c, K: Keeper, C: Clock> Model for Office<'k, 'c, K, C> {
 impl<'k, 'c, K: Keeper, C: Clock> Office<'k, 'c, K, C> {
     /// Opens a keeper, and the office of what it has. A refusal gives keeper and clock back, and the clock was
     /// asked nothing. No payload changes, and a crash at any moment leaves a list that it could leave before, or the
-    /// list itself.
-    pub fn open(
+    /// list itself. It takes one step at most for each id that is applied to make what is kept of the enacted works.
+    pub fn open<L: Ledger>(
         alloc: Global,
         keeper: &'k mut K,
         clock: &'c mut C,
+        steps: &mut Steps<L>,
     ) -> Result<Office<'k, 'c, K, C>, OpenRefused<'k, 'c, K, C>>
         ensures opened { (K.holding keeper.old).tells
             → IfOk result (λ office. opened_of (K.holding keeper.old).list ≡ Ok office.entries) }
@@ -115,8 +126,12 @@ impl<'k, 'c, K: Keeper, C: Clock> Office<'k, 'c, K, C> {
         ensures clock { IfOk result (λ office. office.clock ≡ clock.old) }
         ensures origin { IfOk result (λ office. office.origin
             ≡ names_of keeper.entry.ghost_name clock.entry.ghost_name) }
+        ensures past { IfOk result (λ office. office.past ≡ []) }
+        ensures steps { (K.holding keeper.old).tells
+            → steps.new ≤ steps.old + cost_opened (opened_of (K.holding keeper.old).list) }
+        ensures steps_opened { IfOk result (λ office. steps.new ≤ steps.old + opening_cost office.entries) }
     {
-        match Book::open(alloc, keeper) {
+        match Book::open(alloc, keeper, steps) {
             Ok(book) => Ok(Office::new(keeper, clock, book)),
             Err(fault) => Err(OpenRefused {
                 keeper,
@@ -133,6 +148,7 @@ impl<'k, 'c, K: Keeper, C: Clock> Office<'k, 'c, K, C> {
         ensures entries { result.entries ≡ book.register.entries }
         ensures pending { result.pending ≡ pending_of book.pending }
         ensures marks { result.marks ≡ book.marks.items }
+        ensures past { result.past ≡ keys_of book.past }
         ensures keeper { result.keeper ≡ keeper.old }
         ensures clock { result.clock ≡ clock.old }
         ensures origin { result.origin ≡ names_of keeper.entry.ghost_name clock.entry.ghost_name }
@@ -185,12 +201,38 @@ impl<'k, 'c, K: Keeper, C: Clock> Office<'k, 'c, K, C> {
         self.book.marks.as_slice()
     }
 
+    /// The table of a work in a reading: its versions by day, as they are known at the front. `None`: no law entry enacts the work. It
+    /// takes no memory.
+    pub fn table(&self, work: &WorkName, reading: Reading) -> Option<&Table>
+        ensures found { is_some result ≡ is_some (known_now self.now.entries work.now) }
+        ensures reading { IfSome result (λ table. (table_view table.now).reading ≡ reading) }
+        ensures right { IfSome result (λ table. (known : KnownValue) → known_now self.now.entries work.now ≡ Some known
+            → tables.IsRight known (table_view table.now)) }
+    {
+        match self.book.tables.get(work) {
+            Some(kept) => Some(kept.table(reading)),
+            None => None,
+        }
+    }
+
     /// Whether some command was answered by a fault of the keeper.
     pub fn faulted(&self) -> bool
         ensures { IsTrue result ↔ (self.now.marks ≢ []) }
     {
         !self.book.marks.is_empty()
     }
+}
+
+// The refusal of a question for a work that is not known.
+#[tactic(auto, unfolding(law_register::specs::Answer::Asking::answer_at))]
+fn refuse_unknown(register: &Register, question: &Question) -> Result<Answer, AskFault>
+    requires unknown { known_now register.now.entries question.now.work ≡ None }
+    requires ahead { front register.now.entries ≤ question.now.viewpoint }
+    ensures { Answers result (answer_at register.now.entries question.now) }
+{
+    entries_are_legal(register);
+    let work = question.work.copy()?;
+    Err(AskFault::Query(QueryRule::UnknownWork(work)))
 }
 
 impl<'k, 'c, K: Keeper, C: Clock> Desk for Office<'k, 'c, K, C> {
@@ -200,6 +242,8 @@ impl<'k, 'c, K: Keeper, C: Clock> Desk for Office<'k, 'c, K, C> {
     ghost state = { λ office. desk_of K.faults C.days office };
 
     ghost crashes = { λ office. crashes_of (K.holding office.keeper) };
+
+    ghost past = { λ office. office.past };
 
     fn command<L: Ledger>(
         &mut self,
@@ -211,7 +255,8 @@ impl<'k, 'c, K: Keeper, C: Clock> Desk for Office<'k, 'c, K, C> {
     ) -> Result<Reply, CommandFault>
         requires { is_well_spelled command ≡ true }
         ensures outcome { let state = desk_of K.faults C.days in
-            Ends drafter.now request command (standing (state self.old)) (standing (state self.new)) result }
+            EndsWithin drafter.now request command (standing (state self.old)) (standing (state self.new))
+            steps.old steps.new result }
         ensures over { let state = desk_of K.faults C.days in
             EndsOver drafter.now request command (standing (state self.old)) (standing (state self.new))
             (K.holding self.old.keeper) (K.holding self.new.keeper) result }
@@ -223,9 +268,8 @@ impl<'k, 'c, K: Keeper, C: Clock> Desk for Office<'k, 'c, K, C> {
         ensures sound { IsSound (desk_of K.faults C.days self.new) }
         ensures durable { IsDurable (desk_of K.faults C.days self.new) (crashes_of (K.holding self.new.keeper)) }
         ensures origin { self.new.origin ≡ self.old.origin }
-        ensures steps { steps.new ≡ steps.old }
+        ensures past { self.new.past ≡ self.old.past }
     {
-        let _ = steps;
         match drafter.copy() {
             Ok(drafter) => {
                 let sent = Sent {
@@ -233,7 +277,7 @@ impl<'k, 'c, K: Keeper, C: Clock> Desk for Office<'k, 'c, K, C> {
                     request,
                     command,
                 };
-                do_command(alloc, self.keeper, self.clock, &mut self.book, sent)
+                do_command(alloc, self.keeper, self.clock, &mut self.book, sent, steps)
             }
             Err(Memory) => {
                 drop(command);
@@ -242,13 +286,12 @@ impl<'k, 'c, K: Keeper, C: Clock> Desk for Office<'k, 'c, K, C> {
         }
     }
 
-    fn ask<L: Ledger>(
-        &self,
-        alloc: Global,
-        question: &Question,
-        steps: &mut Steps<L>,
-    ) -> Result<Answer, AskFault> {
-        Past::new(alloc)?.answer_past(alloc, &FromEnacted, &self.book.register, question, steps)
+    fn ask(&self, alloc: Global, question: &Question) -> Result<Answer, AskFault> {
+        let register = &self.book.register;
+        match self.book.tables.get(&question.work) {
+            Some(kept) => kept.answer(alloc, &FromEnacted, register, question),
+            None => refuse_unknown(register, question),
+        }
     }
 
     fn ask_past<L: Ledger>(
@@ -262,7 +305,9 @@ impl<'k, 'c, K: Keeper, C: Clock> Desk for Office<'k, 'c, K, C> {
         ensures alone { (self.new.keeper ≡ self.old.keeper) × (self.new.clock ≡ self.old.clock) }
         ensures same { desk_of K.faults C.days self.new ≡ desk_of K.faults C.days self.old }
         ensures crash { LeavesNoMore (crashes_of (K.holding self.old.keeper)) (crashes_of (K.holding self.new.keeper)) }
-        ensures steps { steps.new ≤ steps.old + bearing_at self.old.entries question.now }
+        ensures keys { AreKeysAfter result self.old.past
+            (keys_asked self.old.entries question.now self.old.past) self.new.past }
+        ensures steps { steps.new ≤ steps.old + past_cost self.old.entries question.now self.old.past }
     {
         self.book
             .past

@@ -7,11 +7,10 @@ ghost use Rattle.law_register.specs.Law.Spelling.{is_well_spelled};
 ghost use Rattle.law_register.specs.Register.Verdicts.{verdict as said};
 ghost use Rattle.entry_codec.specs.Entries.{decoding};
 ghost use Rattle.entry_codec.specs.Reads.{Gives as GivesEntry};
-ghost use Rattle.law_office.specs.Offices.{Holds, HoldsBook, IsRight};
+ghost use Rattle.law_office.specs.Offices.{Holds};
 ghost use Rattle.law_office.specs.Opening as spec;
 ghost use Rattle.law_office.specs.Opening.{HasOpenCause, IsOfPayload, Opens, StaysUnlessFailed, opened_of, with_entry, with_payload};
 
-use crate::book::Book;
 use desk_base::Memory;
 use entry_codec::laws::decoded_is_spelled;
 use entry_codec::{CodecFault, DecodeFail, decode_knowing};
@@ -19,7 +18,15 @@ use frbr_names::WorkName;
 use law_keeper::Keeper;
 use law_register::{Command, Damage, Entry, Modification, OpenFault, Register, Verdict, laws};
 use std::alloc::Global;
-use viewpoints::Past;
+
+/// What was opened: a register, and how far its keeper goes.
+#[derive(Drop)]
+pub struct Opened {
+    /// The entries that the keeper's payloads spell.
+    pub register: Register,
+    /// The keeper's cursor of the end of these entries.
+    pub end: u64,
+}
 
 // The number of the rule for which an entry with this law number may not stand where this is said of its command.
 fn order_rule(law: Option<u32>, verdict: &Verdict) -> Option<u8>
@@ -195,33 +202,27 @@ fn load_entries<K: Keeper>(
     Ok(end)
 }
 
-impl Book {
+impl Opened {
     /// Opens a keeper, and the register of the entries that its payloads spell. Damage is that of what holds the
     /// payloads, or of the first payload that is no entry, or that is not accepted behind those before it. No payload
     /// changes, and a crash at any moment leaves a list that it could leave before, or the list itself.
-    pub fn open<K: Keeper>(alloc: Global, keeper: &mut K) -> Result<Book, OpenFault>
+    pub fn open<K: Keeper>(alloc: Global, keeper: &mut K) -> Result<Opened, OpenFault>
         ensures opened { (K.holding keeper.old).tells
-            → Opens (λ book. book.register.entries) result (opened_of (K.holding keeper.old).list) }
-        ensures new { IfOk result (λ book. (book.pending ≡ None) × (book.marks.items ≡ [])) }
-        ensures right { IfOk result IsRight }
-        ensures held { IfOk result (HoldsBook (K.holding keeper.new) (K.readiness keeper.new)) }
+            → Opens (λ opened. opened.register.entries) result (opened_of (K.holding keeper.old).list) }
+        ensures right { IfOk result (λ opened.
+            spec.opened (spec.spellings opened.register.entries) ≡ Ok opened.register.entries) }
+        ensures held { IfOk result (λ opened.
+            Holds (K.holding keeper.new) (K.readiness keeper.new) opened.register.entries None opened.end) }
         ensures same { Keeps (K.holding keeper.old) (K.holding keeper.new) }
         ensures crash { LeavesOldOrSame (K.holding keeper.old) (K.holding keeper.new) }
         ensures cause { HasOpenCause (K.faults keeper.old) (K.faults keeper.new) result }
         ensures stays { (K.holding keeper.old).tells
             → IfErr result (StaysUnlessFailed (K.faults keeper.old) (K.faults keeper.new)) }
     {
-        let past = Past::new(alloc)?;
         keeper.reopen(alloc)?;
         let mut register = Register::new(alloc);
         match load_entries(alloc, keeper, &mut register) {
-            Ok(end) => Ok(Book {
-                register,
-                end,
-                pending: None,
-                marks: Vec::new(alloc),
-                past,
-            }),
+            Ok(end) => Ok(Opened { register, end }),
             Err(fault) => {
                 drop(register);
                 Err(fault)

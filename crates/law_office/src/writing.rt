@@ -1,14 +1,18 @@
 //! What is written into a book. None of it takes memory but the room for a mark.
 
 ghost use Rattle.std.specs.Prelude.{◌≡◌, ◌≤◌, ◌<◌, ◌∷◌, ◌++◌, [], None, Ok, IfOk, OnOk, length, vec_len, vec_capacity};
+ghost use Rattle.indexmap.specs.IndexMap.{spare};
 ghost use Rattle.law_register.specs.Desk.Commands.{mark_of};
+ghost use Rattle.viewpoints.specs.Right as viewpoints;
 ghost use Rattle.law_office.specs.Acting.{resolved, resolved_end};
 ghost use Rattle.law_office.specs.Opening.{opened, spellings};
 ghost use Rattle.law_office.specs.Offices.{IsPendingOn, IsRight, pending_of};
+ghost use Rattle.law_office.specs.Tables.{AreTablesOf, kept_in, table_on};
 
 use crate::book::{Book, Pending};
+use crate::renewing::apply;
 use desk_base::Memory;
-use law_register::{Drafter, FaultMark};
+use law_register::{Drafter, Entry, FaultMark};
 
 impl Book {
     // Makes room for a mark, and the mark of a request.
@@ -24,6 +28,7 @@ impl Book {
         ensures pending { self.new.pending ≡ self.old.pending }
         ensures end { self.new.end ≡ self.old.end }
         ensures marks { self.new.marks.items ≡ self.old.marks.items }
+        ensures past { self.new.past ≡ self.old.past }
         ensures right { IsRight self.new }
     {
         self.marks.reserve(1)?;
@@ -43,6 +48,7 @@ impl Book {
         ensures register { self.new.register ≡ self.old.register }
         ensures pending { self.new.pending ≡ self.old.pending }
         ensures end { self.new.end ≡ self.old.end }
+        ensures past { self.new.past ≡ self.old.past }
         ensures right { IsRight self.new }
     {
         let FaultMark {
@@ -58,18 +64,43 @@ impl Book {
         });
     }
 
-    // An entry that the keeper has stands behind the others, up to this cursor.
+    // Makes room for an entry, and for one work more.
+    pub(crate) fn reserve_entry(&mut self, entry: &Entry) -> Result<(), Memory>
+        requires { IsRight self.old }
+        ensures entries { self.new.register.entries ≡ self.old.register.entries }
+        ensures room { OnOk result (1 ≤ self.new.register.spare) }
+        ensures space { OnOk result (1 ≤ spare self.new.tables) }
+        ensures pending { self.new.pending ≡ self.old.pending }
+        ensures end { self.new.end ≡ self.old.end }
+        ensures marks { self.new.marks ≡ self.old.marks }
+        ensures past { self.new.past ≡ self.old.past }
+        ensures right { self.old.pending ≡ None → IsRight self.new }
+    {
+        self.register.reserve(entry)?;
+        self.tables.reserve(1)?;
+        Ok(())
+    }
+
+    // An entry that the keeper has stands behind the others, up to this cursor, and what is kept is for it.
     pub(crate) fn commit(&mut self, pending: Pending, end: u64)
         requires right { IsRight self.old }
-        requires follows { IsPendingOn self.old.register.entries self.old.register.spare pending }
+        requires follows { IsPendingOn self.old.register self.old.tables pending }
         ensures entries { self.new.register.entries ≡ self.old.register.entries ++ pending.entry ∷ [] }
         ensures opens { opened (spellings self.new.register.entries) ≡ Ok self.new.register.entries }
         ensures end { self.new.end ≡ end }
         ensures marks { self.new.marks ≡ self.old.marks }
         ensures pending { self.new.pending ≡ self.old.pending }
+        ensures tables { AreTablesOf self.new.register.entries (kept_in self.new.tables) }
+        ensures past { self.new.past ≡ self.old.past }
+        ensures right { viewpoints.IsRight table_on self.new.register.entries self.new.past }
     {
-        let Pending { entry, bytes: _ } = pending;
+        let Pending {
+            entry,
+            bytes: _,
+            changes,
+        } = pending;
         self.register.push(entry);
+        apply(&mut self.tables, changes);
         self.end = end;
     }
 
@@ -81,6 +112,7 @@ impl Book {
         ensures end { self.new.end ≡ resolved_end self.old.end (pending_of self.old.pending) found }
         ensures pending { self.new.pending ≡ None }
         ensures marks { self.new.marks ≡ self.old.marks }
+        ensures past { self.new.past ≡ self.old.past }
         ensures right { IsRight self.new }
     {
         match self.pending.take() {

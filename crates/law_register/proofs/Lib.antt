@@ -34,3 +34,7 @@ pub mod TouchedWorks
 pub mod Previews
 pub mod Apart
 pub mod ApartVerdicts
+pub mod WhenEnacted
+pub mod ShownAlike
+pub mod BareActs
+pub mod Renewing

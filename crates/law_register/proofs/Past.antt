@@ -67,7 +67,7 @@ pub past_of : (es : List Entry) (v : ℕ) → is_legal es ≡ true → IsPast es
 past_of es v = by_last (λ xs. is_legal xs ≡ true → IsPast xs v) (λ xs x. past_more xs x v) (λ legal. record { before = []; legal = refl; known = sym (take_all [] v (omega arith)) }) es
 
 -- the act of a work, if a law entry up to a viewpoint enacts it
-abbrev act_within : ℕ → Option (ℕ × Act) → Option (ℕ × Act)
+abbrev pub act_within : ℕ → Option (ℕ × Act) → Option (ℕ × Act)
 act_within v None = None
 act_within v (Some found) = cond (nat_le found.0 v) (Some found) None
 
@@ -78,7 +78,7 @@ NumberedIn n (Some found) = found.0 ≤ n
 above : (v n : ℕ) → v < n → nat_le n v ≡ false
 above v n h = grind (arith, nat_tests)
 
-below : (v n : ℕ) → n ≤ v → nat_le n v ≡ true
+pub below : (v n : ℕ) → n ≤ v → nat_le n v ≡ true
 below v n h = grind (arith, nat_tests)
 
 numbered_more : (n : ℕ) (act : Option Act) (found : Option (ℕ × Act)) → NumberedIn n found → NumberedIn (n + 1) (first_act found (enacted_or (n + 1) act None))
@@ -107,7 +107,7 @@ none_later v n act (Some found) h = refl
 none_later v n None None h = refl
 none_later v n (Some act) None h = ap (λ b. cond b (Some (n, act)) None) (above v n h)
 
-enacted_taken : (w : List ℕ) (v : ℕ) (ls : List Command) → enacted w (take v ls) ≡ act_within v (enacted w ls)
+pub enacted_taken : (w : List ℕ) (v : ℕ) (ls : List Command) → enacted w (take v ls) ≡ act_within v (enacted w ls)
 enacted_taken w v ls = by_last (λ xs. enacted w (take v xs) ≡ act_within v (enacted w xs)) more (ap (enacted w) (take_all [] v (omega arith))) ls
   where
     more : (xs : List Command) (l : Command) → enacted w (take v xs) ≡ act_within v (enacted w xs) → enacted w (take v (xs ++ l ∷ [])) ≡ act_within v (enacted w (xs ++ l ∷ []))

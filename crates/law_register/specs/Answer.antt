@@ -6,9 +6,12 @@ pub mod Costs
 pub mod Counted
 pub mod Flags
 pub mod Order
+pub mod PastAsking
+pub mod PastKeys
 pub mod Previews
 pub mod Queries
 pub mod Questions
+pub mod Renewing
 pub mod Replay
 pub mod Shown
 pub mod ShownNodes

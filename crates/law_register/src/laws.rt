@@ -1,17 +1,23 @@
 //! What holds of commands and of registers. Each law is a function that does nothing, whose clause is the law.
 
-ghost use Rattle.std.specs.Prelude.{◌≡◌, ◌≤◌, ◌↔◌, ◌++◌, ◌∷◌, [], ◌&&◌, ℕ, List, IsTrue, false, true, length, map, option_map, slice_get, Some};
+ghost use Rattle.std.specs.Prelude.{◌≡◌, ◌≤◌, ◌↔◌, ◌++◌, ◌∷◌, [], ◌&&◌, ℕ, List, IsTrue, false, true, length, map, Option, None, Some, option_map, slice_get};
 ghost use Rattle.std.specs.List.{AllByRecursion};
 ghost use Rattle.std.specs.Option.{option_to_list};
+ghost use Rattle.law_register.specs.declared.law.act.Act.{Act};
 ghost use Rattle.law_register.specs.declared.law.command.Command.{Command as CommandValue};
+ghost use Rattle.law_register.specs.declared.law.command.Command.TheVariants.{Enact};
 ghost use Rattle.law_register.specs.declared.register.entry.Entry.{Entry};
 ghost use Rattle.law_register.specs.declared.register.known.Known.{Known as KnownValue};
 ghost use Rattle.law_register.specs.declared.register.limits.TheConstants as limits;
+ghost use Rattle.law_register.specs.declared.register.verdict.Reply.{Reply};
+ghost use Rattle.law_register.specs.declared.register.verdict.Verdict.TheVariants.{Accepted};
+ghost use Rattle.law_register.specs.Answer.Asking.{known_when_enacted};
+ghost use Rattle.law_register.specs.Answer.Renewing.{command_cost, entry_cost};
 ghost use Rattle.law_register.specs.Answer.Touched.{touched_day, touched_days, work_entered};
 ghost use Rattle.law_register.specs.Register.Concerns.{is_named};
 ghost use Rattle.law_register.specs.Register.Drafters.{is_drafter};
-ghost use Rattle.law_register.specs.Register.KnownIds.{ids_of};
-ghost use Rattle.law_register.specs.Register.KnownNext.{known_next, known_now, up_to};
+ghost use Rattle.law_register.specs.Register.KnownIds.{enacted, ids_of, known_at};
+ghost use Rattle.law_register.specs.Register.KnownNext.{at_viewpoint, bare, known_next, known_now, up_to};
 ghost use Rattle.law_register.specs.Register.LawList.{laws, law_of, front, law_numbers, first_numbers};
 ghost use Rattle.law_register.specs.Law.Same.{same_command};
 ghost use Rattle.law_register.specs.Law.Sizes.{entry_size};
@@ -159,4 +165,31 @@ pub fn touched_days_are_of_the_work_concerned()
         → map (λ touched. touched.1) (touched_days entries entry) ≡ option_to_list (touched_day entries entry) }
     ensures works { (entries : List Entry) (entry : Entry)
         → AllByRecursion (λ touched. work_entered entries (law_of entries entry) ≡ Some touched.0) (touched_days entries entry) }
+{}
+
+/// What is known of a work when it was enacted is its act alone: nothing is recorded in a work before.
+pub fn enacted_acts_are_bare()
+    ensures { (entries : List Entry) (work : List ℕ) → is_legal entries ≡ true
+        → known_when_enacted entries work (enacted work (laws entries)) ≡ option_map bare (known_now entries work) }
+{}
+
+/// At the front and ahead of it all law entries are known.
+pub fn all_is_known_ahead()
+    ensures { (entries : List Entry) (work : List ℕ) (viewpoint : ℕ) → front entries ≤ viewpoint
+        → known_at entries work viewpoint
+        ≡ option_map (at_viewpoint viewpoint) (known_now entries work) }
+{}
+
+/// The steps of a command that is accepted are those of its entry, and one that touches no day takes none: an Enact, or an entry of
+/// a draft.
+pub fn commands_cost_what_they_touch()
+    ensures accepted { (entries : List Entry) (entry : Entry) (law : Option ℕ) (reply : Reply)
+        → verdict entries entry.drafter entry.request entry.command ≡ Accepted law reply
+        → command_cost entries entry ≡ entry_cost entries (record entry { law = law }) }
+    ensures untouched { (entries : List Entry) (entry : Entry) → touched_day entries entry ≡ None
+        → command_cost entries entry ≡ 0 }
+    ensures enacting { (entries : List Entry) (entry : Entry) (act : Act) → entry.command ≡ Enact act
+        → command_cost entries entry ≡ 0 }
+    ensures drafting { (entries : List Entry) (entry : Entry) → law_of entries entry ≡ []
+        → command_cost entries entry ≡ 0 }
 {}

@@ -11,8 +11,9 @@ pub mod replay_laws;
 mod series;
 
 pub use answer::{
-    Answer, AnswerNode, AnswerNodes, AskFault, Dated, Days, Due, Ids, QueryRule, Question, Reading,
-    Replayer, Touched, Unapplied, Version, answer_by, answer_dated, continue_replay, enact,
+    Answer, AnswerNode, AnswerNodes, AskFault, Dated, Days, Due, Ids, PastKey, QueryRule, Question,
+    Reading, Replayer, Touched, Unapplied, Version, answer_by, answer_dated, continue_replay,
+    enact,
 };
 pub use desk::{CommandFault, Damage, Desk, FaultMark, OpenFault};
 pub use law::{Act, Command, Destination, Kind, ModSource, Modification, Mods, entry_size};

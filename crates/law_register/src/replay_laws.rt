@@ -1,18 +1,20 @@
 //! What holds of orders, breakpoints and replays. Each law is a function that does nothing, whose clause is the law.
 
-ghost use Rattle.std.specs.Prelude.{◌≡◌, ◌++◌, ℕ, false};
+ghost use Rattle.std.specs.Prelude.{◌≡◌, ◌++◌, [], ℕ, Option, false};
 ghost use Rattle.std.specs.List.{list_any};
 ghost use Rattle.std.specs.List.Sorted.{IsStrictlySortedBy};
 ghost use Rattle.std.specs.Ordering.{nat_cmp};
 ghost use Rattle.desk_base.specs.declared.id.Id.{Id};
+ghost use Rattle.law_register.specs.Answer.Answers.{answer_of_text};
 ghost use Rattle.law_register.specs.Answer.Breakpoints.{breakpoints, has_day, is_named};
 ghost use Rattle.law_register.specs.Answer.Counted.{is_same_id};
 ghost use Rattle.law_register.specs.Answer.Order.{due_cmp, due_on, is_due_id, order};
-ghost use Rattle.law_register.specs.Answer.Replay.{replayed};
+ghost use Rattle.law_register.specs.Answer.Renewing.{both_costs};
+ghost use Rattle.law_register.specs.Answer.Replay.{as_enacted, replay_on, replayed};
 ghost use Rattle.law_register.specs.Answer.Soundness.{IsSound, id_twice};
 ghost use Rattle.law_register.specs.Answer.Versions.{version_view};
 
-use crate::{Known, Reading, Version};
+use crate::{Known, Question, Reading, Version};
 use desk_base::{Day, Id};
 
 /// What is due on a day ascends by its keys: the day from which it bears, the day of its source, the bytes of the source's IRI,
@@ -47,4 +49,18 @@ pub fn breakpoints_are_named(_known: &Known)
 pub fn replay_goes_on(_known: &Known, _version: &Version, _first: &[Id], _others: &[Id])
     ensures { replayed _known.now.mods (version_view _version.now) (_first.now ++ _others.now)
         ≡ replayed _known.now.mods (replayed _known.now.mods (version_view _version.now) _first.now) _others.now }
+{}
+
+/// What is shown of a text does not depend on how many law entries there are, nor on how many of them are known.
+pub fn texts_are_shown_alike(_known: &Known, _version: &Version, _question: &Question)
+    ensures { (viewpoint front : ℕ)
+        → answer_of_text (record _known.now { viewpoint = viewpoint; front = front }) (version_view _version.now) _question.now
+        ≡ answer_of_text _known.now (version_view _version.now) _question.now }
+{}
+
+/// An act that nothing modifies stays as enacted on each day, and keeping its versions costs nothing.
+pub fn bare_acts_stay(_known: &Known, _reading: Reading)
+    requires { _known.now.mods ≡ [] }
+    ensures versions { (day : ℕ) → replay_on _known.now _reading day ≡ as_enacted _known.now.act }
+    ensures costs { (touched : Option ℕ) → both_costs _known.now touched ≡ 0 }
 {}

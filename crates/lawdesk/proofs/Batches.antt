@@ -10,7 +10,8 @@ use Rattle.law_http.specs.declared.streaming.StreamEnd.TheVariants as ends
 use Rattle.law_keeper.specs.Keepers.{Holding, Keeps, LeavesOldOrSame}
 use Rattle.law_office.specs.Crashing.{crashes_of}
 use Rattle.law_office.specs.Offices.{OfficeState, desk_of}
-use Rattle.law_office.specs.Opening.{HasDamageCause, HasRefusalCause, Refuses, StaysUnlessFailed, opened_of}
+use Rattle.law_office.specs.Opening.{HasDamageCause, HasRefusalCause, Refuses, StaysUnlessFailed, TakesRefused, opened_of}
+use Rattle.law_register.specs.Answer.Renewing.{opening_cost}
 use Rattle.law_register.specs.Desk.States.{IsFoundOf}
 use Rattle.law_register.specs.declared.desk.damage.Damage.{Damage}
 use Rattle.law_register.specs.declared.desk.open_fault.OpenFault.{OpenFault}
@@ -186,10 +187,10 @@ module _ {S W K C : Type 0} (left : S → Option (List ℕ)) (read_faults : S �
       → ((status ≡ 5) ⊎ (status ≡ 7) → sink_new ≡ sink)
       → (status ≡ 4 → write_faults sink_new ≡ risen (write_faults sink))
       → (status ≢ 4 → write_faults sink_new ≡ write_faults sink)
-      → source_new ≡ source → clock_new ≡ clock
+      → source_new ≡ source → clock_new ≡ clock → TakesRefused (holding keeper) steps later fault
       → RanBatch left read_faults written write_faults holding keeper_faults days
       source source_new sink sink_new keeper keeper_new clock clock_new steps later status
-  ran_unopened status fault opened cause uncounted same crash told unwritten rose stays same_source same_clock =
+  ran_unopened status fault opened cause uncounted same crash told unwritten rose stays same_source same_clock cost =
       let among : (status ≡ 4) ⊎ ((status ≡ 5) ⊎ ((status ≡ 6) ⊎ (status ≡ 7))) =
       refusal_status_is fault (written sink) (written sink_new) status told in
       record {
@@ -205,6 +206,7 @@ module _ {S W K C : Type 0} (left : S → Option (List ℕ)) (read_faults : S �
           crash = crash;
           same_source = same_source;
           same_clock = same_clock;
+          cost = cost;
         });
         source_cause = λ three. absurd (high status 3 among three (omega arith));
         sink_cause = rose;
@@ -220,25 +222,26 @@ module _ {S W K C : Type 0} (left : S → Option (List ℕ)) (read_faults : S �
       }
 
   -- a stream was served
-  pub ran_served : (status : ℕ) (opened : K) (entries : List Entry) (served : Served)
+  pub ran_served : (status : ℕ) (opened : K) (entries : List Entry) (begun : ℕ) (served : Served)
       → ((holding keeper).tells → opened_of (holding keeper).list ≡ Ok entries)
       → Keeps (holding keeper) (holding opened)
       → LeavesOldOrSame (holding keeper) (holding opened)
       → keeper_faults opened ≡ keeper_faults keeper
-      → ServesOver left written holding keeper_faults days source source_new sink sink_new opened keeper_new clock clock_new steps later entries
+      → begun ≤ steps + opening_cost entries
+      → ServesOver left written holding keeper_faults days source source_new sink sink_new opened keeper_new clock clock_new begun later entries
       served
       → HasReadCause served.end (read_faults source) (read_faults source_new)
       → HasWriteCause served.end (write_faults sink) (write_faults sink_new)
       → status ≡ stream_status served.end served.faulted
       → RanBatch left read_faults written write_faults holding keeper_faults days
       source source_new sink sink_new keeper keeper_new clock clock_new steps later status
-  ran_served status opened entries served stand_for same crash faults serves reads writes is =
+  ran_served status opened entries begun served stand_for same crash faults making serves reads writes is =
       let began : keeper_faults (serves.office).keeper ≡ keeper_faults keeper =
       ap keeper_faults (serves.is_new).keeper_is ∙ faults in
       let ended : keeper_faults keeper_new ≡ keeper_faults (serves.closed).keeper = ap keeper_faults serves.kept in
       let at_low = λ (low : (status ≡ 0) ⊎ (status ≡ 1)).
-      determined (desk_of keeper_faults days) (λ (o : OfficeState K C). crashes_of (holding o.keeper))
-      (left source) (left source_new) (written sink) (written sink_new) serves.office serves.closed steps later served serves.streamed
+      determined (desk_of keeper_faults days) (λ (o : OfficeState K C). crashes_of (holding o.keeper)) (λ (o : OfficeState K C). o.past)
+      (left source) (left source_new) (written sink) (written sink_new) serves.office serves.closed begun later served serves.streamed
       (serves.is_new).none_pending (low_is_faultless served status is low) in
       record {
         status_is = subst IsBatchStatus (sym is) (stream_status_is served.end served.faulted);
@@ -248,8 +251,10 @@ module _ {S W K C : Type 0} (left : S → Option (List ℕ)) (read_faults : S �
           stand_for = stand_for;
           same = same;
           crash = since_began left written holding keeper_faults days source source_new sink sink_new keeper opened keeper_new
-              clock clock_new steps later entries served stand_for same crash serves;
+              clock clock_new begun later entries served stand_for same crash serves;
           faults = faults;
+          begun = begun;
+          making = making;
           served = served;
           serves = serves;
           status_told = is;
@@ -278,7 +283,7 @@ module _ {S W K C : Type 0} (left : S → Option (List ℕ)) (read_faults : S �
             none_told _ (λ (some : faults_told (serves.streamed).exchanges ≢ 0).
             low_is_not served.end served.faulted status is low ((serves.streamed).faulted.1 some)) in
             ended
-            ∙ served_faults (desk_of keeper_faults days) (λ (o : OfficeState K C). crashes_of (holding o.keeper))
+            ∙ served_faults (desk_of keeper_faults days) (λ (o : OfficeState K C). crashes_of (holding o.keeper)) (λ (o : OfficeState K C). o.past)
             (serves.streamed).exchanges serves.office serves.closed (serves.streamed).answered none
             ∙ began;
         damage_is_no_fault = λ six tells. absurd (never_six served.end served.faulted (sym is ∙ six));

@@ -9,6 +9,7 @@ use Rattle.law_office.specs.Offices.{OfficeState, desk_of}
 use Rattle.law_office.specs.Opening.{opened_of}
 use Rattle.law_office.proofs.Images.{found_of_lists}
 use Rattle.law_register.specs.Desk.States.{DeskState, Found}
+use Rattle.law_register.specs.declared.answer.past_key.PastKey.{PastKey}
 use Rattle.law_register.specs.declared.register.entry.Entry.{Entry}
 use Rattle.lawdesk.specs.Batching.{ServesOver}
 use Rattle.lawdesk.specs.Outliving.{IsKept, IsOldOrKept, OutliveAll, Outlives}
@@ -16,11 +17,11 @@ use Rattle.lawdesk.proofs.Outliving.{then_runs, weaker}
 use Rattle.lawdesk.proofs.Stepping.{begin_same}
 
 -- what outlives a crash from each response on outlives it from the first request on
-outlive_whole : {D : Type 0} (state : D → DeskState) (crashes : D → Crashes Found) (all exchanges : List Exchange)
-    (old new : D) (served : AreServed state crashes exchanges old new)
-    → OutliveAll state crashes all exchanges old new served → Outlives state crashes all old new
-outlive_whole state crashes all [] old new served outlive = outlive
-outlive_whole state crashes all (e ∷ es) old new served outlive = outlive.0
+outlive_whole : {D : Type 0} (state : D → DeskState) (crashes : D → Crashes Found) (past : D → List PastKey) (all exchanges : List Exchange)
+    (old new : D) (served : AreServed state crashes past exchanges old new)
+    → OutliveAll state crashes past all exchanges old new served → Outlives state crashes all old new
+outlive_whole state crashes past all [] old new served outlive = outlive
+outlive_whole state crashes past all (e ∷ es) old new served outlive = outlive.0
 
 module _ {S W K C : Type 0} (left : S → Option (List ℕ)) (written : W → Option (List ℕ))
     (holding : K → Holding) (keeper_faults : K → ℕ) (days : C → Option (ℕ → ℕ))
@@ -59,7 +60,7 @@ module _ {S W K C : Type 0} (left : S → Option (List ℕ)) (written : W → Op
       let all = (serves.streamed).exchanges in
       let whole : LeavesOnly (IsKept (serves.office).entries final all) (crashes_of (holding (serves.office).keeper))
       (crashes_of (holding (serves.closed).keeper)) =
-      outlive_whole (desk_of keeper_faults days) crashes all all serves.office serves.closed (serves.streamed).answered
+      outlive_whole (desk_of keeper_faults days) crashes (λ (o : OfficeState K C). o.past) all all serves.office serves.closed (serves.streamed).answered
       (serves.outlives told tells) in
       weaker (IsKept entries final all) IsLeft (crashes_of (holding opened)) (crashes_of (holding keeper_new))
       (λ found kept. inr kept)

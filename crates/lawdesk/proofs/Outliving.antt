@@ -2,11 +2,12 @@
 use Rattle.std.proofs.Common.{◌≡◌, ◌⊎◌, inl, inr, ⊎_elim, refl, sym, ap, subst, ◌∙◌, ℕ, ◌≤◌, Bool, List, [], ◌∷◌, ◌++◌, Option, Some, None, Result, Ok, Err, arith}
 use Rattle.std.specs.Prelude.{IfSome, ⊤}
 use Rattle.desk_base.specs.Crashes.{AreCrashes, Crashes, LeavesOnly}
+use Rattle.law_register.specs.declared.answer.past_key.PastKey.{PastKey}
 use Rattle.law_register.specs.declared.desk.command_fault.CommandFault.{CommandFault}
 use Rattle.law_register.specs.declared.desk.command_fault.CommandFault.TheVariants as fails
 use Rattle.law_register.specs.declared.register.entry.Entry.{Entry}
 use Rattle.law_register.specs.declared.register.verdict.Reply.{Reply}
-use Rattle.law_register.specs.Desk.Commands.{Ends}
+use Rattle.law_register.specs.Desk.Commands.{Ends, LeavesNoMore}
 use Rattle.law_register.specs.Desk.States.{DeskState, Found, IsFoundOf, MayFollow, Standing, standing}
 use Rattle.akn_json.specs.declared.asked.Asked.{Asked}
 use Rattle.law_http.specs.Asking.{asking_of}
@@ -14,7 +15,7 @@ use Rattle.law_http.specs.declared.asking.Asking.{Asking}
 use Rattle.law_http.specs.declared.asking.Asking.TheVariants as asks
 use Rattle.law_http.specs.declared.refusal.RequestRefusal.{RequestRefusal}
 use Rattle.law_http.specs.declared.response.Response.{Response}
-use Rattle.law_http.specs.Serving.{Does, SaysOutcome, Serves, ServesAsking, Stays}
+use Rattle.law_http.specs.Serving.{Does, SaysOutcome, Serves, ServesAsking}
 use Rattle.law_http.specs.Streaming.{AreServed, Exchange, fault_told}
 use Rattle.lawdesk.specs.Outliving.{BeginWith, IsFaulted, IsKept, IsOneMore, OutliveAll, Outlives, SomeFaulted}
 use Rattle.lawdesk.proofs.Stepping.{asking_begin, begin_same, begin_then, served_begins}
@@ -138,7 +139,7 @@ module _ (all : List Exchange) where
     among = kept.among;
   }
 
-  module _ {D : Type 0} (state : D → DeskState) (crashes : D → Crashes Found)
+  module _ {D : Type 0} (state : D → DeskState) (crashes : D → Crashes Found) (past : D → List PastKey)
       (are : (desk : D) → AreCrashes (crashes desk)) where
     -- a desk of which it is told what a crash leaves: its entries, with the one that is pending or without it
     pub record Stands (desk : D) : Type 0 where
@@ -155,15 +156,15 @@ module _ (all : List Exchange) where
       stands : Stands new
       leaves : LeavesOnly (IsEither old new) (crashes old) (crashes new)
 
-    stays_on : (old new : D) → Stays state crashes old new → Stands old → StandsOn old new
-    stays_on old new stays stands =
-        let run : LeavesOnly (crashes old).may_leave (crashes old) (crashes new) = stays.crash stands.tells in
+    same_on : (old new : D) → state new ≡ state old → LeavesNoMore (crashes old) (crashes new) → Stands old → StandsOn old new
+    same_on old new same crash stands =
+        let run : LeavesOnly (crashes old).may_leave (crashes old) (crashes new) = crash stands.tells in
         record {
           stands = record {
             tells = run.tells;
-            durable = λ found may. subst (λ (s : DeskState). IsFoundOf s.entries s.pending found) (sym stays.same)
+            durable = λ found may. subst (λ (s : DeskState). IsFoundOf s.entries s.pending found) (sym same)
                 (stands.durable found (run.now found may));
-            owed = subst (λ (s : DeskState). IsOwed s.entries s.pending) (sym stays.same) stands.owed;
+            owed = subst (λ (s : DeskState). IsOwed s.entries s.pending) (sym same) stands.owed;
           };
           leaves = weaker (crashes old).may_leave (IsEither old new) (crashes old) (crashes new)
               (λ found may. inl (stands.durable found may)) run;
@@ -171,15 +172,15 @@ module _ (all : List Exchange) where
 
     asking_on : (e : Exchange) (asking : Result Asking RequestRefusal) (old new : D) → asking_of e.request ≡ asking
         → ((entry : Entry) → IsFaulted e entry → SomeFaulted all entry)
-        → ServesAsking state crashes e.request.last asking old new e.response → Stands old → StandsOn old new
-    asking_on e (Err refusal) old new is faulted serves stands = stays_on old new serves.0 stands
-    asking_on e (Ok asks.Front) old new is faulted serves stands = stays_on old new serves.0 stands
-    asking_on e (Ok (asks.Text text)) old new is faulted serves stands = stays_on old new serves.0 stands
-    asking_on e (Ok (asks.Preview preview)) old new is faulted serves stands = stays_on old new serves.0 stands
-    asking_on e (Ok (asks.Draft drafter)) old new is faulted serves stands = stays_on old new serves.0 stands
-    asking_on e (Ok (asks.Command asked)) old new is faulted (inl nothing) stands = stays_on old new nothing.0 stands
+        → ServesAsking state crashes past e.request.last asking old new e.response → Stands old → StandsOn old new
+    asking_on e (Err refusal) old new is faulted serves stands = same_on old new (serves.0).same (serves.0).crash stands
+    asking_on e (Ok asks.Front) old new is faulted serves stands = same_on old new (serves.0).same (serves.0).crash stands
+    asking_on e (Ok (asks.Text text)) old new is faulted serves stands = same_on old new (serves.0).same (serves.0).crash stands
+    asking_on e (Ok (asks.Preview preview)) old new is faulted serves stands = same_on old new (serves.0).same (serves.0).crash stands
+    asking_on e (Ok (asks.Draft drafter)) old new is faulted serves stands = same_on old new (serves.0).same (serves.0).crash stands
+    asking_on e (Ok (asks.Command asked)) old new is faulted (inl nothing) stands = same_on old new (nothing.0).same (nothing.0).crash stands
     asking_on e (Ok (asks.Command asked)) old new is faulted (inr done) stands =
-        let does : Does state crashes asked old new done.0 = done.1 in
+        let does : Does state crashes past asked old new done.0 = done.1 in
         let run : LeavesOnly (IsEither old new) (crashes old) (crashes new) = does.crash stands.tells in
         record {
           stands = record {
@@ -200,10 +201,10 @@ module _ (all : List Exchange) where
         }
 
     serves_on : (e : Exchange) (old new : D) → ((entry : Entry) → IsFaulted e entry → SomeFaulted all entry)
-        → Serves state crashes e.request old new e.response → Stands old → StandsOn old new
+        → Serves state crashes past e.request old new e.response → Stands old → StandsOn old new
     serves_on e old new faulted serves stands = asking_on e (asking_of e.request) old new refl faulted serves stands
 
-    outlives : (exchanges : List Exchange) (old new : D) → AreServed state crashes exchanges old new
+    outlives : (exchanges : List Exchange) (old new : D) → AreServed state crashes past exchanges old new
         → ((entry : Entry) → SomeFaulted exchanges entry → SomeFaulted all entry) → Stands old
         → Outlives state crashes all old new
     outlives [] old new same among stands =
@@ -219,8 +220,8 @@ module _ (all : List Exchange) where
         let more : Outlives state crashes all mid new =
         outlives es mid new served.2 (λ entry f. among entry (inr f)) on.stands in
         let first : BeginWith (state mid).entries (state old).entries =
-        asking_begin state crashes e.request.last (asking_of e.request) old mid e.response served.1 in
-        let last : BeginWith (state new).entries (state mid).entries = served_begins state crashes es mid new served.2 in
+        asking_begin state crashes past e.request.last (asking_of e.request) old mid e.response served.1 in
+        let last : BeginWith (state new).entries (state mid).entries = served_begins state crashes past es mid new served.2 in
         let P : Found → Type 0 = IsKept (state old).entries (state new).entries all in
         then_runs P (crashes old) (crashes mid) (crashes new)
         (weaker (IsEither old mid) P (crashes old) (crashes mid)
@@ -236,9 +237,9 @@ module _ (all : List Exchange) where
         (λ found kept. later_kept (state old).entries (state mid).entries (state new).entries found first kept) more)
 
     -- from the beginning, and from each response on
-    pub outlive_all : (exchanges : List Exchange) (old new : D) (served : AreServed state crashes exchanges old new)
+    pub outlive_all : (exchanges : List Exchange) (old new : D) (served : AreServed state crashes past exchanges old new)
         → ((entry : Entry) → SomeFaulted exchanges entry → SomeFaulted all entry) → Stands old
-        → OutliveAll state crashes all exchanges old new served
+        → OutliveAll state crashes past all exchanges old new served
     outlive_all [] old new served among stands = outlives [] old new served among stands
     outlive_all (e ∷ es) old new served among stands =
         let on : StandsOn old served.0 = serves_on e old served.0 (λ entry f. among entry (inl f)) served.1 stands in (

@@ -33,7 +33,7 @@ module _ {S W K C : Type 0} (left : S → Option (List ℕ)) (written : W → Op
   settled = held_none.settled (held_none.ready refl)
 
   stands : (all : List Exchange) → (holding keeper).tells → (holding keeper).tells_crash
-      → Stands all (desk_of keeper_faults days) (λ (o : OfficeState K C). crashes_of (holding o.keeper)) are office
+      → Stands all (desk_of keeper_faults days) (λ (o : OfficeState K C). crashes_of (holding o.keeper)) (λ (o : OfficeState K C). o.past) are office
   stands all told crash = record {
     tells = subst (λ (k : K). (holding k).tells × (holding k).tells_crash) (sym new.keeper_is) (told, crash);
     durable = λ found may.
@@ -50,7 +50,7 @@ module _ {S W K C : Type 0} (left : S → Option (List ℕ)) (written : W → Op
 
   pub serves_over : (source source_new : S) (sink sink_new : W) (keeper_new : K) (clock_new : C) (steps later : ℕ) (served : Served)
       (closed : OfficeState K C)
-      → IsStreamed (desk_of keeper_faults days) (λ (o : OfficeState K C). crashes_of (holding o.keeper))
+      → IsStreamed (desk_of keeper_faults days) (λ (o : OfficeState K C). crashes_of (holding o.keeper)) (λ (o : OfficeState K C). o.past)
       (left source) (left source_new) (written sink) (written sink_new) office closed steps later served
       → keeper_new ≡ closed.keeper → clock_new ≡ closed.clock
       → ((holding keeper_new).tells → Spells closed.entries closed.pending (holding keeper_new).list)
@@ -63,7 +63,7 @@ module _ {S W K C : Type 0} (left : S → Option (List ℕ)) (written : W → Op
     is_new = new;
     streamed = streamed;
     begin = subst (λ (es : List Entry). BeginWith closed.entries es) new.entries_are
-        (served_begins (desk_of keeper_faults days) (λ (o : OfficeState K C). crashes_of (holding o.keeper))
+        (served_begins (desk_of keeper_faults days) (λ (o : OfficeState K C). crashes_of (holding o.keeper)) (λ (o : OfficeState K C). o.past)
         streamed.exchanges office closed streamed.answered);
     kept = kept;
     ticked = ticked;
@@ -71,6 +71,6 @@ module _ {S W K C : Type 0} (left : S → Option (List ℕ)) (written : W → Op
     found = found;
     outlives = λ told crash.
         outlive_all streamed.exchanges (desk_of keeper_faults days)
-        (λ (o : OfficeState K C). crashes_of (holding o.keeper)) are streamed.exchanges office closed streamed.answered
+        (λ (o : OfficeState K C). crashes_of (holding o.keeper)) (λ (o : OfficeState K C). o.past) are streamed.exchanges office closed streamed.answered
         (λ entry faulted. faulted) (stands streamed.exchanges told crash);
   }

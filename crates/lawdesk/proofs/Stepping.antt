@@ -3,6 +3,7 @@
 use Rattle.std.proofs.Common.{◌≡◌, refl, sym, ap, ◌∙◌, inl, inr, ℕ, ◌+◌, Bool, List, [], ◌∷◌, ◌++◌, append_assoc, Option, Some, None, Result, Ok, Err, arith}
 use Rattle.std.proofs.lemmas.List.{append-nil}
 use Rattle.desk_base.specs.Crashes.{Crashes}
+use Rattle.law_register.specs.declared.answer.past_key.PastKey.{PastKey}
 use Rattle.law_register.specs.declared.desk.command_fault.CommandFault.{CommandFault}
 use Rattle.law_register.specs.declared.desk.command_fault.CommandFault.TheVariants as fails
 use Rattle.law_register.specs.declared.law.command.Command.{Command}
@@ -19,7 +20,7 @@ use Rattle.akn_json.specs.declared.asked.Asked.{Asked}
 use Rattle.law_http.specs.Asking.{asking_of}
 use Rattle.law_http.specs.declared.asking.Asking.{Asking}
 use Rattle.law_http.specs.declared.asking.Asking.TheVariants as asks
-use Rattle.law_http.specs.Serving.{Does, SaysOutcome, Serves, ServesAsking, Stays}
+use Rattle.law_http.specs.Serving.{Does, SaysOutcome, Serves, ServesAsking}
 use Rattle.law_http.specs.Streaming.{AreServed, Exchange, fault_told, faults_told}
 use Rattle.law_http.specs.declared.refusal.RequestRefusal.{RequestRefusal}
 use Rattle.law_http.specs.declared.response.Response.{Response}
@@ -87,30 +88,30 @@ no_fault last (Err fails.KeeperFault) response before now says cause none =
     let one : fault_told response ≡ 1 = ap fault_told says in absurd (omega arith)
 no_fault last (Err fails.Memory) response before now says cause none = cause
 
-module _ {D : Type 0} (state : D → DeskState) (crashes : D → Crashes Found) where
+module _ {D : Type 0} (state : D → DeskState) (crashes : D → Crashes Found) (past : D → List PastKey) where
   -- what comes of a desk in one answer
   record IsStep (old new : D) (response : Response) : Type 0 where
     begin : BeginWith (state new).entries (state old).entries
     origin : (state new).origin ≡ (state old).origin
     no_fault_told : fault_told response ≡ 0 → (state new).faults ≡ (state old).faults
 
-  stays_step : (old new : D) (response : Response) → Stays state crashes old new → IsStep old new response
-  stays_step old new response stays = record {
-    begin = begin_same (state old).entries (state new).entries (ap (λ (s : DeskState). s.entries) stays.same);
-    origin = ap (λ (s : DeskState). s.origin) stays.same;
-    no_fault_told = λ none. ap (λ (s : DeskState). s.faults) stays.same;
+  same_step : (old new : D) (response : Response) → state new ≡ state old → IsStep old new response
+  same_step old new response same = record {
+    begin = begin_same (state old).entries (state new).entries (ap (λ (s : DeskState). s.entries) same);
+    origin = ap (λ (s : DeskState). s.origin) same;
+    no_fault_told = λ none. ap (λ (s : DeskState). s.faults) same;
   }
 
   asking_step : (last : Bool) (asking : Result Asking RequestRefusal) (old new : D) (response : Response)
-      → ServesAsking state crashes last asking old new response → IsStep old new response
-  asking_step last (Err refusal) old new response serves = stays_step old new response serves.0
-  asking_step last (Ok asks.Front) old new response serves = stays_step old new response serves.0
-  asking_step last (Ok (asks.Text text)) old new response serves = stays_step old new response serves.0
-  asking_step last (Ok (asks.Preview preview)) old new response serves = stays_step old new response serves.0
-  asking_step last (Ok (asks.Draft drafter)) old new response serves = stays_step old new response serves.0
-  asking_step last (Ok (asks.Command asked)) old new response (inl nothing) = stays_step old new response nothing.0
+      → ServesAsking state crashes past last asking old new response → IsStep old new response
+  asking_step last (Err refusal) old new response serves = same_step old new response (serves.0).same
+  asking_step last (Ok asks.Front) old new response serves = same_step old new response (serves.0).same
+  asking_step last (Ok (asks.Text text)) old new response serves = same_step old new response (serves.0).same
+  asking_step last (Ok (asks.Preview preview)) old new response serves = same_step old new response (serves.0).same
+  asking_step last (Ok (asks.Draft drafter)) old new response serves = same_step old new response (serves.0).same
+  asking_step last (Ok (asks.Command asked)) old new response (inl nothing) = same_step old new response (nothing.0).same
   asking_step last (Ok (asks.Command asked)) old new response (inr done) =
-      let does : Does state crashes asked old new done.0 = done.1 in
+      let does : Does state crashes past asked old new done.0 = done.1 in
       record {
         begin = begin_ends asked.drafter asked.request asked.command _ _ done.0 does.outcome;
         origin = does.origin;
@@ -118,11 +119,11 @@ module _ {D : Type 0} (state : D → DeskState) (crashes : D → Crashes Found) 
       }
 
   pub asking_begin : (last : Bool) (asking : Result Asking RequestRefusal) (old new : D) (response : Response)
-      → ServesAsking state crashes last asking old new response → BeginWith (state new).entries (state old).entries
+      → ServesAsking state crashes past last asking old new response → BeginWith (state new).entries (state old).entries
   asking_begin last asking old new response serves = (asking_step last asking old new response serves).begin
 
   -- and in all of them
-  pub served_begins : (exchanges : List Exchange) (old new : D) → AreServed state crashes exchanges old new
+  pub served_begins : (exchanges : List Exchange) (old new : D) → AreServed state crashes past exchanges old new
       → BeginWith (state new).entries (state old).entries
   served_begins [] old new same =
       begin_same (state old).entries (state new).entries (ap (λ (d : D). (state d).entries) same)
@@ -131,14 +132,14 @@ module _ {D : Type 0} (state : D → DeskState) (crashes : D → Crashes Found) 
       (asking_step e.request.last (asking_of e.request) old served.0 e.response served.1).begin
       (served_begins es served.0 new served.2)
 
-  pub served_origin : (exchanges : List Exchange) (old new : D) → AreServed state crashes exchanges old new
+  pub served_origin : (exchanges : List Exchange) (old new : D) → AreServed state crashes past exchanges old new
       → (state new).origin ≡ (state old).origin
   served_origin [] old new same = ap (λ (d : D). (state d).origin) same
   served_origin (e ∷ es) old new served =
       served_origin es served.0 new served.2
       ∙ (asking_step e.request.last (asking_of e.request) old served.0 e.response served.1).origin
 
-  pub served_faults : (exchanges : List Exchange) (old new : D) → AreServed state crashes exchanges old new
+  pub served_faults : (exchanges : List Exchange) (old new : D) → AreServed state crashes past exchanges old new
       → faults_told exchanges ≡ 0 → (state new).faults ≡ (state old).faults
   served_faults [] old new same none = ap (λ (d : D). (state d).faults) same
   served_faults (e ∷ es) old new served none =

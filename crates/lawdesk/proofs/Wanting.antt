@@ -100,4 +100,4 @@ module _ {S W K C : Type 0} (left : S → Option (List ℕ)) (read_faults : S �
       ran_unopened left read_faults written write_faults holding keeper_faults days
       source source sink sink keeper keeper clock clock steps steps 7 fails.Memory (λ told. tt) refl (λ told. refl)
       (keeps_same (holding keeper)) (leaves_same (holding keeper) is) refl (λ wanting. refl)
-      (λ four. absurd (omega (arith, four))) (λ other. refl) refl refl
+      (λ four. absurd (omega (arith, four))) (λ other. refl) refl refl (λ told. omega arith)

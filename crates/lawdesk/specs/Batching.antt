@@ -1,5 +1,5 @@
 -- What a run of `batch` leaves: the requests that a source has are served over the register that a keeper keeps.
-use Rattle.std.specs.Prelude.{ℕ, ◌≡◌, ◌≢◌, ◌++◌, List, [], Option, None, Ok, ◌⊎◌, Bool, if◌then◌else◌}
+use Rattle.std.specs.Prelude.{ℕ, ◌≡◌, ◌≢◌, ◌≤◌, ◌+◌, ◌++◌, List, [], Option, None, Ok, ◌⊎◌, Bool, if◌then◌else◌}
 use Rattle.desk_base.specs.Crashes.{LeavesOnly}
 use Rattle.desk_base.specs.Streams.{AppendsFront, Rose, risen}
 use Rattle.law_http.specs.Faultless.{IsDetermined}
@@ -10,7 +10,8 @@ use Rattle.law_http.specs.declared.streaming.StreamEnd.TheVariants as ends
 use Rattle.law_keeper.specs.Keepers.{Holding, Keeps, LeavesOldOrSame}
 use Rattle.law_office.specs.Crashing.{crashes_of}
 use Rattle.law_office.specs.Offices.{OfficeState, Spells, desk_of}
-use Rattle.law_office.specs.Opening.{HasRefusalCause, Refuses, StaysUnlessFailed, opened_of}
+use Rattle.law_office.specs.Opening.{HasRefusalCause, Refuses, StaysUnlessFailed, TakesRefused, opened_of}
+use Rattle.law_register.specs.Answer.Renewing.{opening_cost}
 use Rattle.law_register.specs.Desk.States.{IsFoundOf}
 use Rattle.law_register.specs.declared.desk.damage.Damage.{Damage}
 use Rattle.law_register.specs.declared.desk.open_fault.OpenFault.{OpenFault}
@@ -49,7 +50,8 @@ TellsRefusal (fails.Damaged damage) before after status = TellsDamage damage bef
 TellsRefusal fails.Failed before after status = status ≡ 5
 TellsRefusal fails.Memory before after status = status ≡ 7
 
--- an office of these entries that is new: it has these devices, no entry is pending, and there is no mark
+-- an office of these entries that is new: it has these devices, no entry is pending, there is no mark, and it has no table
+-- of a past viewpoint
 pub record IsNewOffice {K C : Type 0} (keeper : K) (clock : C) (entries : List Entry) (office : OfficeState K C)
     : Type 0 where
   pub keeper_is : office.keeper ≡ keeper
@@ -57,6 +59,7 @@ pub record IsNewOffice {K C : Type 0} (keeper : K) (clock : C) (entries : List E
   pub entries_are : office.entries ≡ entries
   pub none_pending : office.pending ≡ None
   pub no_marks : office.marks ≡ []
+  pub no_past : office.past ≡ []
 
 -- what the source had left was served over a keeper that was opened with these entries, and the office was closed;
 -- so many steps were taken before, and after
@@ -70,7 +73,7 @@ pub record ServesOver {S W K C : Type 0} (left : S → Option (List ℕ)) (writt
   pub is_new : IsNewOffice keeper clock entries office
   -- what was heard of all that the source had left, how each request was answered, and what was written; where a read
   -- of the source failed, what it has left stands behind what was heard
-  pub streamed : IsStreamed (desk_of keeper_faults days) (λ o. crashes_of (holding o.keeper))
+  pub streamed : IsStreamed (desk_of keeper_faults days) (λ o. crashes_of (holding o.keeper)) (λ o. o.past)
       (left source) (left source_new) (written sink) (written sink_new) office closed steps later served
   -- the keeper and the clock are left as the stream left them: neither was asked for more
   pub kept : keeper_new ≡ closed.keeper
@@ -84,7 +87,7 @@ pub record ServesOver {S W K C : Type 0} (left : S → Option (List ℕ)) (writt
   -- where the keeper tells it: from the opening on a crash at any moment leaves a front of the entries at the end, or
   -- one more that was answered 503, and from the moment of each response on what was acknowledged by then
   pub outlives : (holding keeper).tells → (holding keeper).tells_crash
-      → OutliveAll (desk_of keeper_faults days) (λ o. crashes_of (holding o.keeper))
+      → OutliveAll (desk_of keeper_faults days) (λ o. crashes_of (holding o.keeper)) (λ o. o.past)
       streamed.exchanges streamed.exchanges office closed streamed.answered
 
 -- a source, a sink, a keeper and a clock before and after, which clauses see by these functions, and so many steps
@@ -106,6 +109,7 @@ module _ {S W K C : Type 0} (left : S → Option (List ℕ)) (read_faults : S �
     pub crash : LeavesOldOrSame (holding keeper) (holding keeper_new)
     pub same_source : source_new ≡ source
     pub same_clock : clock_new ≡ clock
+    pub cost : TakesRefused (holding keeper) steps later fault
 
   -- the register was opened, and a stream was served over it
   pub record IsServed (status : ℕ) : Type 0 where
@@ -115,9 +119,13 @@ module _ {S W K C : Type 0} (left : S → Option (List ℕ)) (read_faults : S �
     pub stand_for : (holding keeper).tells → opened_of (holding keeper).list ≡ Ok entries
     pub same : Keeps (holding keeper) (holding opened)
     pub faults : keeper_faults opened ≡ keeper_faults keeper
+    -- how many steps were taken when the stream began: one at most for each id that is applied to make what is kept of the
+    -- works
+    pub begun : ℕ
+    pub making : begun ≤ steps + opening_cost entries
     pub served : Served
     pub serves : ServesOver left written holding keeper_faults days
-        source source_new sink sink_new opened keeper_new clock clock_new steps later entries served
+        source source_new sink sink_new opened keeper_new clock clock_new begun later entries served
     -- where the keeper tells it, a crash at any moment since the run began, in the midst of the opening too, leaves what
     -- it could leave before, or the entries that were opened with a front of those that came behind them, or with one
     -- more that was answered 503

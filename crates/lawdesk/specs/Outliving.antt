@@ -7,6 +7,7 @@ use Rattle.law_http.specs.Asking.{asking_of}
 use Rattle.law_http.specs.Streaming.{AreServed, Exchange, fault_told}
 use Rattle.law_http.specs.declared.asking.Asking.TheVariants as asks
 use Rattle.law_register.specs.Desk.States.{DeskState, Found, MayFollow}
+use Rattle.law_register.specs.declared.answer.past_key.PastKey.{PastKey}
 use Rattle.law_register.specs.declared.register.entry.Entry.{Entry}
 
 -- entries begin with others
@@ -48,14 +49,15 @@ pub record IsKept (first final : List Entry) (exchanges : List Exchange) (found 
 abbrev pub IsOldOrKept : Crashes Found → List Entry → List Entry → List Exchange → Found → Type 0
 IsOldOrKept old first final exchanges found = old.may_leave found ⊎ IsKept first final exchanges found
 
-module _ {D : Type 0} (state : D → DeskState) (crashes : D → Crashes Found) (all : List Exchange) where
-  -- a crash at any moment from old to new leaves entries that begin with those of old
-  abbrev pub Outlives : D → D → Type 0
-  Outlives old new =
-      LeavesOnly (IsKept (state old).entries (state new).entries all) (crashes old) (crashes new)
+-- a crash at any moment from old to new leaves entries that begin with those of old
+abbrev pub Outlives : {D : Type 0} → (D → DeskState) → (D → Crashes Found) → List Exchange → D → D → Type 0
+Outlives state crashes all old new =
+    LeavesOnly (IsKept (state old).entries (state new).entries all) (crashes old) (crashes new)
 
+module _ {D : Type 0} (state : D → DeskState) (crashes : D → Crashes Found) (past : D → List PastKey)
+    (all : List Exchange) where
   -- from the beginning, and from the moment of each response on
-  abbrev pub OutliveAll : (exchanges : List Exchange) (old new : D) → AreServed state crashes exchanges old new
+  abbrev pub OutliveAll : (exchanges : List Exchange) (old new : D) → AreServed state crashes past exchanges old new
       → Type 0
-  OutliveAll [] old new served = Outlives old new
-  OutliveAll (e ∷ es) old new served = Outlives old new × OutliveAll es served.0 new served.2
+  OutliveAll [] old new served = Outlives state crashes all old new
+  OutliveAll (e ∷ es) old new served = Outlives state crashes all old new × OutliveAll es served.0 new served.2

@@ -1,6 +1,7 @@
 //! Batching: the requests that a source has are served over the register that is kept, one after another.
 
-ghost use Rattle.std.specs.Prelude.{◌≡◌, ◌≢◌, ◌⊎◌, None, [], if◌then◌else◌};
+ghost use Rattle.std.specs.Prelude.{◌≡◌, ◌≢◌, ◌≤◌, ◌+◌, ◌⊎◌, None, [], if◌then◌else◌};
+ghost use Rattle.std.specs.Map.{keys_of};
 ghost use Rattle.desk_base.specs.Streams.{risen};
 ghost use Rattle.law_http.specs.Streaming.{HasReadCause, HasWriteCause, IsStreamed};
 ghost use Rattle.law_office.specs.Offices.{HoldsBook, IsRight};
@@ -73,7 +74,7 @@ fn serve_desk<S: Source, W: Sink, D: Desk, L: Ledger>(
     desk: &mut D,
     steps: &mut Steps<L>,
 ) -> Served
-    ensures served { IsStreamed D.state D.crashes (S.left source.old) (S.left source.new)
+    ensures served { IsStreamed D.state D.crashes D.past (S.left source.old) (S.left source.new)
         (W.written sink.old) (W.written sink.new) desk.old desk.new steps.old steps.new result }
     ensures reads { HasReadCause result.end (S.faults source.old) (S.faults source.new) }
     ensures writes { HasWriteCause result.end (W.faults sink.old) (W.faults sink.new) }
@@ -97,6 +98,7 @@ fn serve_book<S: Source, W: Sink, K: Keeper, C: Clock, L: Ledger>(
     requires held { HoldsBook (K.holding keeper.old) (K.readiness keeper.old) book }
     requires none_pending { book.pending ≡ None }
     requires no_marks { book.marks.items ≡ [] }
+    requires no_past { keys_of book.past ≡ [] }
     ensures served { ServesOver S.left W.written K.holding K.faults C.days source.old source.new sink.old sink.new
         keeper.old keeper.new clock.old clock.new steps.old steps.new book.register.entries result }
     ensures reads { HasReadCause result.end (S.faults source.old) (S.faults source.new) }
@@ -122,7 +124,7 @@ pub fn batch<S: Source, W: Sink, K: Keeper, C: Clock, L: Ledger>(
     ensures { RanBatch S.left S.faults W.written W.faults K.holding K.faults C.days source.old source.new
         sink.old sink.new keeper.old keeper.new clock.old clock.new steps.old steps.new result }
 {
-    match Book::open(alloc, keeper) {
+    match Book::open(alloc, keeper, steps) {
         Ok(book) => {
             let served = serve_book(alloc, source, sink, keeper, clock, book, steps);
             served_status(served)

@@ -14,7 +14,7 @@ use akn_json::put_damage;
 use desk_base::{Memory, Sink};
 use dossier_text::{Report, line};
 use law_keeper::Keeper;
-use law_office::Book;
+use law_office::Opened;
 use law_register::{Damage, OpenFault, Register};
 use std::alloc::Global;
 use std::mem::forget;
@@ -41,15 +41,15 @@ pub fn report_damage(alloc: Global, damage: Damage) -> Result<Report, Memory>
 }
 
 // The report of an opening: a register, or what is damaged. It is refused where the keeper failed, or for want of memory.
-fn report_opened(alloc: Global, opened: &Result<Book, OpenFault>) -> Result<Report, OpenFault>
-    ensures told { (told : Result (List Entry) Damage) → Opens (λ book. book.register.entries) opened.now told
+fn report_opened(alloc: Global, opened: &Result<Opened, OpenFault>) -> Result<Report, OpenFault>
+    ensures told { (told : Result (List Entry) Damage) → Opens (λ opened. opened.register.entries) opened.now told
         → IfOk result (λ report. report_view report ≡ told_opened told) }
     ensures cause { (before now : ℕ) → HasOpenCause before now opened.now → HasCheckCause before now result }
     ensures stays { (before now : ℕ) → HasOpenCause before now opened.now → IfErr opened.now (StaysUnlessFailed before now)
         → result ≢ Err fails.Failed → now ≡ before }
 {
     match opened {
-        Ok(book) => Ok(report_register(alloc, &book.register)?),
+        Ok(opened) => Ok(report_register(alloc, &opened.register)?),
         Err(OpenFault::Damaged(damage)) => Ok(report_damage(alloc, *damage)?),
         Err(OpenFault::Failed) => Err(OpenFault::Failed),
         Err(OpenFault::Memory) => Err(OpenFault::Memory),
@@ -68,7 +68,7 @@ fn report_kept<K: Keeper>(alloc: Global, keeper: &mut K) -> Result<Report, OpenF
     ensures same { Keeps (K.holding keeper.old) (K.holding keeper.new) }
     ensures crash { LeavesOldOrSame (K.holding keeper.old) (K.holding keeper.new) }
 {
-    let opened = Book::open(alloc, keeper);
+    let opened = Opened::open(alloc, keeper);
     let report = report_opened(alloc, &opened);
     forget(opened);
     report

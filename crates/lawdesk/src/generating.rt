@@ -54,7 +54,7 @@ fn generated_over<K: Keeper, C: Clock, L: Ledger>(
     requires days { TellsOnly day_of_all (C.days clock.old) }
     ensures { IfOk result (λ told. told ≡ generated job.seed job.count) }
 {
-    match Book::open(alloc, keeper) {
+    match Book::open(alloc, keeper, steps) {
         Ok(book) => generated_in(alloc, keeper, clock, book, job, steps),
         Err(_) => Err(Memory),
     }

@@ -18,7 +18,7 @@ use akn_json::put_query_rule;
 use desk_base::{Memory, Sink, Steps};
 use dossier_text::{Report, line};
 use law_keeper::Keeper;
-use law_office::Book;
+use law_office::Opened;
 use law_register::{AskFault, OpenFault, Register};
 use law_reports::{correspondence, lifecycle, unapplied};
 use replay_core::FromEnacted;
@@ -71,17 +71,17 @@ fn report_of<L: Ledger>(
 fn report_opened<L: Ledger>(
     alloc: Global,
     job: &ReportJob,
-    opened: &Result<Book, OpenFault>,
+    opened: &Result<Opened, OpenFault>,
     steps: &mut Steps<L>,
 ) -> Result<Report, OpenFault>
-    ensures told { (told : Result (List Entry) Damage) → Opens (λ book. book.register.entries) opened.now told
+    ensures told { (told : Result (List Entry) Damage) → Opens (λ opened. opened.register.entries) opened.now told
         → IfOk result (λ report. IsReportOf job.now told (report_view report)) }
     ensures cause { (before now : ℕ) → HasOpenCause before now opened.now → HasReportCause before now result }
     ensures stays { (before now : ℕ) → HasOpenCause before now opened.now → IfErr opened.now (StaysUnlessFailed before now)
         → result ≢ Err fails.Failed → now ≡ before }
 {
     match opened {
-        Ok(book) => Ok(report_of(alloc, job, &book.register, steps)?),
+        Ok(opened) => Ok(report_of(alloc, job, &opened.register, steps)?),
         Err(OpenFault::Damaged(damage)) => Ok(report_damage(alloc, *damage)?),
         Err(OpenFault::Failed) => Err(OpenFault::Failed),
         Err(OpenFault::Memory) => Err(OpenFault::Memory),
@@ -103,7 +103,7 @@ fn report_kept<K: Keeper, L: Ledger>(
     ensures same { Keeps (K.holding keeper.old) (K.holding keeper.new) }
     ensures crash { LeavesOldOrSame (K.holding keeper.old) (K.holding keeper.new) }
 {
-    let opened = Book::open(alloc, keeper);
+    let opened = Opened::open(alloc, keeper);
     let report = report_opened(alloc, job, &opened, steps);
     drop(opened);
     report

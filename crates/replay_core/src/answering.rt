@@ -111,7 +111,7 @@ fn answer_on_day(
     })
 }
 
-// The answer to a question that breaks no rule before its text is looked at.
+// The answer from a text in which no two provisions have one eId.
 fn answer_from(
     alloc: Global,
     known: &Known,
@@ -126,10 +126,9 @@ fn answer_from(
     answer_on_day(alloc, &on, version, question)
 }
 
-/// The answer to a question, from the version that it asks for, or the first rule that it breaks. The version is lent, so that
-/// who keeps it copies no tree; what provisions say is shared.
-#[tactic(auto, unfolding(law_register::specs::Answer::Answers::answer_on))]
-pub fn answer_lent(
+/// The answer to a question that breaks no rule before its text is looked at, from the version that it asks for, or the rule that
+/// the text has no such provision. The version is lent, so that who keeps it copies no tree; what provisions say is shared.
+pub fn answer_text(
     alloc: Global,
     known: &Known,
     version: &Version,
@@ -137,15 +136,13 @@ pub fn answer_lent(
 ) -> Result<Answer, AskFault>
     requires { version_view version.now
         ≡ replay_on known.now question.now.reading (spec.asked_day question.now.version known.now.act) }
-    ensures { Answers result (spec.answer_on known.now question.now) }
+    ensures { Answers result (spec.answer_of_text known.now (version_view version.now) question.now) }
 {
-    match question.first_rule(known)? {
-        Some(rule) => Err(AskFault::Query(rule)),
-        None => answer_from(alloc, known, version, question),
-    }
+    answer_from(alloc, known, version, question)
 }
 
-/// The same of a version that is let go.
+/// The answer to a question, from the version that it asks for, or the first rule that it breaks.
+#[tactic(auto, unfolding(law_register::specs::Answer::Answers::answer_on))]
 pub fn answer(
     alloc: Global,
     known: &Known,
@@ -156,7 +153,10 @@ pub fn answer(
         ≡ replay_on known.now question.now.reading (spec.asked_day question.now.version known.now.act) }
     ensures { Answers result (spec.answer_on known.now question.now) }
 {
-    let told = answer_lent(alloc, known, &version, question);
+    let told = match question.judge(known, known.front) {
+        Ok(()) => answer_text(alloc, known, &version, question),
+        Err(fault) => Err(fault),
+    };
     drop(version);
     told
 }

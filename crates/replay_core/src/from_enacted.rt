@@ -1,6 +1,6 @@
 //! FromEnacted: the replayer that keeps nothing.
 
-use crate::answering::{answer, answer_lent, flag_at};
+use crate::answering::{answer, answer_text, flag_at};
 use crate::breakpoints::breakpoints;
 use crate::order::order_at;
 use crate::replaying::replay;
@@ -62,13 +62,13 @@ impl Replayer for FromEnacted {
         answer(alloc, known, version, question)
     }
 
-    fn answer_lent(
+    fn answer_text(
         &self,
         alloc: Global,
         known: &Known,
         version: &Version,
         question: &Question,
     ) -> Result<Answer, AskFault> {
-        answer_lent(alloc, known, version, question)
+        answer_text(alloc, known, version, question)
     }
 }

@@ -12,4 +12,4 @@ mod showing;
 mod touched;
 
 pub use from_enacted::FromEnacted;
-pub use touched::{touched_day, touched_days};
+pub use touched::{touched_day, touched_days, work_entered};

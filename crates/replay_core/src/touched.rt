@@ -197,8 +197,9 @@ pub fn touched_day(alloc: Global, register: &Register, entry: &Entry) -> Result<
     }
 }
 
-// The work that an entry concerns.
-fn work_entered<'a>(register: &'a Register, entry: &'a Entry) -> Option<&'a WorkName>
+/// The work that an entry concerns which comes behind those of a register: what is known of each other stays. `None`: an entry of a
+/// draft, or of an id that is not recorded.
+pub fn work_entered<'a>(register: &'a Register, entry: &'a Entry) -> Option<&'a WorkName>
     ensures { option_map (λ work. work.now) result
         ≡ spec.work_entered register.now.entries (law_of register.now.entries entry.now) }
 {

@@ -1,7 +1,7 @@
 //! What the table that is kept gives on a day, beside what a replay from scratch gives.
 
 ghost use Rattle.std.specs.Prelude.{◌≡◌, true, IfOk, Result};
-ghost use Rattle.law_register.specs.Answer.Answers.{Answers, answer_on};
+ghost use Rattle.law_register.specs.Answer.Answers.{Answers, answer_on, asked_day};
 ghost use Rattle.law_register.specs.Answer.Replay.{replay_on};
 ghost use Rattle.law_register.specs.Answer.Soundness.{IsSound};
 ghost use Rattle.law_register.specs.Answer.Versions.{version_view};
@@ -53,6 +53,22 @@ fn answer_line(alloc: Global, told: Result<Answer, AskFault>) -> Result<Vec<u8>,
     }
 }
 
+// The answer to a question, from the version that it asks for, or the first rule that it breaks.
+#[tactic(auto, unfolding(law_register::specs::Answer::Answers::answer_on))]
+fn answer_of(
+    alloc: Global,
+    known: &Known,
+    version: &Version,
+    question: &Question,
+) -> Result<Answer, AskFault>
+    requires { version_view version.now
+        ≡ replay_on known.now question.now.reading (asked_day question.now.version known.now.act) }
+    ensures { Answers result (answer_on known.now question.now) }
+{
+    question.judge(known, known.front)?;
+    FromEnacted.answer_text(alloc, known, version, question)
+}
+
 // The line of the answer that a version gives on its day.
 fn line_of_version(
     alloc: Global,
@@ -66,7 +82,7 @@ fn line_of_version(
     ensures { IfOk result (λ line. line.items ≡ spec.line_on work.now known.now reading day) }
 {
     let question = question_on(work, known, reading, day)?;
-    let told = FromEnacted.answer_lent(alloc, known, version, &question);
+    let told = answer_of(alloc, known, version, &question);
     answer_line(alloc, told)
 }
 

@@ -5,7 +5,8 @@ ghost use Rattle.law_register.specs.Answer.Soundness.{IsSound};
 ghost use Rattle.law_register.specs.Register.KnownIds as known;
 ghost use Rattle.law_register.specs.Register.LawList.{front};
 ghost use Rattle.version_cache.specs.Seen.{table_view, work_view};
-ghost use Rattle.version_cache.specs.Works.{AreRightUntil, IsFor, both_costs, table_in};
+ghost use Rattle.version_cache.specs.Works.{AreRightUntil, IsFor, table_in};
+ghost use Rattle.law_register.specs.Answer.Renewing.{both_costs};
 
 use desk_base::{Day, Memory, Steps};
 use frbr_names::WorkName;

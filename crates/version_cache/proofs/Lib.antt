@@ -22,3 +22,4 @@ pub mod Alike
 pub mod Following
 pub mod OneOrder
 pub mod OneVersion
+pub mod Answered

@@ -6,7 +6,8 @@ use Rattle.law_register.specs.declared.register.known.Known.{Known}
 use Rattle.law_register.specs.Answer.Costs.{revision_cost}
 use Rattle.law_register.specs.Answer.Replay.{replay_on}
 use Rattle.version_cache.specs.Tables.{IsRight, RevisionValue, TableValue, table_of, version_on}
-use Rattle.version_cache.specs.Works.{AreRightUntil, IsAlike, IsFor, WorkValue, both_costs, renewed_by, revisions_of, table_in, work_of}
+use Rattle.law_register.specs.Answer.Renewing.{both_costs}
+use Rattle.version_cache.specs.Works.{AreRightUntil, IsAlike, IsFor, WorkValue, renewed_by, revisions_of, table_in, work_of}
 use Rattle.version_cache.proofs.Revised.{revised_right}
 use Rattle.version_cache.proofs.Right.{made_right}
 

@@ -6,3 +6,4 @@ pub mod Rows
 pub mod Readings
 pub mod Seen
 pub mod Works
+pub mod Answering

@@ -1,9 +1,8 @@
 -- What is kept of an enacted work: what is known of it, and its versions by day in both readings.
-use Rattle.std.specs.Prelude.{◌≡◌, ◌+◌, ℕ, Option, Some, None}
+use Rattle.std.specs.Prelude.{◌≡◌, ℕ, Option, Some, None}
 use Rattle.law_register.specs.declared.answer.question.Reading.{Reading}
 use Rattle.law_register.specs.declared.answer.question.Reading.TheVariants.{Force, Efficacy}
 use Rattle.law_register.specs.declared.register.known.Known.{Known}
-use Rattle.law_register.specs.Answer.Costs.{revision_cost}
 use Rattle.version_cache.specs.Tables.{IsRevisionOf, IsRightUntil, RevisionValue, TableValue, committed, revision_of, table_of}
 
 -- what is known of a work, and a table for each reading
@@ -61,11 +60,6 @@ revisions_of work known (Some touched) =
 -- the revision of what is kept of a work, by what is known now
 abbrev pub work_revision_of : WorkValue → Known → Option ℕ → WorkRevisionValue
 work_revision_of work known touched = record { known = known; tables = revisions_of work known touched }
-
--- how many ids are applied to revise both tables from the touched day on
-abbrev pub both_costs : Known → Option ℕ → ℕ
-both_costs known None = 0
-both_costs known (Some touched) = revision_cost known Force touched + revision_cost known Efficacy touched
 
 -- revisions are those of these tables
 abbrev pub AreRevisionsOf : WorkValue → Option (RevisionValue × RevisionValue) → Type 0

@@ -1,6 +1,7 @@
 //! The versions of a work by day, made anew only from the day that a change touches.
 #![tactic(auto)]
 
+mod answering;
 mod asking;
 mod dated;
 mod kept_version;

@@ -4,7 +4,8 @@ ghost use Rattle.std.specs.Prelude.{◌≡◌, ◌+◌, ◌-◌, ◌^◌, ◌≤
 ghost use Rattle.act_tree.specs.Seen.{tree_view};
 ghost use Rattle.law_register.specs.declared.register.known.Known.{Known as KnownValue};
 ghost use Rattle.law_register.specs.Answer.Costs.{revision_cost};
-ghost use Rattle.law_register.specs.Answer.Replay.{replay_on};
+ghost use Rattle.law_register.specs.Answer.Renewing.{both_costs};
+ghost use Rattle.law_register.specs.Answer.Replay.{as_enacted, replay_on};
 ghost use Rattle.law_register.specs.Answer.Soundness.{IsSound};
 ghost use Rattle.law_register.specs.Answer.Versions.{version_view};
 ghost use Rattle.version_cache.specs.Seen.{both_view, revision_view, table_view, work_revision_view, work_view};
@@ -56,7 +57,7 @@ fn make_both<P: Replayer, L: Ledger>(
     requires { IsSound known.now }
     ensures force { IfOk result (λ both. table_view both.0 ≡ table_of known.now Reading.Force) }
     ensures efficacy { IfOk result (λ both. table_view both.1 ≡ table_of known.now Reading.Efficacy) }
-    ensures steps { steps.new ≤ steps.old + works.both_costs known.now (Some 0) }
+    ensures steps { steps.new ≤ steps.old + both_costs known.now (Some 0) }
 {
     let force = Table::make(alloc, replayer, known, Reading::Force, steps)?;
     let efficacy = make_efficacy(alloc, replayer, known, &force, steps)?;
@@ -74,7 +75,7 @@ impl WorkTables {
         requires { IsSound known }
         ensures made { IfOk result (λ made. work_view made ≡ works.work_of known) }
         ensures right { IfOk result (λ made. works.IsFor known (work_view made)) }
-        ensures steps { steps.new ≤ steps.old + works.both_costs known (Some 0) }
+        ensures steps { steps.new ≤ steps.old + both_costs known (Some 0) }
     {
         match make_both(alloc, replayer, &known, steps) {
             Ok((force, efficacy)) => Ok(WorkTables {
@@ -116,6 +117,15 @@ impl WorkTables {
         self.table(reading).on(day)
     }
 
+    /// The act as enacted. It takes no memory.
+    pub fn enacted(&self) -> &Version
+        ensures version { version_view result.now ≡ (work_view self.now).force.enacted }
+        ensures right { (known : KnownValue) → works.IsFor known (work_view self.now)
+            → version_view result.now ≡ as_enacted known.act }
+    {
+        self.force.enacted.version()
+    }
+
     // The revision of the table of efficacy, which shares the versions of that of force where both readings give the same.
     fn revise_efficacy<P: Replayer, L: Ledger>(
         &self,
@@ -152,7 +162,7 @@ impl WorkTables {
         requires right { works.AreRightUntil known.now touched (work_view self.now) }
         ensures revisions { IfOk result (λ tables. option_map both_view tables
             ≡ works.revisions_of (work_view self.now) known.now touched) }
-        ensures steps { steps.new ≤ steps.old + works.both_costs known.now touched }
+        ensures steps { steps.new ≤ steps.old + both_costs known.now touched }
     {
         let Some(day) = touched else {
             return Ok(None);
@@ -180,7 +190,7 @@ impl WorkTables {
             (λ revision. works.AreRevisionsOf (work_view self.now) (work_revision_view revision).tables) }
         ensures right { IfOk result
             (λ revision. works.IsFor known (works.renewed (work_view self.now) (work_revision_view revision))) }
-        ensures steps { steps.new ≤ steps.old + works.both_costs known touched }
+        ensures steps { steps.new ≤ steps.old + both_costs known touched }
     {
         match self.revise_both(alloc, replayer, &known, touched, steps) {
             Ok(tables) => Ok(WorkRevision { known, tables }),

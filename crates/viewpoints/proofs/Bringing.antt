@@ -1,13 +1,14 @@
 -- The table of a question becomes the latest, and a question is answered from that.
-use Rattle.std.proofs.Common.{◌≡◌, ◌∙◌, sym, ap, ap₂, subst, ℕ, ◌+◌, ◌≤◌, ◌⊎◌, inl, inr, Bool, true, false, cond, ◌&&◌, ◌||◌, List, [], ◌∷◌, slice_get, Contains, Option, Some, None, IsSome, option_map, is_some, is_none, Result, Ok, Err, refl}
-use Rattle.std.specs.List.{list_any}
+use Rattle.std.proofs.Common.{◌≡◌, ◌∙◌, sym, ap, ap₂, subst, ℕ, ◌+◌, ◌≤◌, ◌⊎◌, inl, inr, Bool, true, false, cond, ◌&&◌, ◌||◌, List, [], ◌∷◌, slice_get, Contains, Option, Some, None, IsSome, option_map, is_some, is_none, Err, refl}
 use Rattle.std.specs.Map.{keys_of, lookup}
 use Rattle.lru.proofs.CallerLemmas.{Contains-lookup_entry}
 use Rattle.lru.proofs.Splits.{Contains-head}
-use Rattle.law_register.specs.Answer.Answers.{Answers, answer_of_text, answer_on, asked_day, first_rule, unless_broken}
+use Rattle.law_register.specs.Answer.Answers.{Answers, Judges, answer_of_text, answer_on, asked_day, first_rule, unless_broken}
 use Rattle.law_register.specs.Answer.Asking.{answer_at, answer_by, known_for}
 use Rattle.law_register.specs.Answer.Replay.{VersionValue, replay_on}
 use Rattle.law_register.specs.Register.KnownIds.{known_at}
+use Rattle.law_register.specs.Register.KnownNext.{up_to}
+use Rattle.law_register.specs.Register.LawList.{front}
 use Rattle.law_register.specs.declared.answer.answer.Answer.{Answer}
 use Rattle.law_register.specs.declared.answer.queries.AskFault.{AskFault}
 use Rattle.law_register.specs.declared.answer.queries.AskFault.TheVariants.{Query, Memory}
@@ -16,13 +17,12 @@ use Rattle.law_register.specs.declared.answer.queries.QueryRule.TheVariants.{Unk
 use Rattle.law_register.specs.declared.answer.question.Question.{Question}
 use Rattle.law_register.specs.declared.register.entry.Entry.{Entry}
 use Rattle.law_register.specs.declared.register.known.Known.{Known}
-use Rattle.viewpoints.specs.Asked.{AreKeysAfter, Judges, keys_asked, making_cost, needs_table, past_cost, refusal, refusal_by}
-use Rattle.viewpoints.specs.Keys.{has_key, is_same_key, key_of, keys_after}
+use Rattle.law_register.specs.Answer.PastAsking.{AreKeysAfter, keys_asked, making_cost, needs_table, past_cost, refusal, refusal_by}
+use Rattle.law_register.specs.Answer.PastKeys.{has_key, is_same_key, key_of, keys_after}
 use Rattle.viewpoints.specs.Right.{IsLatest, IsRight, IsRightAt}
-use Rattle.viewpoints.specs.declared.past_key.PastKey.{PastKey}
+use Rattle.law_register.specs.declared.answer.past_key.PastKey.{PastKey}
 use Rattle.viewpoints.specs.declared.past_tables.PastTable.{PastTable}
 use Rattle.viewpoints.proofs.Latest.{found_entry}
-use Rattle.viewpoints.proofs.Stale.{rule_same}
 
 -- what is looked for is there exactly where its key is
 has_key-lookup : {T : Type 0} (key : PastKey) (past : List (PastKey × PastTable T)) → has_key key (keys_of past) ≡ is_some (lookup (is_same_key key) past)
@@ -83,8 +83,8 @@ module _ (entries : List Entry) (q : Question) where
           (has_key-lookup (key_of q) past ∙ ap is_some (subst (λ k. lookup (is_same_key k) past ≡ None) same (sym absent))))
 
   module _ {T : Type 0} (version_on : T → ℕ → VersionValue) where
-    pub refusal_is : (kept : PastTable T) → IsRightAt version_on entries (key_of q) kept → refusal entries q ≡ first_rule kept.known q
-    refusal_is kept right = ap (refusal_by q) right.known ∙ rule_same _ kept.known q right.made right.reached
+    pub refusal_is : (kept : PastTable T) (n : ℕ) → n ≡ front entries → IsRightAt version_on entries (key_of q) kept → refusal entries q ≡ first_rule (up_to n kept.known) q
+    refusal_is kept n same right = ap (refusal_by q) right.known ∙ ap (λ f. first_rule (up_to f kept.known) q) (sym same)
 
     -- what is found under the key of a question is right for it
     pub found_right : (past : List (PastKey × PastTable T)) (kept : PastTable T) (key : PastKey) → key ≡ key_of q → IsRight version_on entries past

@@ -11,7 +11,7 @@ use Rattle.law_register.specs.declared.register.entry.Entry.{Entry}
 use Rattle.law_register.specs.declared.register.known.Known.{Known}
 use Rattle.law_register.proofs.Snoc.{laws_more}
 use Rattle.viewpoints.specs.Right.{IsRight, IsRightAt, with_front}
-use Rattle.viewpoints.specs.declared.past_key.PastKey.{PastKey}
+use Rattle.law_register.specs.declared.answer.past_key.PastKey.{PastKey}
 use Rattle.viewpoints.specs.declared.past_tables.PastTable.{PastTable}
 
 taken_more : (es : List Entry) (e : Entry) (v : ℕ) → v ≤ front es → take v (laws (es ++ e ∷ [])) ≡ take v (laws es)

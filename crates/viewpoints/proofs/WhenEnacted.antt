@@ -1,88 +1,20 @@
--- Until a work is enacted nothing is recorded in it, so the act as enacted is answered by replaying nothing.
-use Rattle.std.proofs.Common.{◌≡◌, ◌∙◌, sym, ap, subst, ℕ, ◌+◌, ◌≤◌, ◌<◌, ◌⊎◌, inl, inr, Bool, true, false, cond, ◌&&◌, List, [], ◌∷◌, ◌++◌, length, take, Option, Some, None, refl, arith}
-use Rattle.std.proofs.lemmas.List.{append-nil, length-append}
+-- The act as enacted is answered by replaying nothing: it was known by itself alone.
+use Rattle.std.proofs.Common.{◌≡◌, ◌∙◌, ap, true, List, Option, Some, None, option_map, refl}
 use Rattle.law_register.specs.Answer.Answers.{first_rule}
-use Rattle.law_register.specs.Answer.Asking.{known_for, known_when_enacted}
-use Rattle.law_register.specs.Answer.Costs.{bearing_at, bearing_by, bearing_for, unless_refused}
-use Rattle.law_register.specs.Register.Drafts.{draft_of}
-use Rattle.law_register.specs.Register.KnownIds.{enacted, enacted_by, enacted_or, ids_of, ids_recorded, known_at, known_by, known_ids}
-use Rattle.law_register.specs.Register.LawList.{law_of, laws, front}
-use Rattle.law_register.specs.Register.Verdicts.{is_accepted, is_legal, verdict}
+use Rattle.law_register.specs.Answer.Asking.{known_for}
+use Rattle.law_register.specs.Answer.Costs.{bearing_at, bearing_for, unless_refused}
+use Rattle.law_register.specs.Register.KnownNext.{bare, known_now}
+use Rattle.law_register.specs.Register.Verdicts.{is_legal}
 use Rattle.law_register.specs.declared.answer.question.Question.{Question}
 use Rattle.law_register.specs.declared.answer.queries.QueryRule.{QueryRule}
-use Rattle.law_register.specs.declared.law.act.Act.{Act}
-use Rattle.law_register.specs.declared.law.command.Command.{Command}
-use Rattle.law_register.specs.declared.law.command.Command.TheVariants.{Enact, Record, Correct, Withdraw, Restore, DraftAdd, DraftDrop, File}
 use Rattle.law_register.specs.declared.register.entry.Entry.{Entry}
 use Rattle.law_register.specs.declared.register.known.Known.{Known}
-use Rattle.law_register.proofs.Lists.{by_last, take_front, take_last}
-use Rattle.law_register.proofs.Next.{none_before, one_at_most}
-use Rattle.law_register.proofs.Puts.{left_true}
-use Rattle.law_register.proofs.Snoc.{enacted_more, first_act, ids_more, laws_more, legal_more}
-
--- the law entries up to the one that enacts a work record nothing in it
-abbrev AreBare : List ℕ → List Command → Type 0
-AreBare w ls = (f : ℕ × Act) → enacted w ls ≡ Some f → (f.0 ≤ length ls) × (ids_of w (take f.0 ls) ≡ [])
-
-enacts_alone : (w : List ℕ) (n : ℕ) (l : Command) (act : Act) → enacted_by w l ≡ Some act → ids_recorded n w l ≡ []
-enacts_alone w n (Enact a) act is = refl
-enacts_alone w n (Record work mods) act is = absurd (let no : None ≡ Some act = is in cc)
-enacts_alone w n (Correct id body) act is = refl
-enacts_alone w n (Withdraw id) act is = refl
-enacts_alone w n (Restore id) act is = refl
-enacts_alone w n (DraftAdd work body) act is = refl
-enacts_alone w n (DraftDrop item) act is = refl
-enacts_alone w n (File work seen) act is = refl
-
-module _ (w : List ℕ) (L : List Command) (l : Command) (none : enacted w L ≡ None → ids_of w L ≡ []) (bare : AreBare w L) (f : ℕ × Act) where
-  abbrev IsBareNow : Type 0
-  IsBareNow = (f.0 ≤ length (L ++ l ∷ [])) × (ids_of w (take f.0 (L ++ l ∷ [])) ≡ [])
-
-  was_enacted : enacted w L ≡ Some f → IsBareNow
-  was_enacted was =
-      let old = bare f was in
-      (omega (arith, old.0, length-append L (l ∷ [])), ap (ids_of w) (take_front L l f.0 old.0) ∙ old.1)
-
-  is_enacted : enacted w L ≡ None → (act : Act) → enacted_by w l ≡ Some act → length L + 1 ≡ f.0 → IsBareNow
-  is_enacted was act by number = (
-    omega (arith, number, length-append L (l ∷ [])),
-    ap (ids_of w) (take_last L l f.0 (omega (arith, number))) ∙ ids_more w L l
-        ∙ ap (λ ids. ids ++ ids_recorded (length L + 1) w l) (none was) ∙ enacts_alone w (length L + 1) l act by,
-  )
-
-  bare_by : (found : Option (ℕ × Act)) → enacted w L ≡ found → (act : Option Act) → enacted_by w l ≡ act
-      → first_act found (enacted_or (length L + 1) act None) ≡ Some f → IsBareNow
-  bare_by (Some g) was act by is = was_enacted (was ∙ is)
-  bare_by None was None by is = absurd (let no : None ≡ Some f = is in cc)
-  bare_by None was (Some act) by is =
-      let same : Some (length L + 1, act) ≡ Some f = is in
-      let first : (length L + 1, act) ≡ f = cc in
-      is_enacted was act by (ap (λ (p : ℕ × Act). p.0) first)
-
-bare_more : (w : List ℕ) (L : List Command) (l : Command) → (enacted w L ≡ None → ids_of w L ≡ []) → AreBare w L → AreBare w (L ++ l ∷ [])
-bare_more w L l none bare f is =
-    bare_by w L l none bare f (enacted w L) refl (enacted_by w l) refl
-    (subst (λ n. first_act (enacted w L) (enacted_or n (enacted_by w l) None) ≡ Some f) refl (sym (enacted_more w L l) ∙ is))
-
-bare_of : (w : List ℕ) (es : List Entry) → is_legal es ≡ true → AreBare w (laws es)
-bare_of w es = by_last (λ xs. is_legal xs ≡ true → AreBare w (laws xs)) more (λ legal f is. absurd (let no : None ≡ Some f = is in cc)) es
-  where
-    more : (xs : List Entry) (e : Entry) → (is_legal xs ≡ true → AreBare w (laws xs)) → is_legal (xs ++ e ∷ []) ≡ true → AreBare w (laws (xs ++ e ∷ []))
-    more xs e h legal = subst (AreBare w) (sym (laws_more xs e)) (by (one_at_most (draft_of e.drafter xs) e.command))
-      where
-        before : is_legal xs ≡ true
-        before = left_true (is_legal xs) (is_accepted e.law (verdict xs e.drafter e.request e.command)) (sym (legal_more xs e) ∙ legal)
-
-        by : (law_of xs e ≡ []) ⊎ ((l : Command) × (law_of xs e ≡ l ∷ [])) → AreBare w (laws xs ++ law_of xs e)
-        by (inl nothing) = subst (λ ls. AreBare w (laws xs ++ ls)) (sym nothing) (subst (AreBare w) (sym (append-nil (laws xs))) (h before))
-        by (inr (l, one)) = subst (λ ls. AreBare w (laws xs ++ ls)) (sym one) (bare_more w (laws xs) l (none_before w xs before) (h before))
+use Rattle.law_register.proofs.WhenEnacted.{enacted_bare}
 
 -- of what is known without modifications none bear
-none_bear : (q : Question) (w : List ℕ) (v n : ℕ) (ls : List Command) (found : Option (ℕ × Act)) → ids_of w ls ≡ [] → bearing_for q (known_by w v n ls found) ≡ 0
-none_bear q w v n ls None bare = refl
-none_bear q w v n ls (Some found) bare =
-    let known : List _ → Known = λ mods. record { act = found.1; enacted = found.0; viewpoint = v; front = n; mods = mods } in
-    ap (λ ids. bearing_by q (known (known_ids ls ids))) bare ∙ nothing (first_rule (known []) q)
+none_bear : (q : Question) (known : Option Known) → bearing_for q (option_map bare known) ≡ 0
+none_bear q None = refl
+none_bear q (Some known) = nothing (first_rule (bare known) q)
   where
     nothing : (rule : Option QueryRule) → unless_refused rule 0 ≡ 0
     nothing None = refl
@@ -92,10 +24,4 @@ pub enacted_costs_nothing : (entries : List Entry) (q : Question) → is_legal e
 unfolding bearing_at
 enacted_costs_nothing entries q legal undated =
     ap (λ version. bearing_for q (known_for entries q.work q.viewpoint version)) undated
-    ∙ by (enacted q.work (laws entries)) refl
-  where
-    by : (found : Option (ℕ × Act)) → enacted q.work (laws entries) ≡ found → bearing_for q (known_when_enacted entries q.work found) ≡ 0
-    by None is = refl
-    by (Some f) is =
-        none_bear q q.work f.0 (front entries) (take f.0 (laws entries)) (enacted q.work (take f.0 (laws entries)))
-        ((bare_of q.work entries legal f is).1)
+    ∙ ap (bearing_for q) (enacted_bare entries q.work legal) ∙ none_bear q (known_now entries q.work)

@@ -6,8 +6,8 @@ use Rattle.law_register.specs.Register.KnownIds.{known_at}
 use Rattle.law_register.specs.Register.LawList.{front}
 use Rattle.law_register.specs.declared.register.entry.Entry.{Entry}
 use Rattle.law_register.specs.declared.register.known.Known.{Known}
-use Rattle.viewpoints.specs.Keys.{keys_after}
-use Rattle.viewpoints.specs.declared.past_key.PastKey.{PastKey}
+use Rattle.law_register.specs.Answer.PastKeys.{keys_after}
+use Rattle.law_register.specs.declared.answer.past_key.PastKey.{PastKey}
 use Rattle.viewpoints.specs.declared.past_tables.PastTable.{PastTable}
 
 -- a work as it is known, once there are so many law entries

@@ -2,30 +2,21 @@
 
 ghost use Rattle.std.specs.Prelude.{◌≡◌, ◌+◌, ◌≤◌, false, slice_get, Some, IfOk, IsSome, OnOk};
 ghost use Rattle.std.specs.Map.{keys_of};
-ghost use Rattle.law_register.specs.Answer.Answers.{Answers, first_rule};
+ghost use Rattle.law_register.specs.Answer.Answers.{Answers, Judges};
 ghost use Rattle.law_register.specs.Answer.Asking.{answer_at};
 ghost use Rattle.law_register.specs.Register.KnownIds.{known_at};
-ghost use Rattle.viewpoints.specs.Asked.{AreKeysAfter, Judges, keys_asked, making_cost, needs_table, past_cost, refusal};
-ghost use Rattle.viewpoints.specs.Keys.{key_of};
+ghost use Rattle.law_register.specs.Answer.PastAsking.{AreKeysAfter, keys_asked, making_cost, needs_table, past_cost, refusal};
+ghost use Rattle.law_register.specs.Answer.PastKeys.{key_of};
 ghost use Rattle.viewpoints.specs.Right.{IsRight, IsRightAt};
 
 use crate::{PastKey, PastTable, PastTables, answer_replayed};
 use desk_base::Steps;
 use law_register::laws::entries_are_legal;
 use law_register::{
-    Answer, AskFault, Dated, Known, QueryRule, Question, Register, Replayer, answer_dated, known_at,
+    Answer, AskFault, Dated, QueryRule, Question, Register, Replayer, answer_dated, known_at,
 };
 use std::alloc::Global;
 use std::sync::ledger::Ledger;
-
-fn judge(known: &Known, question: &Question) -> Result<(), AskFault>
-    ensures { Judges result (first_rule known.now question.now) }
-{
-    match question.first_rule(known)? {
-        Some(rule) => Err(AskFault::Query(rule)),
-        None => Ok(()),
-    }
-}
 
 // What is to be kept for a question, or the first rule that it breaks: no table is made where that can be judged without a text.
 fn make_table<T: Dated, P: Replayer, L: Ledger>(
@@ -43,7 +34,7 @@ fn make_table<T: Dated, P: Replayer, L: Ledger>(
 {
     match known_at(alloc, register, &question.work, question.viewpoint)? {
         Some(known) => {
-            judge(&known, question)?;
+            question.judge(&known, known.front)?;
             let table = T::make(alloc, replayer, &known, question.reading, steps)?;
             Ok(PastTable { known, table })
         }
@@ -77,7 +68,7 @@ impl<T: Dated + Drop> PastTables<T> {
         let key = PastKey::of(question)?;
         match self.kept(&key) {
             Some(kept) => {
-                judge(&kept.known, question)?;
+                question.judge(&kept.known, register.front())?;
                 self.renew(&key);
                 Ok(())
             }

@@ -5,7 +5,7 @@ ghost use Rattle.std.specs.List.{IsDistinct};
 ghost use Rattle.std.specs.Map.{keys_of, lookup};
 ghost use Rattle.std.specs.NonZero.{non_zero_usize_get};
 ghost use Rattle.law_register.specs.declared.register.entry.Entry.{Entry};
-ghost use Rattle.viewpoints.specs.Keys.{is_same_key};
+ghost use Rattle.law_register.specs.Answer.PastKeys.{is_same_key};
 ghost use Rattle.viewpoints.specs.Right.{IsLatest, IsRight};
 ghost use Rattle.viewpoints.specs.declared.past_tables.PastTable.{PastTable as TableValue};
 
@@ -37,7 +37,7 @@ impl<T> Model for PastTables<T> {
     ghost use Rattle.std.specs.Coded.{codes, coded_list, coded×};
     ghost use Rattle.act_tree.specs.Codes.{branches_code};
     ghost use Rattle.act_tree.specs.OwnCode.{own_code};
-    ghost use Rattle.viewpoints.specs.declared.past_key.PastKey.{PastKey};
+    ghost use Rattle.law_register.specs.declared.answer.past_key.PastKey.{PastKey};
     ghost use Rattle.viewpoints.specs.declared.past_tables.PastTable.{PastTable};
 
     ghost Value = { List (PastKey × PastTable T) };

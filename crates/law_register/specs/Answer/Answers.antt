@@ -129,3 +129,9 @@ abbrev pub Answers : {A : Type 0} → Result A AskFault → Result A QueryRule �
 Answers (Ok value) told = told ≡ Ok value
 Answers (Err (fails.Query rule)) told = told ≡ Err rule
 Answers (Err fails.Memory) told = Unit {0}
+
+-- what is judged: no rule is broken, or this one; or there was not enough memory
+abbrev pub Judges : {A : Type 0} → Result A AskFault → Option QueryRule → Type 0
+Judges (Ok value) rule = rule ≡ None
+Judges (Err (fails.Query broken)) rule = rule ≡ Some broken
+Judges (Err fails.Memory) rule = Unit {0}

@@ -1,5 +1,6 @@
 -- What a command does to a desk: a pending entry is settled, the clock gives a day, and then the command is judged.
-use Rattle.std.specs.Prelude.{ℕ, ◌≡◌, ◌⊎◌, List, [], ◌∷◌, ◌++◌, length, Option, Some, None, IsSome, Result, Ok, Err}
+use Rattle.std.specs.Prelude.{ℕ, ◌≡◌, ◌≤◌, ◌+◌, ◌⊎◌, List, [], ◌∷◌, ◌++◌, length, Option, Some, None, IsSome, Result, Ok, Err}
+use Rattle.std.proofs.Common.{inl, inr}
 use Rattle.desk_base.specs.Clocks.{GivesDay}
 use Rattle.desk_base.specs.Crashes.{Crashes, LeavesOnly}
 use Rattle.desk_base.specs.Streams.{risen}
@@ -11,6 +12,7 @@ use Rattle.law_register.specs.declared.register.entry.Entry.{Entry}
 use Rattle.law_register.specs.declared.register.rules.Rule.{Rule}
 use Rattle.law_register.specs.declared.register.verdict.Reply.{Reply}
 use Rattle.law_register.specs.declared.register.verdict.Verdict.TheVariants.{Accepted}
+use Rattle.law_register.specs.Answer.Renewing.{command_cost}
 use Rattle.law_register.specs.Desk.States.{DeskState, Found, IsFoundOf, Standing}
 use Rattle.law_register.specs.Register.Entering.{entered, entry_of}
 use Rattle.law_register.specs.Register.Verdicts.{verdict}
@@ -70,6 +72,20 @@ module _ (drafter : List ℕ) (request : ℕ) (command : Command) (old new : Sta
   Ends (Err (fails.Rule rule)) = IsRefused rule
   Ends (Err fails.KeeperFault) = (Waits old new × IsSome old.pending) ⊎ IsPending
   Ends (Err fails.Memory) = Waits old new ⊎ IsIdle
+
+  -- the steps that a command may take, by how it ended: none where it was refused, is a repeat, or was not judged
+  abbrev pub spending : (result : Result Reply CommandFault) → Ends result → ℕ
+  spending (Ok reply) replied = command_cost replied.settled (entry_of drafter request replied.day None command)
+  spending (Err (fails.Rule rule)) refused = 0
+  spending (Err fails.KeeperFault) (inl waited) = 0
+  spending (Err fails.KeeperFault) (inr left) = command_cost new.entries (entry_of drafter request left.day None command)
+  spending (Err fails.Memory) (inl waited) = 0
+  spending (Err fails.Memory) (inr idle) = command_cost new.entries (entry_of drafter request idle.day None command)
+
+  -- a command ends, and so many steps were taken before it, and after
+  pub record EndsWithin (before after : ℕ) (result : Result Reply CommandFault) : Type 0 where
+    pub ends : Ends result
+    pub within : after ≤ before + spending result ends
 
 -- a mark of a command that is answered when these entries stand
 abbrev pub mark_of : List ℕ → ℕ → List Entry → FaultMark

@@ -20,6 +20,14 @@ known_now entries work = known_at entries work (front entries)
 abbrev pub up_to : ℕ → Known → Known
 up_to front known = record known { viewpoint = front; front = front }
 
+-- a work as it is known at a viewpoint, where all law entries up to it are
+abbrev pub at_viewpoint : ℕ → Known → Known
+at_viewpoint viewpoint known = record known { viewpoint = viewpoint }
+
+-- what is known of a work by its act alone, when a law entry had just enacted it
+abbrev pub bare : Known → Known
+bare known = record known { viewpoint = known.enacted; mods = [] }
+
 -- modifications as they are known once a law entry of this number records them, the first of them as this item
 abbrev pub bodies_known : ℕ → ℕ → List Modification → List KnownMod
 bodies_known law item [] = []

@@ -12,7 +12,7 @@ use desk_base::Steps;
 use std::alloc::Global;
 use std::sync::ledger::Ledger;
 
-// The answer by what is known. The first rule is judged before anything is replayed, and again by who answers.
+// The answer by what is known. The first rule is judged before anything is replayed.
 #[tactic(auto, unfolding(crate::specs::Answer::Answers::answer_on))]
 fn answer_replayed<P: Replayer, L: Ledger>(
     alloc: Global,
@@ -25,14 +25,12 @@ fn answer_replayed<P: Replayer, L: Ledger>(
     ensures answer { Answers result (answer_on known.now question.now) }
     ensures steps { steps.new ≤ steps.old + bearing_by question.now known.now }
 {
-    match question.first_rule(known)? {
-        Some(rule) => Err(AskFault::Query(rule)),
-        None => {
-            let day = question.asked_day(&known.act);
-            let version = replayer.replay(alloc, known, question.reading, day, steps)?;
-            replayer.answer_of(alloc, known, version, question)
-        }
-    }
+    question.judge(known, known.front)?;
+    let day = question.asked_day(&known.act);
+    let version = replayer.replay(alloc, known, question.reading, day, steps)?;
+    let told = replayer.answer_text(alloc, known, &version, question);
+    drop(version);
+    told
 }
 
 /// The answer to a question by what is known of its work, or the first rule that it breaks; `None`: nothing is known of it. Its
@@ -61,6 +59,7 @@ pub fn answer_by<P: Replayer, L: Ledger>(
 
 /// The answer to a question by what is known of its work, or the first rule that it breaks, from versions that are right for that
 /// in the question's reading. The version is lent, nothing is replayed, and no step is taken.
+#[tactic(auto, unfolding(crate::specs::Answer::Answers::answer_on))]
 pub fn answer_dated<P: Replayer, D: Dated>(
     alloc: Global,
     replayer: &P,
@@ -71,6 +70,7 @@ pub fn answer_dated<P: Replayer, D: Dated>(
     requires { (day : ℕ) → D.version_on dated.now day ≡ replay_on known.now question.now.reading day }
     ensures { Answers result (answer_on known.now question.now) }
 {
+    question.judge(known, known.front)?;
     let day = question.asked_day(&known.act);
-    replayer.answer_lent(alloc, known, dated.on(day), question)
+    replayer.answer_text(alloc, known, dated.on(day), question)
 }

@@ -3,8 +3,10 @@
 ghost use Rattle.std.specs.Prelude.{◌≡◌};
 ghost use Rattle.law_register.specs.Answer.Answers as answers;
 ghost use Rattle.law_register.specs.Answer.Questions.{reading_name, reading_named};
+ghost use Rattle.law_register.specs.Answer.Answers.{Judges};
+ghost use Rattle.law_register.specs.Register.KnownNext.{up_to};
 
-use crate::{Act, Known, QueryRule};
+use crate::{Act, AskFault, Known, QueryRule};
 use desk_base::{Day, Memory, Text};
 use frbr_names::WorkName;
 
@@ -94,16 +96,17 @@ impl Question {
         self.version.unwrap_or(act.day)
     }
 
-    /// The first rule that it breaks before any text is looked at, by what is known of its work: any but that of the portion.
-    pub fn first_rule(&self, known: &Known) -> Result<Option<QueryRule>, Memory>
-        ensures { IfOk result (λ rule. rule ≡ answers.first_rule known.now self.now) }
+    /// The first rule that it breaks before any text is looked at, by what is known of its work once there are so many law entries:
+    /// any but that of the portion.
+    pub fn first_rule(&self, known: &Known, front: u32) -> Result<Option<QueryRule>, Memory>
+        ensures { IfOk result (λ rule. rule ≡ answers.first_rule (up_to front known.now) self.now) }
     {
         if self.viewpoint < known.enacted {
             let work = self.work.copy()?;
             return Ok(Some(QueryRule::UnknownWork(work)));
         }
-        if known.front < self.viewpoint {
-            return Ok(Some(QueryRule::ViewpointAhead(known.front)));
+        if front < self.viewpoint {
+            return Ok(Some(QueryRule::ViewpointAhead(front)));
         }
         if is_too_early(self.version, &known.act) {
             return Ok(Some(QueryRule::NotYetEnacted(known.act.day)));
@@ -112,5 +115,15 @@ impl Question {
             return Ok(Some(QueryRule::OtherLanguage(known.act.language)));
         }
         Ok(None)
+    }
+
+    /// Whether it may be answered from a text, by what is known of its work once there are so many law entries.
+    pub fn judge(&self, known: &Known, front: u32) -> Result<(), AskFault>
+        ensures { Judges result (answers.first_rule (up_to front known.now) self.now) }
+    {
+        match self.first_rule(known, front)? {
+            Some(rule) => Err(AskFault::Query(rule)),
+            None => Ok(()),
+        }
     }
 }

@@ -74,8 +74,9 @@ pub trait Replayer {
             ≡ replay_on known.now question.now.reading (answers.asked_day question.now.version known.now.act) }
         ensures { answers.Answers result (answers.answer_on known.now question.now) };
 
-    /// The same from a version that is lent, so that who keeps it copies no tree; what provisions say is shared.
-    fn answer_lent(
+    /// The answer to a question that breaks no rule before its text is looked at, from the version that it asks for, or the rule that
+    /// the text has no such provision. The version is lent, so that who keeps it copies no tree; what provisions say is shared.
+    fn answer_text(
         &self,
         alloc: Global,
         known: &Known,
@@ -84,5 +85,6 @@ pub trait Replayer {
     ) -> Result<Answer, AskFault>
         requires { version_view version.now
             ≡ replay_on known.now question.now.reading (answers.asked_day question.now.version known.now.act) }
-        ensures { answers.Answers result (answers.answer_on known.now question.now) };
+        ensures { answers.Answers result
+            (answers.answer_of_text known.now (version_view version.now) question.now) };
 }

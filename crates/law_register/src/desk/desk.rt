@@ -1,18 +1,19 @@
 //! Desk: who takes commands and answers questions. A clause sees its entries, the one that is pending, the marks of
-//! faults, its keeper's count of faults, the days that its clock tells, the names of what it was lent, and what a crash
-//! leaves of it.
+//! faults, its keeper's count of faults, the days that its clock tells, the names of what it was lent, what a crash leaves
+//! of it, and of which past viewpoints it keeps tables.
 
-ghost use Rattle.std.specs.Prelude.{◌≡◌, ◌+◌, ◌<◌, ◌≤◌, true, IfOk, IsSome};
+ghost use Rattle.std.specs.Prelude.{◌≡◌, ◌+◌, ◌<◌, ◌≤◌, true, List, IfOk, IsSome};
 ghost use Rattle.desk_base.specs.Crashes.{AreCrashes, Crashes};
 ghost use Rattle.law_register.specs.Answer.Answers.{Answers};
 ghost use Rattle.law_register.specs.Answer.Asking.{answer_at};
-ghost use Rattle.law_register.specs.Answer.Costs.{bearing_at};
+ghost use Rattle.law_register.specs.Answer.PastAsking.{AreKeysAfter, keys_asked, past_cost};
 ghost use Rattle.law_register.specs.Answer.Previews.{preview_at, previewing_at};
-ghost use Rattle.law_register.specs.Desk.Commands.{Ends, HasCommandCause, LeavesBetween, LeavesNoMore, mark_of, marks_after};
+ghost use Rattle.law_register.specs.Desk.Commands.{EndsWithin, HasCommandCause, LeavesBetween, LeavesNoMore, mark_of, marks_after};
 ghost use Rattle.law_register.specs.Desk.States.{DeskState, Found, IsDurable, IsSound, standing};
 ghost use Rattle.law_register.specs.Law.Spelling.{is_well_spelled};
 ghost use Rattle.law_register.specs.Register.Drafts.{draft_of};
 ghost use Rattle.law_register.specs.Register.LawList.{front};
+ghost use Rattle.law_register.specs.declared.answer.past_key.PastKey.{PastKey};
 
 use crate::{Answer, AskFault, Command, CommandFault, Draft, Drafter, Question, Register, Reply};
 use desk_base::{Memory, Steps};
@@ -28,10 +29,14 @@ pub trait Desk {
     /// What is found after a crash, where its keeper tells it.
     ghost crashes: { Self → Crashes Found };
 
+    /// The keys of the tables that it keeps of past viewpoints, the latest first.
+    ghost past: { Self → List PastKey };
+
     /// Does a well-spelled command of a drafter's request. First a pending entry is settled, then the clock is asked
     /// once for the day, then the command is judged: a repeat gets the first reply, and one that is accepted becomes
-    /// an entry of that day, once the keeper has it. Where the keeper fails, the command leaves a mark. No step is
-    /// taken.
+    /// an entry of that day, once the keeper has it. Where the keeper fails, the command leaves a mark. It takes one step
+    /// at most for each id that is applied to keep the versions of the works that its entry touches up to date, and none
+    /// where it is refused, is a repeat, or is not judged.
     fn command<L: Ledger>(
         &mut self,
         alloc: Global,
@@ -41,8 +46,8 @@ pub trait Desk {
         steps: &mut Steps<L>,
     ) -> Result<Reply, CommandFault>
         requires { is_well_spelled command ≡ true }
-        ensures outcome { Ends drafter.now request command
-            (standing (state self.old)) (standing (state self.new)) result }
+        ensures outcome { EndsWithin drafter.now request command
+            (standing (state self.old)) (standing (state self.new)) steps.old steps.new result }
         ensures marks { (state self.new).marks ≡ marks_after (state self.old).marks
             (mark_of drafter.now request (state self.new).entries) result }
         ensures cause { HasCommandCause (state self.old).faults (state self.new).faults result }
@@ -50,22 +55,17 @@ pub trait Desk {
         ensures sound { IsSound (state self.new) }
         ensures durable { IsDurable (state self.new) (crashes self.new) }
         ensures origin { (state self.new).origin ≡ (state self.old).origin }
-        ensures steps { steps.new ≡ steps.old };
+        ensures past { past self.new ≡ past self.old };
 
     /// The answer to a question at the front or ahead of it, or the first rule that it breaks. An entry that is
-    /// pending is not seen. It takes one step at most for each modification that bears.
-    fn ask<L: Ledger>(
-        &self,
-        alloc: Global,
-        question: &Question,
-        steps: &mut Steps<L>,
-    ) -> Result<Answer, AskFault>
+    /// pending is not seen. Nothing is replayed.
+    fn ask(&self, alloc: Global, question: &Question) -> Result<Answer, AskFault>
         requires { front (state self.now).entries ≤ question.now.viewpoint }
-        ensures answer { Answers result (answer_at (state self.now).entries question.now) }
-        ensures steps { steps.new ≤ steps.old + bearing_at (state self.now).entries question.now };
+        ensures { Answers result (answer_at (state self.now).entries question.now) };
 
     /// The answer to a question at a viewpoint before the front, or the first rule that it breaks. An entry that is
-    /// pending is not seen. It takes one step at most for each modification that bears.
+    /// pending is not seen. Where a table is kept for its work, viewpoint and reading, or it has no day of a version, no
+    /// step is taken; else one at most for each id that is applied to make that table.
     fn ask_past<L: Ledger>(
         &mut self,
         alloc: Global,
@@ -76,7 +76,9 @@ pub trait Desk {
         ensures answer { Answers result (answer_at (state self.old).entries question.now) }
         ensures same { state self.new ≡ state self.old }
         ensures crash { LeavesNoMore (crashes self.old) (crashes self.new) }
-        ensures steps { steps.new ≤ steps.old + bearing_at (state self.old).entries question.now };
+        ensures keys { AreKeysAfter result (past self.old)
+            (keys_asked (state self.old).entries question.now (past self.old)) (past self.new) }
+        ensures steps { steps.new ≤ steps.old + past_cost (state self.old).entries question.now (past self.old) };
 
     /// What a version of a work will say once a drafter's draft of the work is filed, or the first rule that the question
     /// breaks: the answer at one law entry more than there are, or at the front where the draft has nothing of the work.

@@ -1,5 +1,6 @@
--- So far the desk has the entries of the course, the draws have its state, and no fault was counted.
-use Rattle.std.proofs.Common.{◌≡◌, ◌≤◌}
+-- So far the desk has the entries of the course, the draws have its state, no fault was counted, and no more steps were
+-- taken than its commands may.
+use Rattle.std.proofs.Common.{◌≡◌, ◌≤◌, ◌+◌}
 use Rattle.law_register.specs.Desk.States.{standing}
 use Rattle.law_generator.specs.Courses as spec
 use Rattle.law_generator.specs.Courses.{IsReady}
@@ -11,6 +12,6 @@ invariant-loop-done g l = record {
   draws : l.draws.state ≡ (spec.course l.seed l.done).state;
   ready : IsReady (standing (g.D.Desk.state l.desk));
   counted : (g.D.Desk.state l.desk).faults ≡ (g.D.Desk.state l.initial.desk).faults;
-  stepped : l.steps ≡ l.initial.steps;
+  stepped : l.steps ≤ l.initial.steps + spec.course_cost l.seed l.done;
   within : l.done ≤ l.count;
 }

@@ -7,7 +7,7 @@ use Rattle.law_http.proofs.streaming.serve_stream.Goals as goal
 pub returns-in-Some-clause-desk_origin : goal.returns-in-Some-clause-desk_origin
 returns-in-Some-clause-desk_origin g c =
     let left = g.K.Link.left in let written = g.K.Link.written in
-    origin_in_the_end g.D.Desk.state g.D.Desk.crashes (left c.args.link.now) (prepend_known c.turns.rest (left c.turns.link)) (prepend_known c.take_turn-turn.new.rest (left c.take_turn-turn.new.link)) (left c.take_turn-turn.new.link)
+    origin_in_the_end g.D.Desk.state g.D.Desk.crashes g.D.Desk.past (left c.args.link.now) (prepend_known c.turns.rest (left c.turns.link)) (prepend_known c.take_turn-turn.new.rest (left c.take_turn-turn.new.link)) (left c.take_turn-turn.new.link)
     (written c.args.link.now) (written c.turns.link) (written c.take_turn-turn.new.link) c.args.desk.now c.turns.desk c.take_turn-turn.new.desk
     c.args.steps.now c.turns.steps c.take_turn-turn.new.steps c.turns.faulted c.take_turn-turn.result.faulted c.take_turn-turn.result.end c.in-Some.end
     c.turns.invariant.goes_on c.take_turn-turn.ensures.turn c.in-Some.is
@@ -16,7 +16,7 @@ pub turns-preserved : goal.turns-preserved
 turns-preserved g c =
     let left = g.K.Link.left in let written = g.K.Link.written in record {
       goes_on =
-          goes_on_turned g.D.Desk.state g.D.Desk.crashes (left c.args.link.now) (prepend_known c.turns.rest (left c.turns.link)) (prepend_known c.take_turn-turn.new.rest (left c.take_turn-turn.new.link)) (left c.take_turn-turn.new.link)
+          goes_on_turned g.D.Desk.state g.D.Desk.crashes g.D.Desk.past (left c.args.link.now) (prepend_known c.turns.rest (left c.turns.link)) (prepend_known c.take_turn-turn.new.rest (left c.take_turn-turn.new.link)) (left c.take_turn-turn.new.link)
           (written c.args.link.now) (written c.turns.link) (written c.take_turn-turn.new.link) c.args.desk.now c.turns.desk c.take_turn-turn.new.desk
           c.args.steps.now c.turns.steps c.take_turn-turn.new.steps c.turns.faulted c.take_turn-turn.result.faulted c.either-faulted.result c.take_turn-turn.result.end
           c.turns.invariant.goes_on c.take_turn-turn.ensures.turn c.in-None.is c.either-faulted.ensures;

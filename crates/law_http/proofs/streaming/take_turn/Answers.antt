@@ -11,8 +11,8 @@ returns-in-Err-clause-turn g c =
     let rest = prepend_known c.read_request.new.rest over in
     let written = g.K.Link.written in
     let kept = subst (λ (o : Option (List ℕ)). KeepsRequest left (prepend_known c.read_request.new.rest o)) (sym c.leave.ensures.left) c.in-Err.ensures.kept in
-    turn_moved g.D.Desk.state g.D.Desk.crashes left rest rest over (written c.args.link.now) (written c.read_request.new.link) (written c.leave.new.link)
+    turn_moved g.D.Desk.state g.D.Desk.crashes g.D.Desk.past left rest rest over (written c.args.link.now) (written c.read_request.new.link) (written c.leave.new.link)
     c.args.desk.now c.args.desk.now c.args.steps.now c.args.steps.now _ c.leave.result refl c.read_request.ensures.written
-    (left_off g.D.Desk.state g.D.Desk.crashes left rest over (written c.read_request.new.link) (written c.leave.new.link) c.args.desk.now c.args.steps.now
+    (left_off g.D.Desk.state g.D.Desk.crashes g.D.Desk.past left rest over (written c.read_request.new.link) (written c.leave.new.link) c.args.desk.now c.args.steps.now
     (g.K.Link.write_faults c.read_request.new.link) (g.K.Link.write_faults c.leave.new.link) c.read_request.new.rest c.in-Err.fault c.leave.result
     kept c.in-Err.ensures.unheard c.leave.ensures.leaves)

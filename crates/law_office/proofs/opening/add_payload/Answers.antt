@@ -1,6 +1,6 @@
 use Rattle.std.proofs.Common.{◌≡◌, ◌∙◌, ap, List, ℕ, [], ◌∷◌, ◌++◌}
 use Rattle.law_office.specs.Opening.{spellings}
-use Rattle.law_office.proofs.Opened.{on_ok, spellings_last}
+use Rattle.law_office.proofs.Loading.{on_ok, spellings_last}
 use Rattle.law_office.proofs.opening.add_payload.Goals as goal
 
 pub returns-in-Ok-clause-spelled : goal.returns-in-Ok-clause-spelled

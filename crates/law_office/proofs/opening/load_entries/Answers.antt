@@ -6,7 +6,7 @@ use Rattle.law_keeper.specs.declared.readiness.Readiness.{Readiness}
 use Rattle.law_register.specs.declared.register.entry.Entry.{Entry}
 use Rattle.law_office.specs.Opening.{opened, spellings, with_payload, Refuses}
 use Rattle.law_office.proofs.Openings.{opened_behind_them}
-use Rattle.law_office.proofs.Opened.{HasOpened, opened_none, keeps_then, loads_more, opens_more, opens_all, spells_all, ends_there, opens_refused, opens_fault, payload_cause, refused_stays, same_stays}
+use Rattle.law_office.proofs.Loading.{HasOpened, opened_none, keeps_then, loads_more, opens_more, opens_all, spells_all, ends_there, opens_refused, opens_fault, payload_cause, refused_stays, same_stays}
 use Rattle.law_office.proofs.opening.load_entries.Goals as goal
 
 pub walk-init : goal.walk-init

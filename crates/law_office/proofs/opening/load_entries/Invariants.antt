@@ -2,7 +2,7 @@ use Rattle.std.proofs.Common.{◌≡◌, ◌-◌, ◌^◌, Ok}
 use Rattle.law_keeper.specs.declared.readiness.Readiness.TheVariants.{Ready}
 use Rattle.law_keeper.specs.Keepers.{IsSettled}
 use Rattle.law_office.specs.Opening as spec
-use Rattle.law_office.proofs.Opened.{HasOpened}
+use Rattle.law_office.proofs.Loading.{HasOpened}
 use Rattle.law_office.proofs.opening.load_entries.Given as goal
 
 abbrev pub invariant-walk : goal.invariant-walk

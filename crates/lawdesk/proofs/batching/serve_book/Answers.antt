@@ -22,6 +22,7 @@ returns-clause-served g c =
       entries_are = c.new-office.ensures.entries;
       none_pending = c.new-office.ensures.pending ∙ ap pending_of c.requires.none_pending;
       no_marks = c.new-office.ensures.marks ∙ c.requires.no_marks;
+      no_past = c.new-office.ensures.past ∙ c.requires.no_past;
     })
     _ _ _ _ _ _ _ _ _ closed c.serve_desk-served.ensures.served (kept ∙ c.close-keeper.ensures.keeper)
     (ticked ∙ c.close-keeper.ensures.clock)

@@ -5,4 +5,4 @@ use Rattle.lawdesk.proofs.batching.serve_desk.Goals as goal
 pub returns-clause-origin : goal.returns-clause-origin
 returns-clause-origin g c =
     let served = c.serve_stream.ensures.served in
-    served_origin g.D.Desk.state g.D.Desk.crashes served.exchanges _ _ served.answered
+    served_origin g.D.Desk.state g.D.Desk.crashes g.D.Desk.past served.exchanges _ _ served.answered

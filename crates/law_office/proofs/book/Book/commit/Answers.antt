@@ -1,3 +1,8 @@
+use Rattle.std.proofs.Common.{sym, subst, ◌++◌, ◌∷◌, [], Option}
+use Rattle.law_register.specs.Register.KnownNext.{known_now}
+use Rattle.viewpoints.proofs.Staying.{right_stays}
+use Rattle.version_cache.specs.Works.{WorkValue}
+use Rattle.law_office.specs.Tables.{Matches, table_on}
 use Rattle.law_office.proofs.Openings.{opened_more}
 use Rattle.law_office.proofs.book.Book.commit.Goals as goal
 
@@ -5,3 +10,14 @@ pub returns-clause-opens : goal.returns-clause-opens
 returns-clause-opens c =
     rw c.push.ensures
     (opened_more c.args.self.now.register.entries c.args.pending.entry c.requires.right.opens c.requires.follows.follows c.requires.follows.kept)
+
+pub returns-clause-tables : goal.returns-clause-tables
+returns-clause-tables c =
+    rw c.push.ensures
+    (λ w. subst (λ (k : Option WorkValue). Matches (known_now (c.args.self.now.register.entries ++ c.args.pending.entry ∷ []) w) k)
+    (sym (c.apply.ensures w)) (c.requires.follows.changes.right w))
+
+pub returns-clause-right : goal.returns-clause-right
+returns-clause-right c =
+    rw c.push.ensures
+    (right_stays table_on c.args.self.now.past c.args.self.now.register.entries (c.args.pending.entry ∷ []) c.requires.right.past)

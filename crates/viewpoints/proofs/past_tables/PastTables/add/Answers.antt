@@ -1,4 +1,4 @@
-use Rattle.std.proofs.Common.{◌≡◌, ◌≤◌, sym, ap, subst, length, Some}
+use Rattle.std.proofs.Common.{◌≤◌, sym, ap, subst, length}
 use Rattle.viewpoints.specs.Right.{IsLatest}
 use Rattle.viewpoints.proofs.Latest.{put_is_latest}
 use Rattle.viewpoints.proofs.past_tables.PastTables.add.Goals as goal

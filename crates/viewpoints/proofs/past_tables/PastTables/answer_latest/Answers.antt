@@ -1,4 +1,4 @@
-use Rattle.std.proofs.Common.{◌≡◌, sym, subst, Option, Some, IsSome}
+use Rattle.std.proofs.Common.{sym, subst}
 use Rattle.law_register.specs.Answer.Answers.{Answers}
 use Rattle.viewpoints.proofs.Bringing.{first_right, none_first}
 use Rattle.viewpoints.proofs.Stale.{answered}

@@ -1,4 +1,4 @@
-use Rattle.std.proofs.Common.{◌≡◌, ◌≤◌, ◌+◌, ap, is_some, arith}
+use Rattle.std.proofs.Common.{ap, is_some, arith}
 use Rattle.std.proofs.lemmas.Result.{err_from_is_err_and}
 use Rattle.viewpoints.proofs.Bringing.{told}
 use Rattle.viewpoints.proofs.WhenEnacted.{enacted_costs_nothing}

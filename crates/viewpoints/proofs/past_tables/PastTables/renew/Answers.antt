@@ -1,6 +1,6 @@
 use Rattle.std.proofs.Common.{◌≡◌, ◌≤◌, sym, ap, subst, length, Some}
 use Rattle.std.specs.Map.{lookup}
-use Rattle.viewpoints.specs.Keys.{is_same_key}
+use Rattle.law_register.specs.Answer.PastKeys.{is_same_key}
 use Rattle.viewpoints.specs.Right.{IsLatest}
 use Rattle.viewpoints.proofs.Latest.{promoted_is_latest}
 use Rattle.viewpoints.proofs.past_tables.PastTables.renew.Goals as goal

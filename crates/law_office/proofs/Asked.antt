@@ -1,0 +1,45 @@
+-- What is kept of a work, where it is asked for.
+use Rattle.std.proofs.Common.{◌≡◌, ◌∙◌, ◌≤◌, sym, ap, refl, subst, ℕ, true, List, Option, Some, None, option_map, is_some, Result, Err}
+use Rattle.law_register.specs.declared.answer.answer.Answer.{Answer}
+use Rattle.law_register.specs.declared.answer.queries.QueryRule.{QueryRule}
+use Rattle.law_register.specs.declared.answer.queries.QueryRule.TheVariants.{UnknownWork}
+use Rattle.law_register.specs.declared.answer.question.Question.{Question}
+use Rattle.law_register.specs.declared.answer.question.Reading.{Reading}
+use Rattle.law_register.specs.declared.register.entry.Entry.{Entry}
+use Rattle.law_register.specs.declared.register.known.Known.{Known}
+use Rattle.law_register.specs.Answer.Asking.{answer_at, answer_by, known_for}
+use Rattle.law_register.specs.Register.KnownNext.{at_viewpoint, bare, known_now}
+use Rattle.law_register.specs.Register.LawList.{front}
+use Rattle.law_register.specs.Register.Verdicts.{is_legal}
+use Rattle.law_register.proofs.WhenEnacted.{enacted_bare, known_ahead}
+use Rattle.version_cache.specs.Tables.{IsRight}
+use Rattle.version_cache.specs.Works.{IsForIf, WorkValue, table_in}
+
+pub is_known : (known : Option Known) (kept : WorkValue) → IsForIf known kept → true ≡ is_some known
+is_known None kept for = absurd for
+is_known (Some known) kept for = refl
+
+pub in_reading : (known : Option Known) (kept : WorkValue) (reading : Reading) → IsForIf known kept → (table_in reading kept).reading ≡ reading
+in_reading None kept reading for = absurd for
+in_reading (Some known) kept reading for = for.tables.readings reading
+
+pub right_in : (found : Option Known) (kept : WorkValue) (reading : Reading) → IsForIf found kept → (known : Known) → found ≡ Some known
+    → IsRight known (table_in reading kept)
+right_in None kept reading for known is = absurd for
+right_in (Some other) kept reading for known is =
+    let same : other ≡ known = cc in subst (λ (k : Known). IsRight k (table_in reading kept)) same (for.tables.right reading)
+
+-- a work that is not known at the front is not known ahead of it, nor was it enacted
+unknown_for : (es : List Entry) (w : List ℕ) (v : ℕ) (version : Option ℕ) → is_legal es ≡ true → known_now es w ≡ None → front es ≤ v
+    → known_for es w v version ≡ None
+unknown_for es w v None legal unknown ahead = enacted_bare es w legal ∙ ap (option_map bare) unknown
+unknown_for es w v (Some day) legal unknown ahead = known_ahead es w v ahead ∙ ap (option_map (at_viewpoint v)) unknown
+
+pub unknown_answer : (es : List Entry) (q : Question) (work : List ℕ) → is_legal es ≡ true → known_now es q.work ≡ None → front es ≤ q.viewpoint
+    → work ≡ q.work → answer_at es q ≡ Err (UnknownWork work)
+unfolding answer_at
+unknown_answer es q work legal unknown ahead named =
+    ap (answer_by q) (unknown_for es q.work q.viewpoint q.version legal unknown ahead) ∙ ap refused (sym named)
+  where
+    refused : List ℕ → Result Answer QueryRule
+    refused w = Err (UnknownWork w)

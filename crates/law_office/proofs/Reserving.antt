@@ -1,0 +1,30 @@
+-- A book in which room was made is right still.
+use Rattle.std.proofs.Common.{◌≡◌, ◌∙◌, ◌≤◌, sym, subst, ℕ, List, Option, None, Ok, IfSome, option_map, length}
+use Rattle.std.specs.List.{All}
+use Rattle.std.specs.Map.{lookup}
+use Rattle.std.specs.Str.{bytes_eq}
+use Rattle.law_register.specs.declared.desk.fault_mark.FaultMark.{FaultMark}
+use Rattle.law_register.specs.declared.register.entry.Entry.{Entry}
+use Rattle.law_register.specs.Register.KnownNext.{known_now}
+use Rattle.version_cache.specs.declared.work_tables.WorkTables.{WorkTables}
+use Rattle.version_cache.specs.Seen.{work_view}
+use Rattle.viewpoints.specs.Right as viewpoints
+use Rattle.law_office.specs.Offices.{IsPendingOn, IsRight}
+use Rattle.law_office.specs.Opening.{opened, spellings}
+use Rattle.law_office.specs.Tables.{Matches, kept_in, table_on}
+use Rattle.law_office.specs.declared.book.Book.{Book}
+use Rattle.law_office.specs.declared.book.Pending.{Pending}
+
+pub reserved : (old new : Book) → IsRight old → new.register.entries ≡ old.register.entries → new.tables.entries ≡ old.tables.entries
+    → new.marks ≡ old.marks → new.past ≡ old.past → new.pending ≡ old.pending → old.pending ≡ None → IsRight new
+reserved old new right entries tables marks past pending none = record {
+  opens = subst (λ (es : List Entry). opened (spellings es) ≡ Ok es) (sym entries) right.opens;
+  pending = subst (λ (p : Option Pending). IfSome p (IsPendingOn new.register new.tables)) (sym (pending ∙ none)) tt;
+  marks = subst (λ ms. All (λ (mark : FaultMark). mark.entries ≤ length new.register.entries) ms.items) (sym marks)
+      (subst (λ (es : List Entry). All (λ (mark : FaultMark). mark.entries ≤ length es) old.marks.items) (sym entries) right.marks);
+  tables = λ w.
+      subst (λ (es : List (List ℕ × WorkTables)). Matches (known_now new.register.entries w) (option_map work_view (lookup (bytes_eq w) es))) (sym tables)
+      (subst (λ (es : List Entry). Matches (known_now es w) (kept_in old.tables w)) (sym entries) (right.tables w));
+  past = subst (λ p. viewpoints.IsRight table_on new.register.entries p) (sym past)
+      (subst (λ (es : List Entry). viewpoints.IsRight table_on es old.past) (sym entries) right.past);
+}

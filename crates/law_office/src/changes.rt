@@ -1,0 +1,244 @@
+//! Changes: what an entry that is accepted makes of what is kept of works. They are made before the keeper is asked.
+
+ghost use Rattle.std.specs.Prelude.{◌≡◌, ◌+◌, ◌<◌, ◌≤◌, [], ◌∷◌, ◌++◌, true, None, Some, IfOk, option_map, vec_capacity, vec_len};
+ghost use Rattle.law_register.specs.declared.law.command.Command.TheVariants as commands;
+ghost use Rattle.law_register.specs.Answer.Renewing.{entry_cost};
+ghost use Rattle.law_register.specs.Answer.Touched as touching;
+ghost use Rattle.law_register.specs.Register.Indexes as acts;
+ghost use Rattle.law_register.specs.Register.KnownNext.{known_now};
+ghost use Rattle.law_register.specs.Register.LawList.{law_of};
+ghost use Rattle.law_register.specs.Register.Verdicts.{is_accepted, verdict};
+ghost use Rattle.version_cache.specs.Seen.{work_revision_view, work_view};
+ghost use Rattle.version_cache.specs.Works.{AreRevisionsOf, IsForIf, renewed};
+ghost use Rattle.law_office.specs.Tables.{AreChangesOf, AreTablesOf, kept_in};
+
+use crate::book::{Changes, KeptWorks};
+use desk_base::{Day, Memory, Steps};
+use frbr_names::WorkName;
+use law_register::laws::entries_are_legal;
+use law_register::replay_laws::bare_acts_stay;
+use law_register::{Act, Command, Entry, Reading, Register, known_after, known_enacted};
+use replay_core::{FromEnacted, touched_days, work_entered};
+use std::alloc::Global;
+use std::sync::ledger::Ledger;
+use version_cache::{WorkRevision, WorkTables};
+
+// The act that a command enacts.
+fn act_of(command: &Command) -> Option<&Act>
+    ensures { option_map (λ act. act.now) result ≡ acts.act_of command.now }
+{
+    match command {
+        Command::Enact { act } => Some(act),
+        _ => None,
+    }
+}
+
+// The touched day of a work among these, if it is one of them.
+fn day_among(touched: &[(WorkName, Day)], work: &WorkName) -> Option<Day>
+    ensures { result ≡ touching.day_among touched.now work.now }
+{
+    for (other, day) in touched {
+        if other == work {
+            return Some(*day);
+        }
+    }
+    None
+}
+
+fn no_changes(alloc: Global) -> Changes
+    ensures enacted { result.enacted ≡ None }
+    ensures revised { result.revised.items ≡ [] }
+{
+    Changes {
+        enacted: None,
+        revised: Vec::new(alloc),
+    }
+}
+
+fn with_enacted(alloc: Global, work: WorkName, kept: WorkTables) -> Changes
+    ensures enacted { result.enacted ≡ Some (work, kept) }
+    ensures revised { result.revised.items ≡ [] }
+{
+    Changes {
+        enacted: Some((work, kept)),
+        revised: Vec::new(alloc),
+    }
+}
+
+// The one revision, in room that was made for it.
+fn with_revised(
+    mut revised: Vec<(WorkName, WorkRevision)>,
+    work: WorkName,
+    revision: WorkRevision,
+) -> Changes
+    requires room { vec_len revised < vec_capacity revised }
+    requires none { revised.items ≡ [] }
+    ensures enacted { result.enacted ≡ None }
+    ensures revised { result.revised.items ≡ (work, revision) ∷ [] }
+{
+    revised.push_reserved((work, revision));
+    Changes {
+        enacted: None,
+        revised,
+    }
+}
+
+// What is to be kept of a work that an entry enacts: its act, which nothing modifies yet, so that it takes no step.
+fn make_enacted<L: Ledger>(
+    alloc: Global,
+    register: &Register,
+    entry: &Entry,
+    act: &Act,
+    steps: &mut Steps<L>,
+) -> Result<WorkTables, Memory>
+    requires enacts { entry.now.command ≡ commands.Enact act.now }
+    requires accepted { is_accepted entry.now.law (verdict register.now.entries entry.now.drafter
+        entry.now.request entry.now.command) ≡ true }
+    ensures right { IfOk result (λ made.
+        IsForIf (known_now (register.now.entries ++ entry.now ∷ []) act.now.work) (work_view made)) }
+    ensures steps { steps.new ≤ steps.old }
+{
+    entries_are_legal(register);
+    let known = known_enacted(alloc, register, entry, act)?;
+    bare_acts_stay(&known, Reading::Force);
+    WorkTables::make(alloc, &FromEnacted, known, steps)
+}
+
+// The changes of an entry that enacts a work.
+fn enacting<L: Ledger>(
+    alloc: Global,
+    register: &Register,
+    _tables: &KeptWorks,
+    entry: &Entry,
+    act: &Act,
+    steps: &mut Steps<L>,
+) -> Result<Changes, Memory>
+    requires right { AreTablesOf register.now.entries (kept_in _tables.now) }
+    requires enacts { entry.now.command ≡ commands.Enact act.now }
+    requires accepted { is_accepted entry.now.law (verdict register.now.entries entry.now.drafter
+        entry.now.request entry.now.command) ≡ true }
+    ensures changes { IfOk result (AreChangesOf register.now.entries entry.now (kept_in _tables.now)) }
+    ensures steps { steps.new ≤ steps.old }
+{
+    let work = act.work.copy()?;
+    let kept = make_enacted(alloc, register, entry, act, steps)?;
+    Ok(with_enacted(alloc, work, kept))
+}
+
+// The revision of what is kept of the work that an entry concerns, from the day that it touches there.
+fn revise<L: Ledger>(
+    alloc: Global,
+    register: &Register,
+    entry: &Entry,
+    work: &WorkName,
+    kept: &WorkTables,
+    steps: &mut Steps<L>,
+) -> Result<WorkRevision, Memory>
+    requires right { IsForIf (known_now register.now.entries work.now) (work_view kept.now) }
+    requires accepted { is_accepted entry.now.law (verdict register.now.entries entry.now.drafter
+        entry.now.request entry.now.command) ≡ true }
+    ensures fits { IfOk result
+        (λ revision. AreRevisionsOf (work_view kept.now) (work_revision_view revision).tables) }
+    ensures right { IfOk result (λ revision.
+        IsForIf (known_now (register.now.entries ++ entry.now ∷ []) work.now)
+        (renewed (work_view kept.now) (work_revision_view revision))) }
+    ensures steps { steps.new ≤ steps.old + entry_cost register.now.entries entry.now }
+{
+    entries_are_legal(register);
+    let touched = touched_days(alloc, register, entry)?;
+    let day = day_among(touched.as_slice(), work);
+    let known = known_after(alloc, register, kept.known(), entry)?;
+    kept.revise(alloc, &FromEnacted, known, day, steps)
+}
+
+// The changes of an entry that concerns a work of which this is kept.
+fn revising<L: Ledger>(
+    alloc: Global,
+    register: &Register,
+    _tables: &KeptWorks,
+    entry: &Entry,
+    work: &WorkName,
+    kept: &WorkTables,
+    steps: &mut Steps<L>,
+) -> Result<Changes, Memory>
+    requires right { AreTablesOf register.now.entries (kept_in _tables.now) }
+    requires kept { kept_in _tables.now work.now ≡ Some (work_view kept.now) }
+    requires concerned { touching.work_entered register.now.entries (law_of register.now.entries entry.now)
+        ≡ Some work.now }
+    requires accepted { is_accepted entry.now.law (verdict register.now.entries entry.now.drafter
+        entry.now.request entry.now.command) ≡ true }
+    ensures changes { IfOk result (AreChangesOf register.now.entries entry.now (kept_in _tables.now)) }
+    ensures steps { steps.new ≤ steps.old + entry_cost register.now.entries entry.now }
+{
+    let name = work.copy()?;
+    let revised = Vec::with_capacity(alloc, 1)?;
+    let revision = revise(alloc, register, entry, work, kept, steps)?;
+    Ok(with_revised(revised, name, revision))
+}
+
+// The changes of an entry that enacts nothing and concerns this work.
+fn changing_work<L: Ledger>(
+    alloc: Global,
+    register: &Register,
+    tables: &KeptWorks,
+    entry: &Entry,
+    work: &WorkName,
+    steps: &mut Steps<L>,
+) -> Result<Changes, Memory>
+    requires right { AreTablesOf register.now.entries (kept_in tables.now) }
+    requires other { acts.act_of entry.now.command ≡ None }
+    requires concerned { touching.work_entered register.now.entries (law_of register.now.entries entry.now)
+        ≡ Some work.now }
+    requires accepted { is_accepted entry.now.law (verdict register.now.entries entry.now.drafter
+        entry.now.request entry.now.command) ≡ true }
+    ensures changes { IfOk result (AreChangesOf register.now.entries entry.now (kept_in tables.now)) }
+    ensures steps { steps.new ≤ steps.old + entry_cost register.now.entries entry.now }
+{
+    entries_are_legal(register);
+    match tables.get(work) {
+        Some(kept) => revising(alloc, register, tables, entry, work, kept, steps),
+        None => Ok(no_changes(alloc)),
+    }
+}
+
+// The changes of an entry that enacts nothing.
+fn changing<L: Ledger>(
+    alloc: Global,
+    register: &Register,
+    tables: &KeptWorks,
+    entry: &Entry,
+    steps: &mut Steps<L>,
+) -> Result<Changes, Memory>
+    requires right { AreTablesOf register.now.entries (kept_in tables.now) }
+    requires other { acts.act_of entry.now.command ≡ None }
+    requires accepted { is_accepted entry.now.law (verdict register.now.entries entry.now.drafter
+        entry.now.request entry.now.command) ≡ true }
+    ensures changes { IfOk result (AreChangesOf register.now.entries entry.now (kept_in tables.now)) }
+    ensures steps { steps.new ≤ steps.old + entry_cost register.now.entries entry.now }
+{
+    match work_entered(register, entry) {
+        Some(work) => changing_work(alloc, register, tables, entry, work, steps),
+        None => Ok(no_changes(alloc)),
+    }
+}
+
+// The changes that an entry makes which is accepted behind those of a register: what is kept of the work that it enacts, or the
+// revision of what is kept of the work that it concerns. An entry of a draft makes none.
+pub(crate) fn make_changes<L: Ledger>(
+    alloc: Global,
+    register: &Register,
+    tables: &KeptWorks,
+    entry: &Entry,
+    steps: &mut Steps<L>,
+) -> Result<Changes, Memory>
+    requires right { AreTablesOf register.now.entries (kept_in tables.now) }
+    requires accepted { is_accepted entry.now.law (verdict register.now.entries entry.now.drafter
+        entry.now.request entry.now.command) ≡ true }
+    ensures changes { IfOk result (AreChangesOf register.now.entries entry.now (kept_in tables.now)) }
+    ensures steps { steps.new ≤ steps.old + entry_cost register.now.entries entry.now }
+{
+    match act_of(&entry.command) {
+        Some(act) => enacting(alloc, register, tables, entry, act, steps),
+        None => changing(alloc, register, tables, entry, steps),
+    }
+}

@@ -1,0 +1,59 @@
+//! Renewing: changes are made to what is kept. None of it takes memory.
+
+ghost use Rattle.std.specs.Prelude.{◌≡◌, ◌≤◌, List, ℕ, IfSome, map, option_map};
+ghost use Rattle.indexmap.specs.IndexMap.{spare};
+ghost use Rattle.version_cache.specs.Seen.{work_revision_view};
+ghost use Rattle.version_cache.specs.Works.{AreRevisionsOf};
+ghost use Rattle.law_office.specs.Tables.{Fit, applied, enacted_view, kept_in, revised_view, with_enacted, with_revision, with_revisions};
+
+use crate::book::{Changes, KeptWorks};
+use frbr_names::WorkName;
+use version_cache::{WorkRevision, WorkTables};
+
+// Takes the revision of a work.
+fn renew(tables: &mut KeptWorks, work: &WorkName, revision: WorkRevision)
+    requires { IfSome (kept_in tables.old work.now)
+        (λ kept. AreRevisionsOf kept (work_revision_view revision).tables) }
+    ensures kept { (w : List ℕ) → kept_in tables.new w
+        ≡ with_revision (work.now, work_revision_view revision) w (kept_in tables.old w) }
+    ensures spare { spare tables.new ≡ spare tables.old }
+{
+    match tables.get_mut(work) {
+        Some(kept) => kept.commit(revision),
+        None => drop(revision),
+    }
+}
+
+// Takes these revisions, one after another.
+fn renew_all(tables: &mut KeptWorks, revised: Vec<(WorkName, WorkRevision)>)
+    requires { Fit (map revised_view revised.items) (kept_in tables.old) }
+    ensures kept { (w : List ℕ) → kept_in tables.new w
+        ≡ with_revisions (map revised_view revised.items) w (kept_in tables.old w) }
+    ensures spare { spare tables.new ≡ spare tables.old }
+{
+    for (work, revision) in revised {
+        renew(tables, &work, revision);
+    }
+}
+
+// Keeps a work, if there is one.
+pub(crate) fn add(tables: &mut KeptWorks, enacted: Option<(WorkName, WorkTables)>)
+    requires { 1 ≤ spare tables.old }
+    ensures { (w : List ℕ) → kept_in tables.new w
+        ≡ with_enacted (option_map enacted_view enacted) w (kept_in tables.old w) }
+{
+    if let Some((work, kept)) = enacted {
+        let _ = tables.insert(work, kept);
+    }
+}
+
+// Makes changes, for which there is room.
+pub(crate) fn apply(tables: &mut KeptWorks, changes: Changes)
+    requires fit { Fit (map revised_view changes.revised.items) (kept_in tables.old) }
+    requires space { 1 ≤ spare tables.old }
+    ensures { (w : List ℕ) → kept_in tables.new w ≡ applied changes (kept_in tables.old) w }
+{
+    let Changes { enacted, revised } = changes;
+    renew_all(tables, revised);
+    add(tables, enacted);
+}

@@ -1,0 +1,202 @@
+//! Tabling: what is kept of each work is made once a keeper is opened.
+
+ghost use Rattle.std.specs.Prelude.{◌≡◌, ◌+◌, ◌≤◌, [], None, Ok, IfErr, IfOk, IsPermutation, OnOk, option_map};
+ghost use Rattle.std.specs.List.{sum_by};
+ghost use Rattle.std.specs.Map.{keys_of};
+ghost use Rattle.law_register.specs.Answer.Renewing.{costs_from, opening_cost};
+ghost use Rattle.law_register.specs.Register.KnownNext.{known_now};
+ghost use Rattle.law_register.specs.Register.LawList.{laws, works_enacted};
+ghost use Rattle.version_cache.specs.Seen.{work_view};
+ghost use Rattle.viewpoints.specs.Right as viewpoints;
+ghost use Rattle.law_keeper.specs.Keepers.{Keeps, LeavesOldOrSame};
+ghost use Rattle.law_register.specs.declared.desk.open_fault.OpenFault.TheVariants as fails;
+ghost use Rattle.law_office.specs.Offices.{HoldsBook, IsRight};
+ghost use Rattle.law_office.specs.Opening as spec;
+ghost use Rattle.law_office.specs.Opening.{HasOpenCause, Opens, StaysUnlessFailed, TakesRefused, cost_opened, opened_of};
+ghost use Rattle.law_office.specs.Tables.{AddsWork, AreTablesOf, Matches, kept_in, table_on};
+
+use crate::book::{Book, KeptWorks};
+use crate::opening::Opened;
+use crate::renewing::add;
+use desk_base::{Memory, Steps};
+use frbr_names::WorkName;
+use indexmap::IndexMap;
+use law_keeper::Keeper;
+use law_register::{OpenFault, Register, known_at};
+use replay_core::FromEnacted;
+use std::alloc::Global;
+use std::sync::ledger::Ledger;
+use version_cache::{Table, WorkTables};
+use viewpoints::PastTables;
+
+// What is to be kept of a work, if it is known.
+fn make_work<L: Ledger>(
+    alloc: Global,
+    register: &Register,
+    work: &WorkName,
+    steps: &mut Steps<L>,
+) -> Result<Option<WorkTables>, Memory>
+    ensures made { IfOk result
+        (λ made. Matches (known_now register.now.entries work.now) (option_map work_view made)) }
+    ensures steps { steps.new ≤ steps.old + costs_from (known_now register.now.entries work.now) 0 }
+{
+    match known_at(alloc, register, work, register.front())? {
+        Some(known) => Ok(Some(WorkTables::make(alloc, &FromEnacted, known, steps)?)),
+        None => Ok(None),
+    }
+}
+
+// Keeps a work, if it is known.
+fn add_work<L: Ledger>(
+    alloc: Global,
+    register: &Register,
+    work: &WorkName,
+    tables: &mut KeptWorks,
+    steps: &mut Steps<L>,
+) -> Result<(), Memory>
+    ensures kept { OnOk result (AddsWork (known_now register.now.entries work.now) work.now
+        (kept_in tables.old) (kept_in tables.new)) }
+    ensures steps { steps.new ≤ steps.old + costs_from (known_now register.now.entries work.now) 0 }
+{
+    tables.reserve(1)?;
+    let name = work.copy()?;
+    match make_work(alloc, register, work, steps)? {
+        Some(made) => add(tables, Some((name, made))),
+        None => drop(name),
+    }
+    Ok(())
+}
+
+// Makes what is kept of these works, which are all that are enacted.
+fn add_all<L: Ledger>(
+    alloc: Global,
+    register: &Register,
+    works: &[WorkName],
+    tables: &mut KeptWorks,
+    steps: &mut Steps<L>,
+) -> Result<(), Memory>
+    requires none { tables.old.entries ≡ [] }
+    requires all { IsPermutation (works_enacted (laws register.now.entries)) works.now }
+    ensures right { OnOk result (AreTablesOf register.now.entries (kept_in tables.new)) }
+    ensures steps { steps.new ≤ steps.old
+        + sum_by (λ work. costs_from (known_now register.now.entries work) 0) works.now }
+{
+    for work in works {
+        add_work(alloc, register, work, tables, steps)?;
+    }
+    Ok(())
+}
+
+// Makes what is kept of all works.
+#[tactic(auto, unfolding(law_register::specs::Answer::Renewing::opening_cost))]
+fn make_tables<L: Ledger>(
+    alloc: Global,
+    register: &Register,
+    steps: &mut Steps<L>,
+) -> Result<KeptWorks, Memory>
+    ensures right { IfOk result (λ tables. AreTablesOf register.now.entries (kept_in tables)) }
+    ensures steps { steps.new ≤ steps.old + opening_cost register.now.entries }
+{
+    let works = register.works(alloc)?;
+    let mut tables = IndexMap::new(alloc);
+    add_all(alloc, register, works.as_slice(), &mut tables, steps)?;
+    Ok(tables)
+}
+
+// What is kept of works and of past viewpoints.
+fn make_kept<L: Ledger>(
+    alloc: Global,
+    register: &Register,
+    steps: &mut Steps<L>,
+) -> Result<(KeptWorks, PastTables<Table>), Memory>
+    ensures tables { IfOk result (λ kept. AreTablesOf register.now.entries (kept_in kept.0)) }
+    ensures none { IfOk result (λ kept. kept.1 ≡ []) }
+    ensures past { IfOk result (λ kept. viewpoints.IsRight table_on register.now.entries kept.1) }
+    ensures steps { steps.new ≤ steps.old + opening_cost register.now.entries }
+{
+    let past = PastTables::new(alloc)?;
+    let tables = make_tables(alloc, register, steps)?;
+    Ok((tables, past))
+}
+
+// The same, where want of memory is told as an opening tells it.
+fn book_of<L: Ledger>(
+    alloc: Global,
+    opened: Opened,
+    steps: &mut Steps<L>,
+) -> Result<Book, OpenFault>
+    requires { spec.opened (spec.spellings opened.register.entries) ≡ Ok opened.register.entries }
+    ensures register { IfOk result (λ book. book.register ≡ opened.register) }
+    ensures end { IfOk result (λ book. book.end ≡ opened.end) }
+    ensures new { IfOk result (λ book. (book.pending ≡ None) × (book.marks.items ≡ []) × (keys_of book.past ≡ [])) }
+    ensures right { IfOk result IsRight }
+    ensures memory { IfErr result (λ fault. fault ≡ fails.Memory) }
+    ensures steps { steps.new ≤ steps.old + opening_cost opened.register.entries }
+{
+    match Book::with_tables(alloc, opened, steps) {
+        Ok(book) => Ok(book),
+        Err(Memory) => Err(OpenFault::Memory),
+    }
+}
+
+impl Book {
+    /// Opens a keeper, and the book of an office of what it has, as `Opened::open` and `with_tables` do.
+    pub fn open<K: Keeper, L: Ledger>(
+        alloc: Global,
+        keeper: &mut K,
+        steps: &mut Steps<L>,
+    ) -> Result<Book, OpenFault>
+        ensures opened { (K.holding keeper.old).tells
+            → Opens (λ book. book.register.entries) result (opened_of (K.holding keeper.old).list) }
+        ensures new { IfOk result (λ book. (book.pending ≡ None) × (book.marks.items ≡ []) × (keys_of book.past ≡ [])) }
+        ensures right { IfOk result IsRight }
+        ensures held { IfOk result (HoldsBook (K.holding keeper.new) (K.readiness keeper.new)) }
+        ensures same { Keeps (K.holding keeper.old) (K.holding keeper.new) }
+        ensures crash { LeavesOldOrSame (K.holding keeper.old) (K.holding keeper.new) }
+        ensures cause { HasOpenCause (K.faults keeper.old) (K.faults keeper.new) result }
+        ensures stays { (K.holding keeper.old).tells
+            → IfErr result (StaysUnlessFailed (K.faults keeper.old) (K.faults keeper.new)) }
+        ensures steps { (K.holding keeper.old).tells
+            → steps.new ≤ steps.old + cost_opened (opened_of (K.holding keeper.old).list) }
+        ensures steps_opened { IfOk result (λ book. steps.new ≤ steps.old + opening_cost book.register.entries) }
+        ensures steps_refused { IfErr result (TakesRefused (K.holding keeper.old) steps.old steps.new) }
+    {
+        match Opened::open(alloc, keeper) {
+            Ok(opened) => book_of(alloc, opened, steps),
+            Err(fault) => Err(fault),
+        }
+    }
+
+    /// The book of an office, of what was opened: with what is to be kept of each enacted work, which takes one step at most for each
+    /// id that is applied.
+    pub fn with_tables<L: Ledger>(
+        alloc: Global,
+        opened: Opened,
+        steps: &mut Steps<L>,
+    ) -> Result<Book, Memory>
+        requires { spec.opened (spec.spellings opened.register.entries) ≡ Ok opened.register.entries }
+        ensures register { IfOk result (λ book. book.register ≡ opened.register) }
+        ensures end { IfOk result (λ book. book.end ≡ opened.end) }
+        ensures new { IfOk result (λ book. (book.pending ≡ None) × (book.marks.items ≡ []) × (keys_of book.past ≡ [])) }
+        ensures right { IfOk result IsRight }
+        ensures steps { steps.new ≤ steps.old + opening_cost opened.register.entries }
+    {
+        match make_kept(alloc, &opened.register, steps) {
+            Ok((tables, past)) => {
+                let Opened { register, end } = opened;
+                Ok(Book {
+                    register,
+                    end,
+                    pending: None,
+                    marks: Vec::new(alloc),
+                    tables,
+                    past,
+                })
+            }
+            Err(Memory) => {
+                drop(opened);
+                Err(Memory)
+            }
+        }
+    }
+}
