@@ -174,9 +174,13 @@ def full():
     for k in range(7):  # and there are 65 ids
         yield accepted(record("ada", 70 + k, *[repeal()] * (64 if k else 63)), law(5 + k))
     yield broken(record("ada", 77, repeal()), 15, 512)
-    for k in range(12, 65_536):
-        yield accepted((restore if k % 2 else withdraw)("ada", 100 + k, "2.1"), law(k))
-    yield broken(withdraw("ada", 77, "2.1"), 16, 65_535)
+    for first in range(12, 65_536, 500):  # acts with 499 entries each: a command reads those of its act
+        uri = f"/akn/gb/act/2010-05-01/{first}"
+        yield accepted(enact("ada", 100 + first, uri), law(first))
+        yield accepted(record("ada", 101 + first, repeal("sec_3"), work=uri), law(first + 1))
+        for k in range(first + 2, min(first + 500, 65_536)):
+            yield accepted((restore if k % 2 else withdraw)("ada", 100 + k, f"{first + 1}.1"), law(k))
+    yield broken(withdraw("ada", 77, "65513.1"), 16, 65_535)
     yield get("/front"), response(200, '{"front":65535}')
 
 

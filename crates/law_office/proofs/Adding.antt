@@ -15,7 +15,7 @@ use Rattle.law_register.specs.Register.LawList.{acts_by, acts_of, front, laws, w
 use Rattle.law_register.proofs.Next.{now_known}
 use Rattle.law_register.proofs.Puts.{bytes_either, bytes_same}
 use Rattle.version_cache.specs.Works.{IsForIf, WorkValue}
-use Rattle.law_office.specs.Tables.{AddsWork, AreTablesOf, Kept, Matches, with_enacted}
+use Rattle.law_office.specs.Tables.{AddsWork, Kept, Matches, with_enacted}
 
 -- what is kept is right, and a work that is known and not kept is still to come
 pub record AreSoFar (es : List Entry) (kept : Kept) (rest : List (List ℕ)) : Type 0 where
@@ -67,14 +67,6 @@ none_so_far es kept works none all = record {
   left = λ w is. ⊎_elim (λ unknown. inl unknown)
       (λ named. inr (sym (list_any-IsPermutation (bytes_eq w) (works_enacted (laws es)) works all) ∙ named)) (known_enacted es w);
 }
-
--- none is to come
-pub all_right : (es : List Entry) (kept : Kept) → AreSoFar es kept [] → AreTablesOf es kept
-all_right es kept so w = by (kept w) refl (so.right w)
-  where
-    by : (k : Option WorkValue) → kept w ≡ k → IfSome k (IsForIf (known_now es w)) → Matches (known_now es w) k
-    by None is right = ⊎_elim (λ unknown. unknown) (λ named. absurd (let no : false ≡ true = named in cc)) (so.left w is)
-    by (Some k) is right = right
 
 -- one of them is kept, if it is known
 module _ (es : List Entry) (kept new : Kept) (work : List ℕ) (rest : List (List ℕ)) (so : AreSoFar es kept (work ∷ rest)) where

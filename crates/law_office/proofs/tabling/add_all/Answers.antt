@@ -8,7 +8,7 @@ use Rattle.law_register.specs.Answer.Renewing.{costs_from}
 use Rattle.law_register.specs.Register.KnownNext.{known_now}
 use Rattle.version_cache.specs.Seen.{work_view}
 use Rattle.law_office.specs.Tables.{kept_in}
-use Rattle.law_office.proofs.Adding.{AreSoFar, all_right, none_so_far, one_more}
+use Rattle.law_office.proofs.Adding.{AreSoFar, none_so_far, one_more}
 use Rattle.law_office.proofs.tabling.add_all.Goals as goal
 
 pub loop-work-init : goal.loop-work-init
