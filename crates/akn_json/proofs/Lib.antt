@@ -1,6 +1,7 @@
 pub mod Forms
 pub mod Tokens
 pub mod Widths
+pub mod Values
 pub mod Placing
 pub mod Places
 pub mod Spelling

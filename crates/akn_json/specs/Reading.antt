@@ -4,6 +4,7 @@ pub mod Fields
 pub mod Names
 pub mod Nodes
 pub mod Widths
+pub mod Values
 pub mod Acts
 pub mod Modifications
 pub mod Bytes

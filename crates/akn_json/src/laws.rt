@@ -2,8 +2,10 @@
 //! calls one.
 
 ghost use Rattle.std.specs.Prelude.{◌≡◌, [], Ok, Some, codes, true};
+ghost use Rattle.json.specs.Json.{Json};
 ghost use Rattle.serde_json.specs.Data.{Data};
 ghost use Rattle.serde_json.specs.Find.{get};
+ghost use Rattle.serde_json.specs.Read.{of_json};
 ghost use Rattle.serde_json.specs.Written.{compact_text};
 ghost use Rattle.law_register.specs.Law.Spellable.{can_spell_modification};
 ghost use Rattle.law_register.specs.Law.Spelling.{is_spelled_modification};
@@ -13,6 +15,7 @@ ghost use Rattle.akn_json.specs.Reading.Commands.{body_in};
 ghost use Rattle.akn_json.specs.Reading.Drafts as told;
 ghost use Rattle.akn_json.specs.Reading.Keys.{HasKeys};
 ghost use Rattle.akn_json.specs.Reading.Modifications.{modification_in};
+ghost use Rattle.akn_json.specs.Reading.Values.{data_of, is_in_range, kept};
 ghost use Rattle.akn_json.specs.declared.reading.bytes.TheConstants.{MAX_DOSSIER_BYTES};
 ghost use Rattle.akn_json.specs.declared.reading.tables.TheConstants as tables;
 
@@ -53,6 +56,12 @@ pub fn kept_draft_is_read(register: &Register, drafter: &Drafter, draft: &Draft)
     entries_can_be_spelled(register);
     printed_draft_is_read(draft);
 }
+
+/// A value that borrows its text means what serde_json makes of that text: nothing where a number is out of range, and else the
+/// value in which a number has its value and of a repeated key the last one counts.
+pub fn borrowed_is_read()
+    ensures { (j : Json) → of_json j ≡ kept (is_in_range j) (data_of j) }
+{}
 
 /// The most bytes of a dossier, and of a command.
 pub fn limit_is_this()

@@ -19,7 +19,9 @@ mod key;
 mod modifications;
 mod names;
 mod nodes;
+mod numbers;
 mod tables;
+mod values;
 mod word;
 
 use crate::{Asked, Dossier, ReadFail};
@@ -27,6 +29,7 @@ pub use bytes::MAX_DOSSIER_BYTES;
 use bytes::value_of;
 use commands::asked;
 use dossiers::dossier;
+use json::Scratch;
 pub(super) use modifications::{EditKind, EfficacyKind, ForceKind};
 use std::alloc::Global;
 pub(super) use word::Worded;
@@ -43,7 +46,8 @@ pub fn read_dossier(alloc: Global, bytes: &[u8]) -> Result<Dossier, ReadFail>
     ensures act { IfOk result (λ d. is_spelled_act d.act ≡ true) }
     ensures mods { IfOk result (λ d. are_spelled_modifications d.mods ≡ true) }
 {
-    let value = value_of(alloc, bytes)?;
+    let mut scratch = Scratch::new(alloc);
+    let value = value_of(alloc, bytes, &mut scratch)?;
     dossier(alloc, &value)
 }
 
@@ -57,6 +61,7 @@ pub fn read_command(alloc: Global, bytes: &[u8]) -> Result<Asked, ReadFail>
     ensures place { (fault : FormFault) → asked_of bytes.now ≡ Err fault → fault.place ≤ most_bytes }
     ensures spelled { IfOk result (λ a. is_well_spelled a.command ≡ true) }
 {
-    let value = value_of(alloc, bytes)?;
+    let mut scratch = Scratch::new(alloc);
+    let value = value_of(alloc, bytes, &mut scratch)?;
     asked(alloc, &value)
 }

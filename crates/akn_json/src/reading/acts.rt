@@ -3,13 +3,13 @@
 ghost use Rattle.std.specs.Prelude.{◌≡◌};
 ghost use Rattle.std.specs.List.{list_all};
 ghost use Rattle.std.specs.Char.{is_ascii_lowercase};
-ghost use Rattle.serde_json.specs.View.{view, items_view};
 ghost use Rattle.eid_paths.specs.declared.numbering.TheConstants.Numbering.{DEFAULT};
 ghost use Rattle.akn_json.specs.Reading.Reads.{Gives};
 ghost use Rattle.akn_json.specs.Reading.Fields.{each, optional_in};
 ghost use Rattle.akn_json.specs.Reading.Nodes.{element_in};
 ghost use Rattle.akn_json.specs.Reading.Acts as spec;
 ghost use Rattle.akn_json.specs.declared.reading.key.Key.TheVariants as key;
+ghost use Rattle.akn_json.specs.Reading.Values.{seen, items_seen};
 
 use super::faults::{BAD_NAME, DATE_DIFFERS};
 use super::fields::{day, field, items, members, period, text};
@@ -17,13 +17,14 @@ use super::key::Key;
 use super::names::work;
 use super::nodes::{element, nodes};
 use super::tables::ACT;
+use super::values::at_key;
 use crate::ReadFail;
 use act_tree::SharedNodes;
 use desk_base::Day;
 use eid_paths::{Element, Numbering};
 use frbr_names::WorkName;
+use json::Value;
 use law_register::Act;
-use serde_json::Value;
 use std::alloc::Global;
 
 fn are_lowercase(bytes: &[u8]) -> bool
@@ -35,7 +36,7 @@ fn are_lowercase(bytes: &[u8]) -> bool
 // The day of an act, which agrees with the date in the IRI of its work.
 #[tactic(auto, unfolding(crate::specs::Reading::Acts::act_day_in))]
 fn act_day(work: &WorkName, value: &Value) -> Result<Day, ReadFail>
-    ensures { Gives (λ d. d) result (spec.act_day_in work.now (view value.now)) }
+    ensures { Gives (λ d. d) result (spec.act_day_in work.now (seen value.now)) }
 {
     let day = day(value)?;
     if !work.date().agrees_with(day) {
@@ -47,7 +48,7 @@ fn act_day(work: &WorkName, value: &Value) -> Result<Day, ReadFail>
 // The language of an act: three lower-case letters.
 #[tactic(auto, unfolding(crate::specs::Reading::Acts::language_in, frbr_names::specs::Expressions::is_language))]
 fn language(value: &Value) -> Result<[u8; 3], ReadFail>
-    ensures { Gives (λ l. l) result (spec.language_in (view value.now)) }
+    ensures { Gives (λ l. l) result (spec.language_in (seen value.now)) }
 {
     let bytes = text(value)?.as_bytes();
     if bytes.len() != 3 || !are_lowercase(bytes) {
@@ -59,7 +60,7 @@ fn language(value: &Value) -> Result<[u8; 3], ReadFail>
 }
 
 fn each_element(alloc: Global, values: &[Value]) -> Result<Vec<Element>, ReadFail>
-    ensures { Gives (λ v. v.items) result (each element_in (items_view values.now)) }
+    ensures { Gives (λ v. v.items) result (each element_in (items_seen values.now)) }
 {
     let mut elements = Vec::new(alloc);
     for value in values {
@@ -71,9 +72,9 @@ fn each_element(alloc: Global, values: &[Value]) -> Result<Vec<Element>, ReadFai
 // The numbering of an act, and that of articles and sections where it states none.
 #[tactic(auto, unfolding(crate::specs::Reading::Fields::optional_in, crate::specs::Reading::Acts::numbering_in))]
 fn numbering(alloc: Global, value: &Value) -> Result<Numbering, ReadFail>
-    ensures { Gives (λ n. n) result (optional_in key.Numbering DEFAULT spec.numbering_in (view value.now)) }
+    ensures { Gives (λ n. n) result (optional_in key.Numbering DEFAULT spec.numbering_in (seen value.now)) }
 {
-    match value.get(Key::Numbering.name()) {
+    match at_key(value, Key::Numbering) {
         Some(found) => {
             let elements = each_element(alloc, items(found)?)?;
             Ok(Numbering::of(&elements))
@@ -85,7 +86,7 @@ fn numbering(alloc: Global, value: &Value) -> Result<Numbering, ReadFail>
 // An act as it was enacted.
 #[tactic(auto, unfolding(crate::specs::Reading::Acts::act_in))]
 pub(super) fn act(alloc: Global, value: &Value) -> Result<Act, ReadFail>
-    ensures { Gives (λ a. a) result (spec.act_in (view value.now)) }
+    ensures { Gives (λ a. a) result (spec.act_in (seen value.now)) }
 {
     members(value, &ACT)?;
     let work = work(alloc, field(value, Key::FrbrUri)?)?;

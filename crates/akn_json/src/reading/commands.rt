@@ -1,11 +1,11 @@
 //! The form of commands: who asks, under which number, and for what.
 
 ghost use Rattle.std.specs.Prelude.{◌≡◌, ◌≤◌};
-ghost use Rattle.serde_json.specs.View.{view};
 ghost use Rattle.akn_json.specs.Reading.Reads.{Gives};
 ghost use Rattle.akn_json.specs.Reading.Widths.{width};
 ghost use Rattle.akn_json.specs.Reading.Bytes.{most_bytes};
 ghost use Rattle.akn_json.specs.Reading.Commands as spec;
+ghost use Rattle.akn_json.specs.Reading.Values.{seen};
 
 use super::acts::act;
 use super::command_kinds::CommandKind;
@@ -18,13 +18,13 @@ use super::tables::{CORRECT, DRAFT_ADD, DRAFT_DROP, ENACT, FILE, RECORD, RESTORE
 use crate::{Asked, ReadFail};
 use desk_base::Id;
 use frbr_names::WorkName;
+use json::Value;
 use law_register::{Command, Drafter, Modification};
-use serde_json::Value;
 use std::alloc::Global;
 
 #[tactic(auto, unfolding(crate::specs::Reading::Commands::command_kind_in))]
 fn command_kind(value: &Value) -> Result<CommandKind, ReadFail>
-    ensures { Gives (λ k. k) result (spec.command_kind_in (view value.now)) }
+    ensures { Gives (λ k. k) result (spec.command_kind_in (seen value.now)) }
 {
     match CommandKind::from_word(text(field(value, Key::Command)?)?) {
         Some(kind) => Ok(kind),
@@ -33,7 +33,7 @@ fn command_kind(value: &Value) -> Result<CommandKind, ReadFail>
 }
 
 fn command_keys(kind: CommandKind, value: &Value) -> Result<(), ReadFail>
-    ensures { Gives (λ u. u) result (spec.command_keys_in kind (view value.now)) }
+    ensures { Gives (λ u. u) result (spec.command_keys_in kind (seen value.now)) }
 {
     match kind {
         CommandKind::Enact => members(value, &ENACT),
@@ -49,7 +49,7 @@ fn command_keys(kind: CommandKind, value: &Value) -> Result<(), ReadFail>
 
 #[tactic(auto, unfolding(crate::specs::Reading::Commands::drafter_in))]
 fn drafter(alloc: Global, value: &Value) -> Result<Drafter, ReadFail>
-    ensures { Gives (λ d. d) result (spec.drafter_in (view value.now)) }
+    ensures { Gives (λ d. d) result (spec.drafter_in (seen value.now)) }
 {
     match Drafter::from_text(alloc, text(field(value, Key::Drafter)?)?)? {
         Some(drafter) => Ok(drafter),
@@ -59,14 +59,14 @@ fn drafter(alloc: Global, value: &Value) -> Result<Drafter, ReadFail>
 
 #[tactic(auto, unfolding(crate::specs::Reading::Commands::asked_work_in))]
 fn asked_work(alloc: Global, value: &Value) -> Result<WorkName, ReadFail>
-    ensures { Gives (λ w. w) result (spec.asked_work_in (view value.now)) }
+    ensures { Gives (λ w. w) result (spec.asked_work_in (seen value.now)) }
 {
     work(alloc, field(value, Key::Work)?)
 }
 
 #[tactic(auto, unfolding(crate::specs::Reading::Commands::asked_id_in))]
 fn asked_id(value: &Value) -> Result<Id, ReadFail>
-    ensures { Gives (λ i. i) result (spec.asked_id_in (view value.now)) }
+    ensures { Gives (λ i. i) result (spec.asked_id_in (seen value.now)) }
 {
     id(field(value, Key::Id)?)
 }
@@ -74,14 +74,14 @@ fn asked_id(value: &Value) -> Result<Id, ReadFail>
 // The one modification that a command brings. A fault within it has the place 1.
 #[tactic(auto, unfolding(crate::specs::Reading::Commands::body_in))]
 fn body(alloc: Global, value: &Value) -> Result<Modification, ReadFail>
-    ensures { Gives (λ m. m) result (spec.body_in (view value.now)) }
+    ensures { Gives (λ m. m) result (spec.body_in (seen value.now)) }
 {
     modification_at(alloc, 1, field(value, Key::Modification)?)
 }
 
 #[tactic(auto, unfolding(crate::specs::Reading::Commands::count_in))]
 fn count(value: &Value, key: Key) -> Result<u32, ReadFail>
-    ensures { Gives (λ n. n) result (spec.count_in key (view value.now)) }
+    ensures { Gives (λ n. n) result (spec.count_in key (seen value.now)) }
 {
     let n = number(field(value, key)?, 4_294_967_295)?;
     Ok(n as u32)
@@ -89,7 +89,7 @@ fn count(value: &Value, key: Key) -> Result<u32, ReadFail>
 
 #[tactic(auto, unfolding(crate::specs::Reading::Commands::enact_in))]
 fn enact(alloc: Global, value: &Value) -> Result<Command, ReadFail>
-    ensures { Gives (λ c. c) result (spec.enact_in (view value.now)) }
+    ensures { Gives (λ c. c) result (spec.enact_in (seen value.now)) }
 {
     let act = act(alloc, field(value, Key::Act)?)?;
     Ok(Command::Enact { act })
@@ -97,8 +97,8 @@ fn enact(alloc: Global, value: &Value) -> Result<Command, ReadFail>
 
 #[tactic(auto, unfolding(crate::specs::Reading::Commands::record_in))]
 fn record(alloc: Global, value: &Value) -> Result<Command, ReadFail>
-    requires { width (view value.now) ≤ most_bytes }
-    ensures { Gives (λ c. c) result (spec.record_in (view value.now)) }
+    requires { width (seen value.now) ≤ most_bytes }
+    ensures { Gives (λ c. c) result (spec.record_in (seen value.now)) }
 {
     let work = asked_work(alloc, value)?;
     let mods = mods(alloc, field(value, Key::Modifications)?)?;
@@ -107,7 +107,7 @@ fn record(alloc: Global, value: &Value) -> Result<Command, ReadFail>
 
 #[tactic(auto, unfolding(crate::specs::Reading::Commands::correct_in))]
 fn correct(alloc: Global, value: &Value) -> Result<Command, ReadFail>
-    ensures { Gives (λ c. c) result (spec.correct_in (view value.now)) }
+    ensures { Gives (λ c. c) result (spec.correct_in (seen value.now)) }
 {
     let id = asked_id(value)?;
     let body = body(alloc, value)?;
@@ -116,7 +116,7 @@ fn correct(alloc: Global, value: &Value) -> Result<Command, ReadFail>
 
 #[tactic(auto, unfolding(crate::specs::Reading::Commands::draft_add_in))]
 fn draft_add(alloc: Global, value: &Value) -> Result<Command, ReadFail>
-    ensures { Gives (λ c. c) result (spec.draft_add_in (view value.now)) }
+    ensures { Gives (λ c. c) result (spec.draft_add_in (seen value.now)) }
 {
     let work = asked_work(alloc, value)?;
     let body = body(alloc, value)?;
@@ -125,7 +125,7 @@ fn draft_add(alloc: Global, value: &Value) -> Result<Command, ReadFail>
 
 #[tactic(auto, unfolding(crate::specs::Reading::Commands::file_in))]
 fn file(alloc: Global, value: &Value) -> Result<Command, ReadFail>
-    ensures { Gives (λ c. c) result (spec.file_in (view value.now)) }
+    ensures { Gives (λ c. c) result (spec.file_in (seen value.now)) }
 {
     let work = asked_work(alloc, value)?;
     let seen = count(value, Key::Seen)?;
@@ -134,8 +134,8 @@ fn file(alloc: Global, value: &Value) -> Result<Command, ReadFail>
 
 #[tactic(auto, unfolding(crate::specs::Reading::Commands::withdraw_in, crate::specs::Reading::Commands::restore_in, crate::specs::Reading::Commands::draft_drop_in))]
 fn command(alloc: Global, kind: CommandKind, value: &Value) -> Result<Command, ReadFail>
-    requires { width (view value.now) ≤ most_bytes }
-    ensures { Gives (λ c. c) result (spec.command_in kind (view value.now)) }
+    requires { width (seen value.now) ≤ most_bytes }
+    ensures { Gives (λ c. c) result (spec.command_in kind (seen value.now)) }
 {
     match kind {
         CommandKind::Enact => enact(alloc, value),
@@ -158,8 +158,8 @@ fn command(alloc: Global, kind: CommandKind, value: &Value) -> Result<Command, R
 /// A command with its drafter and its number. The word for its kind is judged before its keys.
 #[tactic(auto, unfolding(crate::specs::Reading::Commands::asked_in))]
 pub(super) fn asked(alloc: Global, value: &Value) -> Result<Asked, ReadFail>
-    requires { width (view value.now) ≤ most_bytes }
-    ensures { Gives (λ a. a) result (spec.asked_in (view value.now)) }
+    requires { width (seen value.now) ≤ most_bytes }
+    ensures { Gives (λ a. a) result (spec.asked_in (seen value.now)) }
 {
     let kind = command_kind(value)?;
     command_keys(kind, value)?;

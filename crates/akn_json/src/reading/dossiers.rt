@@ -1,11 +1,11 @@
 //! The form of a dossier: an act and its modifications.
 
 ghost use Rattle.std.specs.Prelude.{◌≡◌, ◌≤◌};
-ghost use Rattle.serde_json.specs.View.{view};
 ghost use Rattle.akn_json.specs.Reading.Bytes.{most_bytes};
 ghost use Rattle.akn_json.specs.Reading.Dossiers as spec;
 ghost use Rattle.akn_json.specs.Reading.Reads.{Gives};
 ghost use Rattle.akn_json.specs.Reading.Widths.{width};
+ghost use Rattle.akn_json.specs.Reading.Values.{seen};
 
 use super::acts::act;
 use super::fields::{field, members};
@@ -13,13 +13,13 @@ use super::key::Key;
 use super::modifications::mods;
 use super::tables::DOSSIER;
 use crate::{Dossier, ReadFail};
-use serde_json::Value;
+use json::Value;
 use std::alloc::Global;
 
 #[tactic(auto, unfolding(crate::specs::Reading::Dossiers::dossier_in))]
 pub(super) fn dossier(alloc: Global, value: &Value) -> Result<Dossier, ReadFail>
-    requires { width (view value.now) ≤ most_bytes }
-    ensures { Gives (λ d. d) result (spec.dossier_in (view value.now)) }
+    requires { width (seen value.now) ≤ most_bytes }
+    ensures { Gives (λ d. d) result (spec.dossier_in (seen value.now)) }
 {
     members(value, &DOSSIER)?;
     let act = act(alloc, field(value, Key::Act)?)?;

@@ -1,17 +1,20 @@
 //! The parts that forms are made of: objects of known keys, and the values that stand at them.
 
 ghost use Rattle.std.specs.Prelude.{◌≡◌, ◌≤◌, [], None, IfOk};
-ghost use Rattle.serde_json.specs.View.{view, members_view, items_view};
+ghost use Rattle.json.specs.Value.{members_view};
 ghost use Rattle.akn_json.specs.Reading.Reads.{Gives};
 ghost use Rattle.akn_json.specs.Reading.Fields as spec;
+ghost use Rattle.akn_json.specs.Reading.Values.{seen, items_seen, are_known};
 ghost use Rattle.akn_json.specs.declared.reading.key.Key.TheVariants.{Until};
 
 use super::faults::{BAD_DAY, BAD_NUMBER, WRONG_SHAPE};
 use super::key::Key;
+use super::numbers::number_in;
 use super::tables::{Keys, PERIOD};
+use super::values::{Members, as_array, as_object, as_str, at_key};
 use crate::ReadFail;
 use desk_base::{Day, Period, Text};
-use serde_json::{Map, Value};
+use json::Value;
 use std::alloc::Global;
 
 fn is_named(name: &str, keys: &[Key]) -> bool
@@ -20,11 +23,11 @@ fn is_named(name: &str, keys: &[Key]) -> bool
     keys.iter().any(|key| name == key.name())
 }
 
-fn has_only(object: &Map<String, Value>, required: &[Key], optional: &[Key]) -> bool
-    ensures { result ≡ spec.has_only required.now optional.now (members_view object.now.entries) }
+fn has_only(object: &Members, required: &[Key], optional: &[Key]) -> bool
+    ensures { result ≡ are_known required.now optional.now (members_view object.now.items) }
 {
     for (name, _) in object {
-        if !is_named(name.as_str(), required) && !is_named(name.as_str(), optional) {
+        if !is_named(name, required) && !is_named(name, optional) {
             return false;
         }
     }
@@ -32,16 +35,16 @@ fn has_only(object: &Map<String, Value>, required: &[Key], optional: &[Key]) -> 
 }
 
 fn has_all(value: &Value, keys: &[Key]) -> bool
-    ensures { result ≡ spec.has_all keys.now (view value.now) }
+    ensures { result ≡ spec.has_all keys.now (seen value.now) }
 {
-    keys.iter().all(|key| value.get(key.name()).is_some())
+    keys.iter().all(|key| at_key(value, *key).is_some())
 }
 
-#[tactic(auto, unfolding(crate::specs::Reading::Fields::has_members))]
+#[tactic(auto, using(crate::proofs::Values::has_only_known), unfolding(crate::specs::Reading::Fields::has_members))]
 fn has_members<const R: usize, const O: usize>(value: &Value, keys: &Keys<R, O>) -> bool
-    ensures { result ≡ spec.has_members keys.now (view value.now) }
+    ensures { result ≡ spec.has_members keys.now (seen value.now) }
 {
-    match value.as_object() {
+    match as_object(value) {
         Some(object) => {
             has_only(object, &keys.required, &keys.optional) && has_all(value, &keys.required)
         }
@@ -55,7 +58,7 @@ pub(super) fn members<const R: usize, const O: usize>(
     value: &Value,
     keys: &Keys<R, O>,
 ) -> Result<(), ReadFail>
-    ensures { Gives (λ u. u) result (spec.members_in keys.now (view value.now)) }
+    ensures { Gives (λ u. u) result (spec.members_in keys.now (seen value.now)) }
 {
     if !has_members(value, keys) {
         return Err(WRONG_SHAPE);
@@ -70,7 +73,7 @@ pub(super) fn either<const R: usize, const O: usize, const P: usize, const Q: us
     one: &Keys<R, O>,
     other: &Keys<P, Q>,
 ) -> Result<(), ReadFail>
-    ensures { Gives (λ u. u) result (spec.either_in one.now other.now (view value.now)) }
+    ensures { Gives (λ u. u) result (spec.either_in one.now other.now (seen value.now)) }
 {
     if !has_members(value, one) && !has_members(value, other) {
         return Err(WRONG_SHAPE);
@@ -79,47 +82,47 @@ pub(super) fn either<const R: usize, const O: usize, const P: usize, const Q: us
 }
 
 #[tactic(auto, unfolding(crate::specs::Reading::Fields::field_in))]
-pub(super) fn field(value: &Value, key: Key) -> Result<&Value, ReadFail>
-    ensures { Gives (λ v. view v.now) result (spec.field_in key (view value.now)) }
+pub(super) fn field<'v, 'a>(value: &'v Value<'a>, key: Key) -> Result<&'v Value<'a>, ReadFail>
+    ensures { Gives (λ v. seen v.now) result (spec.field_in key (seen value.now)) }
 {
-    match value.get(key.name()) {
+    match at_key(value, key) {
         Some(found) => Ok(found),
         None => Err(WRONG_SHAPE),
     }
 }
 
 #[tactic(auto, unfolding(crate::specs::Reading::Fields::items_in))]
-pub(super) fn items(value: &Value) -> Result<&Vec<Value>, ReadFail>
-    ensures { Gives (λ v. items_view v.now.items) result (spec.items_in (view value.now)) }
+pub(super) fn items<'v, 'a>(value: &'v Value<'a>) -> Result<&'v Vec<Value<'a>>, ReadFail>
+    ensures { Gives (λ v. items_seen v.now.items) result (spec.items_in (seen value.now)) }
 {
-    match value.as_array() {
+    match as_array(value) {
         Some(items) => Ok(items),
         None => Err(WRONG_SHAPE),
     }
 }
 
 #[tactic(auto, unfolding(crate::specs::Reading::Fields::text_in))]
-pub(super) fn text(value: &Value) -> Result<&str, ReadFail>
-    ensures { Gives (λ s. s.now) result (spec.text_in (view value.now)) }
+pub(super) fn text<'a>(value: &Value<'a>) -> Result<&'a str, ReadFail>
+    ensures { Gives (λ s. s.now) result (spec.text_in (seen value.now)) }
 {
-    match value.as_str() {
+    match as_str(value) {
         Some(text) => Ok(text),
         None => Err(WRONG_SHAPE),
     }
 }
 
 pub(super) fn copied(alloc: Global, value: &Value) -> Result<Text, ReadFail>
-    ensures { Gives (λ t. t) result (spec.text_in (view value.now)) }
+    ensures { Gives (λ t. t) result (spec.text_in (seen value.now)) }
 {
     Ok(Text::copy_of(alloc, text(value)?)?)
 }
 
 // The text at a key, and the empty one where the object has no such key.
 #[tactic(auto, unfolding(crate::specs::Reading::Fields::optional_in))]
-pub(super) fn optional_text(value: &Value, key: Key) -> Result<&str, ReadFail>
-    ensures { Gives (λ s. s.now) result (spec.optional_in key [] spec.text_in (view value.now)) }
+pub(super) fn optional_text<'a>(value: &Value<'a>, key: Key) -> Result<&'a str, ReadFail>
+    ensures { Gives (λ s. s.now) result (spec.optional_in key [] spec.text_in (seen value.now)) }
 {
-    match value.get(key.name()) {
+    match at_key(value, key) {
         Some(found) => text(found),
         None => Ok(""),
     }
@@ -127,21 +130,21 @@ pub(super) fn optional_text(value: &Value, key: Key) -> Result<&str, ReadFail>
 
 #[tactic(auto, unfolding(crate::specs::Reading::Fields::number_in))]
 pub(super) fn number(value: &Value, most: u64) -> Result<u64, ReadFail>
-    ensures value { Gives (λ n. n) result (spec.number_in most (view value.now)) }
+    ensures value { Gives (λ n. n) result (spec.number_in most (seen value.now)) }
     ensures bound { IfOk result (λ n. n ≤ most) }
 {
-    if !value.is_number() {
+    let Value::Number(text) = value else {
         return Err(WRONG_SHAPE);
-    }
-    match value.as_u64() {
-        Some(n) if n <= most => Ok(n),
+    };
+    match number_in(text) {
+        Some(Some(n)) if n <= most => Ok(n),
         _ => Err(BAD_NUMBER),
     }
 }
 
 #[tactic(auto, unfolding(crate::specs::Reading::Fields::day_in))]
 pub(super) fn day(value: &Value) -> Result<Day, ReadFail>
-    ensures { Gives (λ d. d) result (spec.day_in (view value.now)) }
+    ensures { Gives (λ d. d) result (spec.day_in (seen value.now)) }
 {
     match Day::from_text(text(value)?) {
         Some(day) => Ok(day),
@@ -152,9 +155,9 @@ pub(super) fn day(value: &Value) -> Result<Day, ReadFail>
 // The end of a period, where one is stated.
 #[tactic(auto, unfolding(crate::specs::Reading::Fields::optional_in, crate::specs::Reading::Fields::end_in))]
 fn end(value: &Value) -> Result<Option<Day>, ReadFail>
-    ensures { Gives (λ d. d) result (spec.optional_in Until None spec.end_in (view value.now)) }
+    ensures { Gives (λ d. d) result (spec.optional_in Until None spec.end_in (seen value.now)) }
 {
-    match value.get(Key::Until.name()) {
+    match at_key(value, Key::Until) {
         Some(found) => Ok(Some(day(found)?)),
         None => Ok(None),
     }
@@ -163,7 +166,7 @@ fn end(value: &Value) -> Result<Option<Day>, ReadFail>
 // A period, which may have no end.
 #[tactic(auto, unfolding(crate::specs::Reading::Fields::period_in))]
 pub(super) fn period(value: &Value) -> Result<Period, ReadFail>
-    ensures { Gives (λ p. p) result (spec.period_in (view value.now)) }
+    ensures { Gives (λ p. p) result (spec.period_in (seen value.now)) }
 {
     members(value, &PERIOD)?;
     let start = day(field(value, Key::From)?)?;

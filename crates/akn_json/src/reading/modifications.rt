@@ -1,11 +1,12 @@
 //! The form of modifications: each is a textual one, a change of force or one of efficacy.
 
 ghost use Rattle.std.specs.Prelude.{◌≡◌, ◌≤◌, length};
-ghost use Rattle.serde_json.specs.View.{view, items_view};
+ghost use Rattle.json.specs.Value.{members_view};
 ghost use Rattle.akn_json.specs.Reading.Reads.{Gives, inside};
 ghost use Rattle.akn_json.specs.Reading.Widths.{width};
 ghost use Rattle.akn_json.specs.Reading.Bytes.{most_bytes};
 ghost use Rattle.akn_json.specs.Reading.Modifications as spec;
+ghost use Rattle.akn_json.specs.Reading.Values.{seen, items_seen, are_named, has_one_key};
 
 mod bearing_kinds;
 mod bearings;
@@ -22,19 +23,20 @@ use super::fields::{field, items, members, period};
 use super::key::Key;
 use super::names::source;
 use super::tables::MODIFICATION;
+use super::values::{Members, as_object, at_key};
 use crate::{FormFault, ReadFail};
 pub(crate) use bearing_kinds::{EfficacyKind, ForceKind};
 use bearings::{efficacy, force};
 pub(crate) use edit_kinds::EditKind;
 use edits::{EditForm, kind};
+use json::Value;
 use law_register::{Modification, Mods};
-use serde_json::Value;
 use std::alloc::Global;
 
 // The form is chosen before the keys are judged, and the values are read in the order of its table.
 #[tactic(auto, unfolding(crate::specs::Reading::Modifications::textual_in))]
 fn textual(alloc: Global, value: &Value) -> Result<Modification, ReadFail>
-    ensures { Gives (λ m. m) result (spec.textual_in (view value.now)) }
+    ensures { Gives (λ m. m) result (spec.textual_in (seen value.now)) }
 {
     let form = EditForm::of(kind(value)?, value)?;
     form.keys(value)?;
@@ -48,14 +50,35 @@ fn textual(alloc: Global, value: &Value) -> Result<Modification, ReadFail>
     })
 }
 
-#[tactic(auto, using(crate::proofs::Forms::counted), unfolding(crate::specs::Reading::Modifications::single_in))]
-fn single(value: &Value) -> Result<(), ReadFail>
-    ensures { Gives (λ u. u) result (spec.single_in (view value.now)) }
+fn are_named(members: &Members, key: &str) -> bool
+    ensures { result ≡ are_named key.now (members_view members.now.items) }
 {
-    let Some(object) = value.as_object() else {
+    for (name, _) in members {
+        if *name != key {
+            return false;
+        }
+    }
+    true
+}
+
+// Members at one key alone: each takes the place of the one before it.
+fn has_one_key(members: &Members) -> bool
+    ensures { result ≡ has_one_key (members_view members.now.items) }
+{
+    match members.first() {
+        Some(first) => are_named(members, first.0),
+        None => false,
+    }
+}
+
+#[tactic(auto, using(crate::proofs::Values::single_seen), unfolding(crate::specs::Reading::Modifications::single_in))]
+fn single(value: &Value) -> Result<(), ReadFail>
+    ensures { Gives (λ u. u) result (spec.single_in (seen value.now)) }
+{
+    let Some(members) = as_object(value) else {
         return Err(WRONG_SHAPE);
     };
-    if object.len() != 1 {
+    if !has_one_key(members) {
         return Err(WRONG_SHAPE);
     }
     Ok(())
@@ -64,9 +87,9 @@ fn single(value: &Value) -> Result<(), ReadFail>
 // A change of force, where one is stated, and else a change of efficacy.
 #[tactic(auto, unfolding(crate::specs::Reading::Modifications::bearing_in))]
 fn bearing(alloc: Global, value: &Value) -> Result<Modification, ReadFail>
-    ensures { Gives (λ m. m) result (spec.bearing_in (view value.now)) }
+    ensures { Gives (λ m. m) result (spec.bearing_in (seen value.now)) }
 {
-    match value.get(Key::ForceMod.name()) {
+    match at_key(value, Key::ForceMod) {
         Some(found) => force(alloc, found),
         None => efficacy(alloc, field(value, Key::EfficacyMod)?),
     }
@@ -75,11 +98,11 @@ fn bearing(alloc: Global, value: &Value) -> Result<Modification, ReadFail>
 // A modification, named by its one key.
 #[tactic(auto, unfolding(crate::specs::Reading::Modifications::modification_in))]
 fn modification(alloc: Global, value: &Value) -> Result<Modification, ReadFail>
-    ensures { Gives (λ m. m) result (spec.modification_in (view value.now)) }
+    ensures { Gives (λ m. m) result (spec.modification_in (seen value.now)) }
 {
     members(value, &MODIFICATION)?;
     single(value)?;
-    match value.get(Key::TextualMod.name()) {
+    match at_key(value, Key::TextualMod) {
         Some(found) => textual(alloc, found),
         None => bearing(alloc, value),
     }
@@ -91,7 +114,7 @@ pub(super) fn modification_at(
     place: u32,
     value: &Value,
 ) -> Result<Modification, ReadFail>
-    ensures { Gives (λ m. m) result (inside place (spec.modification_in (view value.now))) }
+    ensures { Gives (λ m. m) result (inside place (spec.modification_in (seen value.now))) }
 {
     match modification(alloc, value) {
         Ok(modification) => Ok(modification),
@@ -106,7 +129,7 @@ pub(super) fn modification_at(
 // Each of these modifications, in order, with places from 1.
 fn each_modification(alloc: Global, values: &[Value]) -> Result<Mods, ReadFail>
     requires { length values.now ≤ most_bytes }
-    ensures { Gives (λ m. m) result (spec.each_from 1 (items_view values.now)) }
+    ensures { Gives (λ m. m) result (spec.each_from 1 (items_seen values.now)) }
 {
     let mut mods = Mods::new(alloc);
     for (index, value) in values.iter().enumerate() {
@@ -117,8 +140,8 @@ fn each_modification(alloc: Global, values: &[Value]) -> Result<Mods, ReadFail>
 
 #[tactic(auto, unfolding(crate::specs::Reading::Modifications::mods_in))]
 pub(super) fn mods(alloc: Global, value: &Value) -> Result<Mods, ReadFail>
-    requires { width (view value.now) ≤ most_bytes }
-    ensures { Gives (λ m. m) result (spec.mods_in (view value.now)) }
+    requires { width (seen value.now) ≤ most_bytes }
+    ensures { Gives (λ m. m) result (spec.mods_in (seen value.now)) }
 {
     each_modification(alloc, items(value)?)
 }

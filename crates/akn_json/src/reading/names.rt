@@ -1,9 +1,9 @@
 //! The names in forms: the IRIs of works and of expressions, the ids of modifications, and the work that modifies.
 
 ghost use Rattle.std.specs.Prelude.{◌≡◌};
-ghost use Rattle.serde_json.specs.View.{view};
 ghost use Rattle.akn_json.specs.Reading.Names as spec;
 ghost use Rattle.akn_json.specs.Reading.Reads.{Gives};
+ghost use Rattle.akn_json.specs.Reading.Values.{seen};
 
 use super::faults::BAD_NAME;
 use super::fields::{field, members, number, text};
@@ -12,13 +12,13 @@ use super::tables::SOURCE;
 use crate::ReadFail;
 use desk_base::{Id, Text};
 use frbr_names::{WorkName, is_expression, parse_work};
+use json::Value;
 use law_register::ModSource;
-use serde_json::Value;
 use std::alloc::Global;
 
 #[tactic(auto, unfolding(crate::specs::Reading::Names::work_in))]
 pub(super) fn work(alloc: Global, value: &Value) -> Result<WorkName, ReadFail>
-    ensures { Gives (λ w. w) result (spec.work_in (view value.now)) }
+    ensures { Gives (λ w. w) result (spec.work_in (seen value.now)) }
 {
     match parse_work(text(value)?) {
         Ok(iri) => Ok(WorkName::copy_of(alloc, &iri)?),
@@ -29,7 +29,7 @@ pub(super) fn work(alloc: Global, value: &Value) -> Result<WorkName, ReadFail>
 // The IRI of an expression, as it is spelled there.
 #[tactic(auto, unfolding(crate::specs::Reading::Names::expression_in))]
 pub(super) fn expression(alloc: Global, value: &Value) -> Result<Text, ReadFail>
-    ensures { Gives (λ t. t) result (spec.expression_in (view value.now)) }
+    ensures { Gives (λ t. t) result (spec.expression_in (seen value.now)) }
 {
     let iri = text(value)?;
     if !is_expression(iri) {
@@ -41,7 +41,7 @@ pub(super) fn expression(alloc: Global, value: &Value) -> Result<Text, ReadFail>
 /// The id of a modification, as a text.
 #[tactic(auto, unfolding(crate::specs::Reading::Names::id_in))]
 pub(super) fn id(value: &Value) -> Result<Id, ReadFail>
-    ensures { Gives (λ i. i) result (spec.id_in (view value.now)) }
+    ensures { Gives (λ i. i) result (spec.id_in (seen value.now)) }
 {
     match Id::from_text(text(value)?) {
         Some(id) => Ok(id),
@@ -52,7 +52,7 @@ pub(super) fn id(value: &Value) -> Result<Id, ReadFail>
 // The source of a modification: the IRI of the work that modifies, and a place within it.
 #[tactic(auto, unfolding(crate::specs::Reading::Names::source_in))]
 pub(super) fn source(alloc: Global, value: &Value) -> Result<ModSource, ReadFail>
-    ensures { Gives (λ s. s) result (spec.source_in (view value.now)) }
+    ensures { Gives (λ s. s) result (spec.source_in (seen value.now)) }
 {
     members(value, &SOURCE)?;
     let href = work(alloc, field(value, Key::Href)?)?;

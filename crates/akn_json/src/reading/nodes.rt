@@ -1,29 +1,30 @@
 //! The form of nodes: each says something of itself, and has the nodes beneath it as its children.
 
 ghost use Rattle.std.specs.Prelude.{◌≡◌, []};
-ghost use Rattle.serde_json.specs.View.{view, items_view, members_view};
 ghost use Rattle.act_tree.specs.Specs.{own_of, spec_view};
 ghost use Rattle.akn_json.specs.Reading.Reads.{Gives};
 ghost use Rattle.akn_json.specs.Reading.Fields.{each, optional_in};
 ghost use Rattle.akn_json.specs.Reading.Names.{expression_in};
 ghost use Rattle.akn_json.specs.Reading.Nodes as spec;
 ghost use Rattle.akn_json.specs.declared.reading.key.Key.TheVariants as key;
+ghost use Rattle.akn_json.specs.Reading.Values.{seen, items_seen};
 
 use super::faults::{BAD_ELEMENT, WRONG_SHAPE};
 use super::fields::{field, items, members, optional_text, text};
 use super::key::Key;
 use super::names::expression;
 use super::tables::NODE;
+use super::values::at_key;
 use crate::ReadFail;
 use act_tree::{NodeSpec, Nodes, Refs};
 use desk_base::Text;
 use eid_paths::{Element, Num};
-use serde_json::{Map, Value};
+use json::Value;
 use std::alloc::Global;
 
 #[tactic(auto, unfolding(crate::specs::Reading::Nodes::element_in))]
 pub(super) fn element(value: &Value) -> Result<Element, ReadFail>
-    ensures { Gives (λ e. e) result (spec.element_in (view value.now)) }
+    ensures { Gives (λ e. e) result (spec.element_in (seen value.now)) }
 {
     match Element::from_name(text(value)?) {
         Some(element) => Ok(element),
@@ -33,7 +34,7 @@ pub(super) fn element(value: &Value) -> Result<Element, ReadFail>
 
 #[tactic(auto, unfolding(crate::specs::Reading::Nodes::num_in))]
 pub(super) fn num(value: &Value) -> Result<Num, ReadFail>
-    ensures { Gives (λ n. n) result (spec.num_in (view value.now)) }
+    ensures { Gives (λ n. n) result (spec.num_in (seen value.now)) }
 {
     match Num::from_text(text(value)?) {
         Some(num) => Ok(num),
@@ -42,7 +43,7 @@ pub(super) fn num(value: &Value) -> Result<Num, ReadFail>
 }
 
 fn each_expression(alloc: Global, values: &[Value]) -> Result<Refs, ReadFail>
-    ensures { Gives (λ r. r) result (each expression_in (items_view values.now)) }
+    ensures { Gives (λ r. r) result (each expression_in (items_seen values.now)) }
 {
     let mut refs = Refs::new(alloc);
     for value in values {
@@ -54,9 +55,9 @@ fn each_expression(alloc: Global, values: &[Value]) -> Result<Refs, ReadFail>
 // The refs of a node, and none where it states none.
 #[tactic(auto, unfolding(crate::specs::Reading::Fields::optional_in, crate::specs::Reading::Nodes::refs_in))]
 fn refs(alloc: Global, value: &Value) -> Result<Refs, ReadFail>
-    ensures { Gives (λ r. r) result (optional_in key.Refs [] spec.refs_in (view value.now)) }
+    ensures { Gives (λ r. r) result (optional_in key.Refs [] spec.refs_in (seen value.now)) }
 {
-    match value.get(Key::Refs.name()) {
+    match at_key(value, Key::Refs) {
         Some(found) => each_expression(alloc, items(found)?),
         None => Ok(Refs::new(alloc)),
     }
@@ -65,7 +66,7 @@ fn refs(alloc: Global, value: &Value) -> Result<Refs, ReadFail>
 // What a node says of itself, with no nodes beneath it yet.
 #[tactic(auto, unfolding(crate::specs::Reading::Nodes::own_in))]
 fn own(alloc: Global, value: &Value) -> Result<NodeSpec, ReadFail>
-    ensures { Gives own_of result (spec.own_in (view value.now)) }
+    ensures { Gives own_of result (spec.own_in (seen value.now)) }
 {
     members(value, &NODE)?;
     let element = element(field(value, Key::Element)?)?;
@@ -85,35 +86,26 @@ fn own(alloc: Global, value: &Value) -> Result<NodeSpec, ReadFail>
 
 // A node, with all beneath it.
 #[cycle(node)]
+#[tactic(auto, using(crate::proofs::Values::node_parts))]
 fn node(alloc: Global, value: &Value) -> Result<NodeSpec, ReadFail>
-    ensures { Gives spec_view result (spec.node_in (view value.now)) }
+    ensures { Gives spec_view result (spec.node_in (seen value.now)) }
 {
-    match value {
-        Value::Object(object) => {
-            let mut node = own(alloc, value)?;
-            node.children = children(alloc, object)?;
+    let mut node = own(alloc, value)?;
+    match at_key(value, Key::Children) {
+        Some(found) => {
+            node.children = nodes(alloc, found)?;
             Ok(node)
         }
-        _ => Err(WRONG_SHAPE),
-    }
-}
-
-// The nodes beneath a node, and none where it states none.
-#[cycle(node)]
-fn children(alloc: Global, object: &Map<String, Value>) -> Result<Nodes, ReadFail>
-    ensures { Gives (λ n. n) result (spec.children_in (members_view object.now.entries)) }
-{
-    for (name, value) in object {
-        if name.as_str() == Key::Children.name() {
-            return nodes(alloc, value);
+        None => {
+            node.children = Nodes::new(alloc);
+            Ok(node)
         }
     }
-    Ok(Nodes::new(alloc))
 }
 
 #[cycle(node)]
 pub(super) fn nodes(alloc: Global, value: &Value) -> Result<Nodes, ReadFail>
-    ensures { Gives (λ n. n) result (spec.nodes_in (view value.now)) }
+    ensures { Gives (λ n. n) result (spec.nodes_in (seen value.now)) }
 {
     match value {
         Value::Array(values) => each_node(alloc, values),
@@ -123,7 +115,7 @@ pub(super) fn nodes(alloc: Global, value: &Value) -> Result<Nodes, ReadFail>
 
 #[cycle(node)]
 fn each_node(alloc: Global, values: &Vec<Value>) -> Result<Nodes, ReadFail>
-    ensures { Gives (λ n. n) result (spec.each_node (items_view values.now.items)) }
+    ensures { Gives (λ n. n) result (spec.each_node (items_seen values.now.items)) }
 {
     let mut nodes = Nodes::new(alloc);
     for value in values {

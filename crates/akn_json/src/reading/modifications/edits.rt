@@ -1,10 +1,10 @@
 //! The forms of textual modifications: each has its keys and its values.
 
 ghost use Rattle.std.specs.Prelude.{◌≡◌};
-ghost use Rattle.serde_json.specs.View.{view};
 ghost use Rattle.akn_json.specs.Reading.Reads.{Gives};
 ghost use Rattle.akn_json.specs.Reading.Modifications.EditKinds as spec;
 ghost use Rattle.akn_json.specs.Reading.Modifications.Edits.{edit_in, keys_in};
+ghost use Rattle.akn_json.specs.Reading.Values.{seen};
 
 use super::edit_kinds::EditKind;
 use super::insertions::{insert_nodes, insert_text};
@@ -19,7 +19,7 @@ use crate::reading::tables::{
     INSERTION_AT_AN_END, INSERTION_BESIDE_A_TEXT, INSERTION_OF_NODES, JOIN, RENUMBERING, REPEAL,
     SPLIT_AT_A_CHILD, SPLIT_AT_A_TEXT, SUBSTITUTION_OF_NODES, SUBSTITUTION_OF_TEXT,
 };
-use serde_json::Value;
+use json::Value;
 use std::alloc::Global;
 use textual_mods::TextualMod;
 
@@ -45,7 +45,7 @@ pub(super) enum EditForm {
 
 #[tactic(auto, unfolding(crate::specs::Reading::Modifications::EditKinds::kind_in))]
 pub(super) fn kind(value: &Value) -> Result<EditKind, ReadFail>
-    ensures { Gives (λ k. k) result (spec.kind_in (view value.now)) }
+    ensures { Gives (λ k. k) result (spec.kind_in (seen value.now)) }
 {
     match EditKind::from_word(text(field(value, Key::Type)?)?) {
         Some(kind) => Ok(kind),
@@ -55,7 +55,7 @@ pub(super) fn kind(value: &Value) -> Result<EditKind, ReadFail>
 
 // A list brings nodes, and a text brings a text.
 fn payload_of(value: &Value) -> Result<Payload, ReadFail>
-    ensures { Gives (λ p. p) result (spec.payload_of (view value.now)) }
+    ensures { Gives (λ p. p) result (spec.payload_of (seen value.now)) }
 {
     match value {
         Value::Array(_) => Ok(Payload::Nodes),
@@ -67,7 +67,7 @@ fn payload_of(value: &Value) -> Result<Payload, ReadFail>
 // What a substitution or an insertion brings.
 #[tactic(auto, unfolding(crate::specs::Reading::Modifications::EditKinds::payload_in))]
 fn read_payload(value: &Value) -> Result<Payload, ReadFail>
-    ensures { Gives (λ p. p) result (spec.payload_in (view value.now)) }
+    ensures { Gives (λ p. p) result (spec.payload_in (seen value.now)) }
 {
     payload_of(field(value, Key::New)?)
 }
@@ -94,7 +94,7 @@ impl EditForm {
     /// The form that the kind of a textual modification, and what it brings, choose.
     #[tactic(auto, unfolding(crate::specs::Reading::Modifications::EditKinds::form_in))]
     pub(super) fn of(kind: EditKind, value: &Value) -> Result<EditForm, ReadFail>
-        ensures { Gives (λ f. f) result (spec.form_in kind (view value.now)) }
+        ensures { Gives (λ f. f) result (spec.form_in kind (seen value.now)) }
     {
         match kind {
             EditKind::Repeal => Ok(EditForm::Repeal),
@@ -108,7 +108,7 @@ impl EditForm {
 
     /// That an object has the members of the form.
     pub(super) fn keys(self, value: &Value) -> Result<(), ReadFail>
-        ensures { Gives (λ u. u) result (keys_in self (view value.now)) }
+        ensures { Gives (λ u. u) result (keys_in self (seen value.now)) }
     {
         match self {
             EditForm::Repeal => members(value, &REPEAL),
@@ -124,7 +124,7 @@ impl EditForm {
 
     /// The edit that the values of an object say.
     pub(super) fn edit(self, alloc: Global, value: &Value) -> Result<TextualMod, ReadFail>
-        ensures { Gives (λ e. e) result (edit_in self (view value.now)) }
+        ensures { Gives (λ e. e) result (edit_in self (seen value.now)) }
     {
         match self {
             EditForm::Repeal => repeal(alloc, value),

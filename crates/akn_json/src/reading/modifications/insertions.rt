@@ -1,9 +1,9 @@
 //! The forms of insertions.
 
 ghost use Rattle.std.specs.Prelude.{◌≡◌};
-ghost use Rattle.serde_json.specs.View.{view};
 ghost use Rattle.akn_json.specs.Reading.Reads.{Gives};
 ghost use Rattle.akn_json.specs.Reading.Modifications.Insertions as spec;
+ghost use Rattle.akn_json.specs.Reading.Values.{seen};
 
 use super::targets::{read_anchor, spot};
 use crate::ReadFail;
@@ -11,14 +11,15 @@ use crate::reading::faults::WRONG_SHAPE;
 use crate::reading::fields::{copied, field};
 use crate::reading::key::Key;
 use crate::reading::nodes::nodes;
+use crate::reading::values::at_key;
 use act_tree::SharedNodes;
-use serde_json::Value;
+use json::Value;
 use std::alloc::Global;
 use textual_mods::{Pos, TextPos, TextualMod};
 
 #[tactic(auto, unfolding(crate::specs::Reading::Modifications::Insertions::insert_nodes_in))]
 pub(super) fn insert_nodes(alloc: Global, value: &Value) -> Result<TextualMod, ReadFail>
-    ensures { Gives (λ e. e) result (spec.insert_nodes_in (view value.now)) }
+    ensures { Gives (λ e. e) result (spec.insert_nodes_in (seen value.now)) }
 {
     let anchor = read_anchor(alloc, value)?;
     let new = SharedNodes::new(alloc, nodes(alloc, field(value, Key::New)?)?)?;
@@ -32,9 +33,9 @@ pub(super) fn insert_nodes(alloc: Global, value: &Value) -> Result<TextualMod, R
 // That no text is named beside which something is inserted.
 #[tactic(auto, unfolding(crate::specs::Reading::Modifications::Insertions::no_spot_in))]
 fn no_spot(value: &Value) -> Result<(), ReadFail>
-    ensures { Gives (λ u. u) result (spec.no_spot_in (view value.now)) }
+    ensures { Gives (λ u. u) result (spec.no_spot_in (seen value.now)) }
 {
-    if value.get(Key::Old.name()).is_some() {
+    if at_key(value, Key::Old).is_some() {
         return Err(WRONG_SHAPE);
     }
     Ok(())
@@ -43,7 +44,7 @@ fn no_spot(value: &Value) -> Result<(), ReadFail>
 // Where a text is inserted: only beside a text is one named.
 #[tactic(auto, unfolding(crate::specs::Reading::Modifications::Insertions::text_pos_in))]
 fn text_pos(alloc: Global, pos: Pos, value: &Value) -> Result<TextPos, ReadFail>
-    ensures { Gives (λ p. p) result (spec.text_pos_in pos (view value.now)) }
+    ensures { Gives (λ p. p) result (spec.text_pos_in pos (seen value.now)) }
 {
     match pos {
         Pos::Before => Ok(TextPos::Before(spot(alloc, value)?)),
@@ -61,7 +62,7 @@ fn text_pos(alloc: Global, pos: Pos, value: &Value) -> Result<TextPos, ReadFail>
 
 #[tactic(auto, unfolding(crate::specs::Reading::Modifications::Insertions::insert_text_in))]
 pub(super) fn insert_text(alloc: Global, value: &Value) -> Result<TextualMod, ReadFail>
-    ensures { Gives (λ e. e) result (spec.insert_text_in (view value.now)) }
+    ensures { Gives (λ e. e) result (spec.insert_text_in (seen value.now)) }
 {
     let anchor = read_anchor(alloc, value)?;
     let new = copied(alloc, field(value, Key::New)?)?;

@@ -1,9 +1,9 @@
 //! The forms of repeals and of substitutions.
 
 ghost use Rattle.std.specs.Prelude.{◌≡◌};
-ghost use Rattle.serde_json.specs.View.{view};
 ghost use Rattle.akn_json.specs.Reading.Reads.{Gives};
 ghost use Rattle.akn_json.specs.Reading.Modifications.Substitutions as spec;
+ghost use Rattle.akn_json.specs.Reading.Values.{seen};
 
 use super::targets::{destination, spot};
 use crate::ReadFail;
@@ -11,13 +11,13 @@ use crate::reading::fields::{copied, field};
 use crate::reading::key::Key;
 use crate::reading::nodes::nodes;
 use act_tree::SharedNodes;
-use serde_json::Value;
+use json::Value;
 use std::alloc::Global;
 use textual_mods::TextualMod;
 
 #[tactic(auto, unfolding(crate::specs::Reading::Modifications::Substitutions::repeal_in))]
 pub(super) fn repeal(alloc: Global, value: &Value) -> Result<TextualMod, ReadFail>
-    ensures { Gives (λ e. e) result (spec.repeal_in (view value.now)) }
+    ensures { Gives (λ e. e) result (spec.repeal_in (seen value.now)) }
 {
     let wid = destination(alloc, value)?;
     Ok(TextualMod::Repeal { wid })
@@ -25,7 +25,7 @@ pub(super) fn repeal(alloc: Global, value: &Value) -> Result<TextualMod, ReadFai
 
 #[tactic(auto, unfolding(crate::specs::Reading::Modifications::Substitutions::substitute_nodes_in))]
 pub(super) fn substitute_nodes(alloc: Global, value: &Value) -> Result<TextualMod, ReadFail>
-    ensures { Gives (λ e. e) result (spec.substitute_nodes_in (view value.now)) }
+    ensures { Gives (λ e. e) result (spec.substitute_nodes_in (seen value.now)) }
 {
     let wid = destination(alloc, value)?;
     let new = SharedNodes::new(alloc, nodes(alloc, field(value, Key::New)?)?)?;
@@ -35,7 +35,7 @@ pub(super) fn substitute_nodes(alloc: Global, value: &Value) -> Result<TextualMo
 // The substitution of one occurrence of a text in the content of a provision.
 #[tactic(auto, unfolding(crate::specs::Reading::Modifications::Substitutions::substitute_text_in))]
 pub(super) fn substitute_text(alloc: Global, value: &Value) -> Result<TextualMod, ReadFail>
-    ensures { Gives (λ e. e) result (spec.substitute_text_in (view value.now)) }
+    ensures { Gives (λ e. e) result (spec.substitute_text_in (seen value.now)) }
 {
     let wid = destination(alloc, value)?;
     let spot = spot(alloc, value)?;

@@ -1,17 +1,18 @@
 //! What an edit is directed at: a provision, a position at it, or a text in its content.
 
 ghost use Rattle.std.specs.Prelude.{◌≡◌};
-ghost use Rattle.serde_json.specs.View.{view};
 ghost use Rattle.akn_json.specs.Reading.Reads.{Gives};
 ghost use Rattle.akn_json.specs.Reading.Modifications.Targets as spec;
+ghost use Rattle.akn_json.specs.Reading.Values.{seen};
 
 use crate::ReadFail;
 use crate::reading::faults::UNKNOWN_WORD;
 use crate::reading::fields::{copied, field, members, number, text};
 use crate::reading::key::Key;
 use crate::reading::tables::{ANCHOR, PROVISION};
+use crate::reading::values::at_key;
 use desk_base::Text;
-use serde_json::Value;
+use json::Value;
 use std::alloc::Global;
 use textual_mods::{Pos, Spot};
 
@@ -26,7 +27,7 @@ pub(super) struct Anchor {
 
 #[tactic(auto, unfolding(crate::specs::Reading::Modifications::Targets::wid_in))]
 fn wid(alloc: Global, value: &Value) -> Result<Text, ReadFail>
-    ensures { Gives (λ w. w) result (spec.wid_in (view value.now)) }
+    ensures { Gives (λ w. w) result (spec.wid_in (seen value.now)) }
 {
     members(value, &PROVISION)?;
     copied(alloc, field(value, Key::Wid)?)
@@ -34,7 +35,7 @@ fn wid(alloc: Global, value: &Value) -> Result<Text, ReadFail>
 
 #[tactic(auto, unfolding(crate::specs::Reading::Modifications::Targets::destination_in))]
 pub(super) fn destination(alloc: Global, value: &Value) -> Result<Text, ReadFail>
-    ensures { Gives (λ w. w) result (spec.destination_in (view value.now)) }
+    ensures { Gives (λ w. w) result (spec.destination_in (seen value.now)) }
 {
     wid(alloc, field(value, Key::Destination)?)
 }
@@ -58,7 +59,7 @@ fn pos_named(word: &str) -> Option<Pos>
 
 #[tactic(auto, unfolding(crate::specs::Reading::Modifications::Targets::pos_in))]
 fn pos(value: &Value) -> Result<Pos, ReadFail>
-    ensures { Gives (λ p. p) result (spec.pos_in (view value.now)) }
+    ensures { Gives (λ p. p) result (spec.pos_in (seen value.now)) }
 {
     match pos_named(text(value)?) {
         Some(pos) => Ok(pos),
@@ -69,7 +70,7 @@ fn pos(value: &Value) -> Result<Pos, ReadFail>
 // A provision, and a position at it.
 #[tactic(auto, unfolding(crate::specs::Reading::Modifications::Targets::place_in))]
 fn place(alloc: Global, value: &Value) -> Result<Anchor, ReadFail>
-    ensures { Gives (λ a. a) result (spec.place_in (view value.now)) }
+    ensures { Gives (λ a. a) result (spec.place_in (seen value.now)) }
 {
     members(value, &ANCHOR)?;
     let wid = copied(alloc, field(value, Key::Wid)?)?;
@@ -80,7 +81,7 @@ fn place(alloc: Global, value: &Value) -> Result<Anchor, ReadFail>
 // Where an insertion stands.
 #[tactic(auto, unfolding(crate::specs::Reading::Modifications::Targets::anchor_in))]
 pub(super) fn read_anchor(alloc: Global, value: &Value) -> Result<Anchor, ReadFail>
-    ensures { Gives (λ a. a) result (spec.anchor_in (view value.now)) }
+    ensures { Gives (λ a. a) result (spec.anchor_in (seen value.now)) }
 {
     place(alloc, field(value, Key::Destination)?)
 }
@@ -88,9 +89,9 @@ pub(super) fn read_anchor(alloc: Global, value: &Value) -> Result<Anchor, ReadFa
 // Which occurrence of a text is meant, and the first where none is stated.
 #[tactic(auto, unfolding(crate::specs::Reading::Fields::optional_in, crate::specs::Reading::Modifications::Targets::occurrence_in))]
 fn occurrence(value: &Value) -> Result<u16, ReadFail>
-    ensures { Gives (λ n. n) result (spec.occurrence_in (view value.now)) }
+    ensures { Gives (λ n. n) result (spec.occurrence_in (seen value.now)) }
 {
-    match value.get(Key::Occurrence.name()) {
+    match at_key(value, Key::Occurrence) {
         Some(found) => Ok(number(found, 65_535)? as u16),
         None => Ok(1),
     }
@@ -98,7 +99,7 @@ fn occurrence(value: &Value) -> Result<u16, ReadFail>
 
 #[tactic(auto, unfolding(crate::specs::Reading::Modifications::Targets::spot_in))]
 pub(super) fn spot(alloc: Global, value: &Value) -> Result<Spot, ReadFail>
-    ensures { Gives (λ s. s) result (spec.spot_in (view value.now)) }
+    ensures { Gives (λ s. s) result (spec.spot_in (seen value.now)) }
 {
     let old = copied(alloc, field(value, Key::Old)?)?;
     let occurrence = occurrence(value)?;

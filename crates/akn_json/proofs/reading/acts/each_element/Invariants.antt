@@ -1,6 +1,6 @@
 -- What is read so far, with what the rest gives behind it, is what all give.
 use Rattle.std.proofs.Common.{◌≡◌, drop}
-use Rattle.serde_json.specs.View.{items_view}
+use Rattle.akn_json.specs.Reading.Values.{items_seen}
 use Rattle.akn_json.specs.Reading.Fields.{each}
 use Rattle.akn_json.specs.Reading.Nodes.{element_in}
 use Rattle.akn_json.proofs.Forms.{with_front}
@@ -8,4 +8,4 @@ use Rattle.akn_json.proofs.reading.acts.each_element.Given as goal
 
 abbrev pub invariant-loop-value : goal.invariant-loop-value
 invariant-loop-value l =
-    with_front l.elements.items (each element_in (items_view (drop l.value-index l.values))) ≡ each element_in (items_view l.values)
+    with_front l.elements.items (each element_in (items_seen (drop l.value-index l.values))) ≡ each element_in (items_seen l.values)

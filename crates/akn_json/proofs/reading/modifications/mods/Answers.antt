@@ -1,8 +1,8 @@
 use Rattle.std.proofs.Common.{ap, arith, length}
-use Rattle.serde_json.proofs.Views.{items_len-items_view}
+use Rattle.akn_json.proofs.Values.{items_len_seen}
 use Rattle.akn_json.proofs.Widths.{items-width}
 use Rattle.akn_json.proofs.reading.modifications.mods.Goals as goal
 
 pub each_modification-requires : goal.each_modification-requires
 each_modification-requires c =
-    omega (arith, items-width _ _ _ c.requires c.in_ok-items.ensures, items_len-items_view c.in_ok-items.field-0.now.items, ap length c.deref.ensures.value)
+    omega (arith, items-width _ _ _ c.requires c.in_ok-items.ensures, items_len_seen c.in_ok-items.field-0.now.items, ap length c.deref.ensures.value)
