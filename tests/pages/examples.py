@@ -86,6 +86,6 @@ def filters():
         checks.skip("the filters of docs/REFUSALS.md", "jq is not installed")
         return
     for shown in FILTER.findall(read("docs", "REFUSALS.md").decode()):
-        words = shown.replace("\\|", "|").replace("K - 1", "0").replace("n - 2", "0")
+        words = shown.replace("K - 1", "0").replace("n - 2", "0")
         done = subprocess.run(["jq", words, os.path.join(TOP, "examples", "edits.json")], capture_output=True, timeout=60)
         check(f"the filter {shown[:60]}", (done.returncode, done.stderr), (0, b""))
