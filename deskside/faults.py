@@ -1,4 +1,4 @@
-"""All faults of a dossier, where the desk tells the first: those of its form, and the rules that its commands break (docs/FORMS.md)."""
+"""All faults of a dossier, where the desk tells the first: those of its form, and the rules that its commands break (docs/REFUSALS.md)."""
 import calendar
 import re
 

@@ -63,7 +63,7 @@ def days_named(value):
     return found
 
 
-# What the desk says of a question that it refuses, and of a form (docs/PROTOCOL.md, docs/FORMS.md).
+# What the desk says of a question that it refuses, and of a form (docs/PROTOCOL.md, docs/REFUSALS.md).
 QUESTIONS = {
     "UnknownWork": "no act {} is known", "ViewpointAhead": "no more than {} entries of the law are known", "NotYetEnacted": "the act is of {}, and before that day it has no text",
     "OtherLanguage": "the text is in the language {}", "UnknownPortion": "no provision of the text has the eId {}",

@@ -1,6 +1,6 @@
 """Sessions of a desk over a keeper that fails: lines that `desk_trial` is given, each with the line that it is to write, and the two lines
-that it writes at the end: what is kept, and what an opening says of it. What is expected is reckoned here from docs/DESK.md and
-docs/ENTRY.md: what a fault leaves, and what the next command makes of it.
+that it writes at the end: what is kept, and what an opening says of it. What is expected is reckoned here from docs/DESK.md,
+docs/REFUSALS.md and docs/ENTRY.md: what a fault leaves, and what the next command makes of it.
 
 The keeper counts its calls from 1. To open it with no payload takes two, of which the second finds that there is none; so the k-th append
 is call k + 2, where none has failed before. Each payload that it is given at first takes two more.
