@@ -79,14 +79,6 @@ module _ (text : List ℕ) where
   pub read_beyond : (j : json.Json) → json.value max_depth (tokens text) ≡ Some (j, []) → is_in_range j ≡ false → read text ≡ None
   read_beyond j is beyond = ap whole is ∙ of_json-kept j ∙ ap (λ t. kept t (data_of j)) beyond
 
-  -- one with more behind a value, too
-  pub read_longer : (j : json.Json) (t : Token) (ts : List Token) → json.value max_depth (tokens text) ≡ Some (j, t ∷ ts) → read text ≡ None
-  read_longer j t ts is = ap whole is
-
-  -- and one that no value begins
-  pub read_nothing : json.value max_depth (tokens text) ≡ None → read text ≡ None
-  read_nothing is = ap whole is
-
 -- ---- a member that is looked for
 
 same_bytes : (k l : List ℕ) → bytes_eq k l ≡ true → k ≡ l
@@ -156,14 +148,6 @@ pub found_seen : (k : List ℕ) (v : Value Global) (r : Option (Bor (Value Globa
 found_seen k v r is = seen_ref r ∙ ap (option_map data_of) is ∙ sym (get_data k (value_view v))
 
 -- ---- the other parts
-
-pub as_str-data : (j : json.Json) → as_str (data_of j) ≡ borrowed.as_str j
-as_str-data json.null = refl
-as_str-data (json.boolean b) = refl
-as_str-data (json.number s) = refl
-as_str-data (json.string s) = refl
-as_str-data (json.array js) = refl
-as_str-data (json.object ms) = refl
 
 -- the items of a list are seen one by one
 pub items_data-seen : (vs : List (Value Global)) → items_data (view.items_view vs) ≡ items_seen vs
