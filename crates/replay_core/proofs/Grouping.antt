@@ -1,5 +1,5 @@
 -- What a group that is put back does to the groups of all things.
-use Rattle.std.proofs.Common.{◌≡◌, ◌∙◌, sym, ap, ℕ, Bool, true, false, cond, List, [], ◌∷◌, Option, Some, refl, arith}
+use Rattle.std.proofs.Common.{◌≡◌, ◌∙◌, sym, ap, ℕ, Bool, true, false, cond, List, [], ◌∷◌, length, Option, Some, None, refl, arith}
 use Rattle.std.proofs.lemmas.Bool.Decides.{nat_tests}
 use Rattle.std.proofs.lemmas.Slice.Eq.{bytes_eq-Decides}
 use Rattle.desk_base.specs.declared.id.Id.{Id}
@@ -27,6 +27,11 @@ eq_is (to.Modification a) (to.Modification b) = refl
 eq_is (to.Modification a) (to.Node w) = refl
 eq_is (to.Node w) (to.Modification b) = refl
 eq_is (to.Node v) (to.Node w) = refl
+
+-- where there are no groups, none is found
+pub none_found : {X : Type 0} (es : List (Destination × X)) (thing : Destination) → length es ≡ 0 → lookup (is_same thing) es ≡ None
+none_found [] thing h = refl
+none_found (e ∷ es) thing h = absurd (omega (arith, h))
 
 -- look-ups by tests that agree
 pub looked_up : {K X : Type 0} (f g : K → Bool) → ((k : K) → f k ≡ g k) → (es : List (K × X)) → lookup f es ≡ lookup g es

@@ -3,3 +3,4 @@ mod Turning
 mod ShowingLaws
 mod NodesFound
 mod EidsOnce
+mod DueByDays

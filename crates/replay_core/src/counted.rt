@@ -242,20 +242,26 @@ pub fn gather(alloc: Global, mods: &[KnownMod], day: Day) -> Result<Groups, Memo
     Ok(groups)
 }
 
-/// The force modifications that are grouped under a thing.
+/// The force modifications that are grouped under a thing. Where there are no groups, nothing is hashed.
 pub fn forces<'a>(groups: &'a Groups, thing: &Destination) -> &'a [CountedForce]
     ensures { result.now ≡ forces_at groups.now thing.now }
 {
+    if groups.is_empty() {
+        return &[];
+    }
     match groups.get(thing) {
         Some(group) => group.forces.as_slice(),
         None => &[],
     }
 }
 
-/// The efficacy modifications that are grouped under a thing.
+/// The efficacy modifications that are grouped under a thing. Where there are no groups, nothing is hashed.
 pub fn efficacies<'a>(groups: &'a Groups, thing: &Destination) -> &'a [CountedEfficacy]
     ensures { result.now ≡ efficacies_at groups.now thing.now }
 {
+    if groups.is_empty() {
+        return &[];
+    }
     match groups.get(thing) {
         Some(group) => group.efficacies.as_slice(),
         None => &[],

@@ -3,6 +3,7 @@
 use crate::answering::{answer, answer_text, flag_at};
 use crate::breakpoints::breakpoints;
 use crate::order::order_at;
+use crate::orders::orders_at;
 use crate::replaying::replay;
 use act_tree::{NodeId, Tree};
 use desk_base::{Day, Memory, Steps};
@@ -23,6 +24,16 @@ impl Replayer for FromEnacted {
         day: Day,
     ) -> Result<Ids, Memory> {
         order_at(alloc, known, reading, day)
+    }
+
+    fn orders_at(
+        &self,
+        alloc: Global,
+        known: &Known,
+        reading: Reading,
+        days: &[Day],
+    ) -> Result<Vec<Ids>, Memory> {
+        orders_at(alloc, known, reading, days)
     }
 
     fn breakpoints(&self, alloc: Global, known: &Known) -> Result<Days, Memory> {

@@ -7,6 +7,7 @@ mod counted;
 mod from_enacted;
 mod on_day;
 mod order;
+mod orders;
 mod replaying;
 mod showing;
 mod touched;

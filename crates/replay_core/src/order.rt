@@ -17,7 +17,7 @@ fn source_day(source: &ModSource) -> Day
     source.href.day()
 }
 
-fn due_from(source: &ModSource, id: Id, start: Day) -> Result<Due, Memory>
+pub fn due_from(source: &ModSource, id: Id, start: Day) -> Result<Due, Memory>
     ensures { IfOk result (λ due. due ≡ spec.due_from source.now id start) }
 {
     Ok(Due {
@@ -66,7 +66,7 @@ fn due_if_live(on: &OnDay<'_>, known: &KnownMod) -> Result<Option<Due>, Memory>
     }
 }
 
-fn insert(dues: &mut BTreeSet<Due>, new: Option<Due>) -> Result<(), Memory>
+pub fn insert(dues: &mut BTreeSet<Due>, new: Option<Due>) -> Result<(), Memory>
     ensures { OnOk result (dues.new.keys ≡ spec.with_due dues.old.keys new) }
 {
     match new {
@@ -89,7 +89,7 @@ fn due_on(alloc: Global, on: &OnDay<'_>) -> Result<BTreeSet<Due>, Memory>
     Ok(dues)
 }
 
-fn ids_of(alloc: Global, dues: &BTreeSet<Due>) -> Result<Ids, Memory>
+pub fn ids_of(alloc: Global, dues: &BTreeSet<Due>) -> Result<Ids, Memory>
     ensures { IfOk result (λ ids. ids ≡ map (λ due. due.id) dues.now.keys) }
 {
     let mut ids = Ids::new(alloc);

@@ -1,7 +1,7 @@
--- What one row more makes of the rows so far, and of what the rest costs.
-use Rattle.std.proofs.Common.{◌≡◌, ◌∙◌, sym, ap, ℕ, ◌+◌, ◌≤◌, true, cond, nat_le, List, [], ◌∷◌, ◌++◌, append_assoc, arith}
+-- What one row more makes of the rows so far, of the orders that are left, and of what the rest costs.
+use Rattle.std.proofs.Common.{◌≡◌, ◌∙◌, sym, ap, ℕ, suc, ◌+◌, ◌-◌, ◌≤◌, ◌<◌, true, cond, nat_le, drop, get_or, length, map, List, [], ◌∷◌, ◌++◌, append_assoc, arith}
 use Rattle.std.proofs.lemmas.Bool.Decides.{nat_tests}
-use Rattle.std.proofs.lemmas.List.{map-append}
+use Rattle.std.proofs.lemmas.List.{drop_more, length-drop, length-map, map-append}
 use Rattle.desk_base.specs.declared.id.Id.{Id}
 use Rattle.law_register.specs.declared.answer.question.Reading.{Reading}
 use Rattle.law_register.specs.declared.register.known.Known.{Known}
@@ -15,6 +15,12 @@ use Rattle.version_cache.proofs.LastRow.{last_added}
 
 least : (d : ℕ) → nat_le 0 d ≡ true
 least d = grind (arith, nat_tests)
+
+-- the day whose order is the first of those that are left
+pub record NextDay (known : Known) (r : Reading) (days : List ℕ) (i : ℕ) (ids : List Id) : Type 0 where
+  pub day : ℕ
+  pub cut : drop i days ≡ day ∷ drop (i + 1) days
+  pub ordered : ids ≡ order known r day
 
 module _ (known : Known) (r : Reading) where
   -- the version that some ids make of the act as enacted
@@ -39,6 +45,29 @@ module _ (known : Known) (r : Reading) where
   last_step before rows row ids made =
       ap (last_version before) (map-append row_view rows (row ∷ [])) ∙ last_added before (rows_view rows) (row_view row) ∙ made
 
+  -- where the order of a day is left, so is the day
+  pub day_left : (days : List ℕ) (i : ℕ) (ids : List Id) (more : List (List Id)) → ids ∷ more ≡ map (order known r) (drop i days) → i < length days
+  day_left days i ids more left =
+      let same = ap length left ∙ length-map (drop i days) (order known r) ∙ length-drop i days in
+      within (length more) (length days) i same
+    where
+      within : (m n i : ℕ) → suc m ≡ n - i → i < n
+      within m n i h = omega arith
+
+  -- the first of the orders that are left is that of the day, and the others are those of the days behind it
+  pub orders_step : (ids : List Id) (more : List (List Id)) (day : ℕ) (rest left : List ℕ) → left ≡ day ∷ rest → ids ∷ more ≡ map (order known r) left
+      → (ids ≡ order known r day) × (more ≡ map (order known r) rest)
+  orders_step ids more day rest left cut orders =
+      let same : ids ∷ more ≡ order known r day ∷ map (order known r) rest = orders ∙ ap (map (order known r)) cut in
+      (ap (λ (os : List (List Id)). get_or os 0 ids) same, ap (λ (os : List (List Id)). drop 1 os) same)
+
+  pub next_day : (days : List ℕ) (i : ℕ) (ids : List Id) (more : List (List Id)) → ids ∷ more ≡ map (order known r) (drop i days) → NextDay known r days i ids
+  next_day days i ids more left =
+      let within : i < length days = day_left days i ids more left in
+      let day : ℕ = get_or days i 0 in
+      let cut : drop i days ≡ day ∷ drop (i + 1) days = drop_more days i 0 within in
+      record { day = day; cut = cut; ordered = (orders_step ids more day (drop (i + 1) days) (drop i days) cut left).0 }
+
   -- what the days to come cost is what this one does, and the rest
   next_cost : (before : List Id) (day : ℕ) (rest left : List ℕ) → left ≡ day ∷ rest
       → cost_after known r 0 before left ≡ ids_applied before (order known r day) + cost_after known r 0 (order known r day) rest
@@ -57,3 +86,11 @@ module _ (known : Known) (r : Reading) where
     where
       fits : (old now one rest left total : ℕ) → left ≡ one + rest → old + left ≤ total → now ≤ old + one → now + rest ≤ total
       fits old now one rest left total is h k = omega arith
+
+  -- what was spent up to a row is no more than what all days cost
+  pub spent_by : (days : List ℕ) (i : ℕ) (before ids : List Id) (more : List (List Id)) (old now total : ℕ) → ids ∷ more ≡ map (order known r) (drop i days)
+      → old + cost_after known r 0 before (drop i days) ≤ total → now ≤ old + ids_applied before ids → now ≤ total
+  spent_by days i before ids more old now total left so_far step =
+      let next : NextDay known r days i ids = next_day days i ids more left in
+      let all = cost_step before ids next.day (drop (i + 1) days) (drop i days) old now total next.cut next.ordered so_far step in
+      omega (arith, all)

@@ -133,10 +133,11 @@ pub fn add_rows<P: Replayer, L: Ledger>(
     ensures steps { steps.new
         ≤ steps.old + costs.cost_after course.now.known.now course.now.reading 0 start.entry.ids days.now }
 {
+    let orders = replayer.orders_at(alloc, course.known, course.reading, days)?;
     let Start { ids, last } = start;
     let mut before = ids;
-    for day in days {
-        let ids = replayer.order_at(alloc, course.known, course.reading, *day)?;
+    let mut index = 0;
+    for ids in orders {
         let so_far = last_kept(last, rows.as_slice());
         let kept = version_after(
             alloc,
@@ -146,8 +147,12 @@ pub fn add_rows<P: Replayer, L: Ledger>(
             ids.as_slice(),
             steps,
         )?;
-        rows.push(Row { day: *day, kept })?;
+        rows.push(Row {
+            day: days[index],
+            kept,
+        })?;
         before = ids;
+        index += 1;
     }
     Ok(())
 }

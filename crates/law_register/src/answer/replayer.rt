@@ -1,6 +1,6 @@
 //! Replayer: who replays what is known of a work. Its clauses are the definitions of this crate.
 
-ghost use Rattle.std.specs.Prelude.{◌≡◌, ◌+◌, ◌-◌, ◌^◌, ◌≤◌, true, min, length, IfOk, IfErr, OnOk, Some};
+ghost use Rattle.std.specs.Prelude.{◌≡◌, ◌+◌, ◌-◌, ◌^◌, ◌≤◌, true, map, min, length, IfOk, IfErr, OnOk, Some};
 ghost use Rattle.act_tree.specs.Seen.{tree_view, has_node, provision_at};
 ghost use Rattle.law_register.specs.Answer.Answers as answers;
 ghost use Rattle.law_register.specs.Answer.Breakpoints as days;
@@ -27,6 +27,17 @@ pub trait Replayer {
         day: Day,
     ) -> Result<Ids, Memory>
         ensures { IfOk result (λ ids. ids ≡ order known.now reading day) };
+
+    /// The orders of these days, one for each, found in one walk over the days.
+    fn orders_at(
+        &self,
+        alloc: Global,
+        known: &Known,
+        reading: Reading,
+        days: &[Day],
+    ) -> Result<Vec<Ids>, Memory>
+        requires { IsSound known.now }
+        ensures { IfOk result (λ orders. orders.items ≡ map (order known.now reading) days.now) };
 
     /// The days on which the text may change, ascending, each once.
     fn breakpoints(&self, alloc: Global, known: &Known) -> Result<Days, Memory>
