@@ -8,6 +8,7 @@ import time
 import checks
 from checks import TRIAL, check
 from clients.messages import at_most
+from models import failing_disks
 from models.journal_calls import MAGIC, NEW, journal, on_memory, on_noted, word_of
 
 # The entry of docs/ENTRY.md, of 28 bytes: its journal has 42.
@@ -26,8 +27,8 @@ OPEN_NONE = f"{SETTLE} len read:0 cut:0 write:0 sync"
 APPEND_AB = "write:9 sync write:8 sync"
 
 
-def memory(data, failing="-", capacity=1_000, changes=100):
-    return f"memory {failing} {capacity} {changes} {word_of(data)}"
+def memory(data, failing="-", capacity=1_000, changes=100, effect=""):
+    return f"memory {failing} {capacity} {changes} {word_of(data)} {effect}".rstrip()
 
 
 def opened_as(data, want, *lines):
@@ -53,6 +54,23 @@ def in_memory():
         yield f"call {call} fails", (memory(ONE, call), [
             ("open", "opened"), (APPEND, "failed"), (APPEND, "not ready"), ("record 8", "not ready"), ("open", "opened"),
             ("bytes", f"bytes {left.hex()}")])
+    # A call that fails did a part of it all the same, or all: what is read then, what was last synced, and what an opening makes of it.
+    frame = TWO[42:]
+    for call, effect, seen, synced, left in [
+            (4, 0, ONE, ONE, ONE), (4, 5, ONE + frame[:5], ONE, ONE), (4, 1000, ONE + frame, ONE, ONE), (4, "whole", ONE + frame, ONE, ONE),
+            (5, 5, ONE + frame, ONE, ONE), (5, "whole", ONE + frame, ONE + frame, ONE), (6, 0, ONE + frame, ONE + frame, ONE),
+            (6, 1, TWO, ONE + frame, TWO), (6, "whole", TWO, ONE + frame, TWO), (7, 5, TWO, ONE + frame, TWO), (7, "whole", TWO, TWO, TWO)]:
+        yield f"call {call} fails and did {effect}", (memory(ONE, call, effect=effect), [
+            ("open", "opened"), (APPEND, "failed"), ("bytes", f"bytes {seen.hex()}"), ("image 0", f"image {synced.hex()}"), ("record 8", "not ready"),
+            ("open", "opened"), ("bytes", f"bytes {left.hex()}")])
+    # Opening syncs, asks for the length, reads, and cuts off what stands behind the closed gate; a write past the capacity brings what fits.
+    for effect, left in [(2, 3), ("whole", 0), (9, 0)]:
+        yield f"a cut that fails and did {effect}", (memory(ONE + b"\xff" * 5, 4, effect=effect), [
+            ("open", "failed"), ("bytes", f"bytes {(ONE + bytes([255]) * left).hex()}"), ("open", "opened"), ("bytes", f"bytes {ONE.hex()}")])
+    for effect, room in [("whole", 20), (30, 20), (3, 3)]:
+        yield f"a write past the capacity that did {effect}", (memory(ONE, "-", 20, effect=effect), [
+            ("open", "opened"), (APPEND, "failed"), ("bytes", f"bytes {(ONE + frame[:room]).hex()}"), ("open", "opened"),
+            ("bytes", f"bytes {ONE.hex()}")])
     # An append writes 34 bytes and makes four changes; opening syncs.
     for capacity, changes, want in [(33, 5, "failed"), (34, 4, "failed"), (34, 5, "appended 74")]:
         yield f"room for {capacity} bytes and {changes} changes", (memory(ONE, "-", capacity, changes), [("open", "opened"), (APPEND, want)])
@@ -137,8 +155,8 @@ def reckoned():
         lines = [draw.choice(["open", "open", "append 61", "append 6263", f"record {draw.choice([8, 9, 14, 15, 41])}", "bytes",
                               f"image {draw.randrange(256)}"]) for _ in range(draw.randrange(2, 30))]
         begun = draw.choice([b"", NEW, AB, ONE + b"\xff", ONE[:-1], MAGIC + draw.randbytes(5)])
-        failing = sorted(draw.sample(range(1, 40), draw.randrange(4)))
-        yield f"random session {number} of seed {seed}", on_memory(["open", *lines], begun, failing, 200, draw.randrange(50))
+        failing, effect = sorted(draw.sample(range(1, 40), draw.randrange(4))), draw.choice([None, 0, 1, 7, "whole"])
+        yield f"random session {number} of seed {seed}", on_memory(["open", *lines], begun, failing, 200, draw.randrange(50), effect)
 
 
 def given(lines):
@@ -159,9 +177,17 @@ def sessions():
     for rows in (in_memory, images, by_the_system, one_that_fails, reckoned):
         for name, session in rows():
             told(name, session)
-    for first in ("", "memory", "memory - 1", "memory x 1 1 -", "noted 1", "noted 0 9 0", "named .", "bare memory - 1 1 -", "open"):
+    for first in ("", "memory", "memory - 1", "memory x 1 1 -", "memory - 1 1 - some", "noted 1", "noted 0 9 0", "named .", "bare memory - 1 1 -", "open"):
         check(f"the first line {first}", given([first, "open"]), (0, ["no such line"]))
     check("no line", given([]), (0, []))
+
+
+def failing_in_turn():
+    """Each call of a disk fails, alone or with all behind it, and did nothing, a part or all of what it was asked: what is answered, and that
+    each image which a crash may leave has what was acknowledged."""
+    for name, first, lines, wrong in failing_disks.sessions():
+        told(name, (first, lines))
+        check(f"{name}: what a crash leaves", wrong[:3], [])
 
 
 def reads():

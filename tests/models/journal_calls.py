@@ -23,41 +23,82 @@ def journal(*payloads):
     return MAGIC + b"".join(b"\1" + framed(payload)[:-1] for payload in payloads) + b"\0"
 
 
+def payloads_of(data):
+    """The payloads of a file, as docs/JOURNAL.md has it. `Damaged`: it is no journal."""
+    if len(data) <= len(NEW):
+        return []
+    for place, (byte, wanted) in enumerate(zip(data, MAGIC)):
+        if byte != wanted:
+            raise Damaged(place, byte)
+    found, gate = [], len(MAGIC)
+    while data[gate] == 1:
+        size = int.from_bytes(data[gate + 1:gate + 5], "big")
+        if not 1 <= size <= 16_777_216 or gate + 5 + size >= len(data):
+            raise Damaged(gate + 1, None)
+        found.append(data[gate + 5:gate + 5 + size])
+        gate += 5 + size
+    return found
+
+
 class MemoryDisk:
     """Bytes, of which some were written since the last sync. The listed calls fail, counted from 1, and so does a change past so many, or a
-    write past the capacity; a call that fails does nothing."""
+    write past the capacity. A call that fails does nothing, or has an effect: so many bytes of it at most, or all ("whole")."""
 
-    def __init__(self, data, failing=(), capacity=1_000, changes=100):
+    def __init__(self, data, failing=(), capacity=1_000, changes=100, effect=None):
         self.bytes, self.synced, self.torn = bytes(data), bytes(data), set()
-        self.failing, self.capacity, self.changes, self.made = failing, capacity, changes, 0
+        self.failing, self.capacity, self.changes, self.made, self.effect = failing, capacity, changes, 0, effect
+        self.has_failed = False
 
     def count(self, changes=0, written=0):
+        """Counts a call, and says whether it succeeds."""
         self.made += 1
-        if self.made in self.failing or changes > self.changes or written > self.capacity:
+        is_done = self.made not in self.failing and changes <= self.changes and written <= self.capacity
+        self.has_failed |= not is_done
+        return is_done
+
+    def asked(self):
+        if not self.count():
             raise Failed
-        self.changes -= changes
-        self.capacity -= written
+
+    def part(self, is_done, count):
+        """How many bytes of a change are done, where any change is made."""
+        if not is_done and (self.effect is None or not self.changes):
+            raise Failed
+        self.changes -= 1
+        return count if is_done or self.effect == "whole" else min(self.effect, count)
+
+    def end(self, is_done):
+        if not is_done:
+            raise Failed
 
     def len(self):
-        self.count()
+        self.asked()
         return len(self.bytes)
 
     def read(self, place, count):
-        self.count()
+        self.asked()
         return self.bytes[place:place + count]
 
     def write(self, place, data):
-        self.count(1, len(data))
+        is_done = self.count(1, len(data))
+        data = data[:min(self.part(is_done, len(data)), self.capacity)]
+        self.capacity -= len(data)
         self.bytes = self.bytes[:place] + data + self.bytes[place + len(data):]
         self.torn |= set(range(place, place + len(data)))
+        self.end(is_done)
 
     def cut(self, length):
-        self.count(1)
-        self.bytes = self.bytes[:length]
+        is_done = self.count(1)
+        self.bytes = self.bytes[:max(length, len(self.bytes) - self.part(is_done, len(self.bytes)))]
+        self.end(is_done)
 
     def sync(self):
-        self.count(1)
+        is_done = self.count(1)
+        if not is_done and self.effect != "whole":
+            raise Failed
+        self.part(is_done, 0)
         self.synced, self.torn = self.bytes, set()
+        self.end(is_done)
 
     def image(self, pick):
         """What a crash may leave: the bytes as last synced, as a read gives them, or with each byte that waits turned into another."""
@@ -270,6 +311,8 @@ class Journal:
         word, _, rest = line.partition(" ")
         if word not in ("open", "append", "record"):
             return self.disk.shown(word, rest)
+        if rest == "-":
+            return "no payload"
         if word != "open" and not self.is_ready:
             return "not ready"
         try:
@@ -287,11 +330,16 @@ def word_of(data):
     return data.hex() or "-"
 
 
-def on_memory(lines, data, failing=(), capacity=1_000, changes=100):
-    """The first line of a journal on a disk in memory, and each of these lines with what is to be written of it."""
-    model = Journal(MemoryDisk(data, failing, capacity, changes))
+def in_words(data, failing, capacity, changes, effect):
+    """The first line of a disk in memory."""
     numbers = ",".join(str(number) for number in failing) or "-"
-    return f"memory {numbers} {capacity} {changes} {word_of(data)}", [(line, model.told(line)) for line in lines]
+    return f"memory {numbers} {capacity} {changes} {word_of(data)}" + ("" if effect is None else f" {effect}")
+
+
+def on_memory(lines, data, failing=(), capacity=1_000, changes=100, effect=None):
+    """The first line of a journal on a disk in memory, and each of these lines with what is to be written of it."""
+    model = Journal(MemoryDisk(data, failing, capacity, changes, effect))
+    return in_words(data, failing, capacity, changes, effect), [(line, model.told(line)) for line in lines]
 
 
 def on_noted(lines, data=b"", failing=0, piece=9):

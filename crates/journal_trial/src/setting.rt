@@ -3,7 +3,7 @@
 use crate::answers::bytes_of;
 use crate::noted_file::NotedFile;
 use desk_base::{Memory, decimal_number};
-use law_journal::MemoryDisk;
+use law_journal::{Effect, MemoryDisk};
 use std::alloc::Global;
 
 /// The most that a number of a setting is.
@@ -71,7 +71,7 @@ fn noted_of<'a>(alloc: Global, words: &str, is_bare: bool) -> Result<Option<Sett
     }
 }
 
-// The disk `FAILING CAPACITY CHANGES BYTES`.
+// The disk `FAILING CAPACITY CHANGES BYTES EFFECT`, where the effect may be missing.
 fn memory_of<'a>(alloc: Global, words: &str) -> Result<Option<Setting<'a>>, Memory> {
     let mut words = words.split(' ');
     let Some(failing) = numbers(alloc, words.next().unwrap_or(""))? else {
@@ -80,15 +80,23 @@ fn memory_of<'a>(alloc: Global, words: &str) -> Result<Option<Setting<'a>>, Memo
     let (Some(capacity), Some(changes)) = (number(words.next()), number(words.next())) else {
         return Ok(None);
     };
-    match bytes_of(alloc, words.next().unwrap_or(""))? {
-        Some(bytes) => Ok(Some(Setting::Memory(MemoryDisk::of(
-            alloc,
-            bytes,
-            capacity,
-            changes,
-            failing.as_slice(),
-        )?))),
-        None => Ok(None),
+    let bytes = bytes_of(alloc, words.next().unwrap_or(""))?;
+    match (bytes, effect_of(words.next())) {
+        (Some(bytes), Some(effect)) => {
+            let mut disk = MemoryDisk::of(alloc, bytes, capacity, changes, failing.as_slice())?;
+            disk.set_effect(effect);
+            Ok(Some(Setting::Memory(disk)))
+        }
+        _ => Ok(None),
+    }
+}
+
+// What a call that fails does: nothing, unless a word says how many bytes, or `whole`. `None`: it says neither.
+fn effect_of(word: Option<&str>) -> Option<Effect> {
+    match word {
+        None => Some(Effect::Nothing),
+        Some("whole") => Some(Effect::Whole),
+        Some(word) => Some(Effect::Front(decimal_number(word, MOST)? as usize)),
     }
 }
 

@@ -8,5 +8,6 @@ pub mod Lists
 pub mod Resting
 mod Alone
 mod MemorySteps
+mod PartlyDone
 mod Painting
 mod Histories

@@ -7,4 +7,5 @@ pub mod States
 pub mod Steps
 pub mod MemoryDisks
 pub mod MemoryLaws
+pub mod Effects
 pub mod Windows

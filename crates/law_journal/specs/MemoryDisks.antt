@@ -181,7 +181,7 @@ MayLeave h file = (known h).may_leave file
 abbrev pub change_fails : ℕ → CallPlan → HeldBytes → Bool
 change_fails n plan h = next_fails plan || (h.left == 0 || nat_lt h.room n)
 
--- what is held after a step, and as before after a failure
-abbrev pub Becomes : {T E : Type 0} → (HeldBytes → HeldBytes) → HeldBytes → HeldBytes → Result T E → Type 0
-Becomes step old new (Ok value) = new ≡ step old
-Becomes step old new (Err fault) = new ≡ old
+-- what is held after a call that succeeds, or that fails
+abbrev pub Becomes : {T E : Type 0} → (done failed : HeldBytes → HeldBytes) → HeldBytes → HeldBytes → Result T E → Type 0
+Becomes done failed old new (Ok value) = new ≡ done old
+Becomes done failed old new (Err fault) = new ≡ failed old

@@ -2,6 +2,7 @@
 #![tactic(auto)]
 
 mod disk;
+mod effect;
 mod file_disk;
 mod handle;
 mod history;
@@ -18,6 +19,7 @@ mod window;
 mod writing;
 
 pub use disk::Disk;
+pub use effect::Effect;
 pub use file_disk::FileDisk;
 pub use journal::{Journal, JournalRefused, frame};
 pub use memory_disk::MemoryDisk;

@@ -1,29 +1,34 @@
-//! MemoryDisk: a disk in memory. It keeps each change with the bytes from before it, and some of its calls fail.
+//! MemoryDisk: a disk in memory. It keeps each change with the bytes from before it, and some of its calls fail, with no
+//! effect, with a part of it, or with all.
 
-ghost use Rattle.std.specs.Prelude.{◌≡◌, ◌↔◌, ◌+◌, ◌^◌, ◌<◌, ◌≤◌, length, IfOk, IsErr, IsTrue, OnOk};
+ghost use Rattle.std.specs.Prelude.{◌≡◌, ◌↔◌, ◌+◌, ◌^◌, ◌<◌, ◌≤◌, length, IfOk, IsErr, IsTrue, OnErr, OnOk};
 ghost use Rattle.desk_base.specs.MemoryStreams.{after_call, next_fails};
 ghost use Rattle.desk_base.specs.Streams.{HasCause};
 ghost use Rattle.law_journal.specs.Disks.{Changes, Cut, CutsTo, Idles, IsLengthOf, IsSynced, Reads, Torn, Writes};
+ghost use Rattle.law_journal.specs.Effects.{cut_by, read_by, synced_by, written_by};
 ghost use Rattle.law_journal.specs.MemoryDisks as spec;
 ghost use Rattle.law_journal.specs.MemoryDisks.{Becomes, known};
+ghost use Rattle.law_journal.specs.declared.effect.Effect.TheVariants.{Nothing};
 
-use crate::Disk;
+use crate::effect::fill;
 use crate::history::History;
+use crate::{Disk, Effect};
 use desk_base::{Failed, FailingCalls, Memory, count_fault};
 use std::alloc::Global;
 
 /// A disk in memory, which takes all its memory when it is made. A write, a cut or a sync past so many of them fails,
 /// so does a write that brings the bytes written in all above the capacity, and so do the calls whose numbers are
-/// listed, counted from 1. A call that fails does nothing.
+/// listed, counted from 1. A call that fails does nothing, or what its effect says.
 #[derive(Drop)]
 pub struct MemoryDisk {
     history: History,
     plan: FailingCalls,
+    effect: Effect,
     faults: u64,
 }
 
 impl MemoryDisk {
-    /// A disk that holds these bytes, all of them synced.
+    /// A disk that holds these bytes, all of them synced. A call that fails does nothing.
     pub fn of(
         alloc: Global,
         bytes: Vec<u8>,
@@ -33,13 +38,25 @@ impl MemoryDisk {
     ) -> Result<MemoryDisk, Memory>
         ensures held { IfOk result (λ disk. disk.history ≡ spec.begun bytes.items capacity calls) }
         ensures plan { IfOk result (λ disk. disk.plan ≡ record { failing = failing.now; made = 0 }) }
+        ensures effect { IfOk result (λ disk. disk.effect ≡ Nothing) }
         ensures faults { IfOk result (λ disk. disk.faults ≡ 0) }
     {
         Ok(MemoryDisk {
             history: History::new(alloc, bytes, capacity, calls)?,
             plan: FailingCalls::new(alloc, failing)?,
+            effect: Effect::Nothing,
             faults: 0,
         })
+    }
+
+    /// From now on a call that fails does so much of what it was asked.
+    pub fn set_effect(&mut self, effect: Effect)
+        ensures effect { self.new.effect ≡ effect }
+        ensures history { self.new.history ≡ self.old.history }
+        ensures plan { self.new.plan ≡ self.old.plan }
+        ensures faults { self.new.faults ≡ self.old.faults }
+    {
+        self.effect = effect;
     }
 
     /// The bytes that a read gives.
@@ -61,6 +78,7 @@ impl MemoryDisk {
     // Counts a call, which fails if it is listed.
     fn count_call(&mut self) -> Result<(), Failed>
         ensures history { self.new.history ≡ self.old.history }
+        ensures effect { self.new.effect ≡ self.old.effect }
         ensures fails { IsErr result ↔ IsTrue (next_fails self.old.plan) }
         ensures counted { self.new.plan ≡ after_call self.old.plan }
         ensures cause { HasCause self.old.faults self.new.faults result }
@@ -74,6 +92,7 @@ impl MemoryDisk {
     // Counts a write of so many bytes, a cut or a sync, which fails if it is listed or there is no room for it.
     fn count_change(&mut self, written: usize) -> Result<(), Failed>
         ensures history { self.new.history ≡ self.old.history }
+        ensures effect { self.new.effect ≡ self.old.effect }
         ensures room { OnOk result (written ≤ self.old.history.room) }
         ensures left { OnOk result (1 ≤ self.old.history.left) }
         ensures fails { IsErr result ↔ IsTrue (spec.change_fails written self.old.plan self.old.history) }
@@ -103,6 +122,7 @@ impl Disk for MemoryDisk {
         ensures cause { HasCause self.old.faults self.new.faults result }
         ensures fails { IsErr result ↔ IsTrue (next_fails self.old.plan) }
         ensures history { self.new.history ≡ self.old.history }
+        ensures effect { self.new.effect ≡ self.old.effect }
         ensures counted { self.new.plan ≡ after_call self.old.plan }
     {
         self.count_call()?;
@@ -111,22 +131,20 @@ impl Disk for MemoryDisk {
 
     fn read(&mut self, place: u64, into: &mut [u8]) -> Result<usize, Failed>
         ensures given { Reads (known self.old.history) place result into.new }
+        ensures part { OnErr result (into.new ≡ read_by self.old.effect place self.old.history.bytes into.old) }
         ensures fits { IfOk result (λ n. n ≤ length into.new) }
         ensures idle { Idles (known self.old.history) (known self.new.history) }
         ensures cause { HasCause self.old.faults self.new.faults result }
         ensures fails { IsErr result ↔ IsTrue (next_fails self.old.plan) }
         ensures history { self.new.history ≡ self.old.history }
+        ensures effect { self.new.effect ≡ self.old.effect }
         ensures counted { self.new.plan ≡ after_call self.old.plan }
     {
-        self.count_call()?;
-        let bytes = self.history.bytes();
-        if place >= bytes.len() as u64 {
-            return Ok(0);
+        if let Err(failed) = self.count_call() {
+            self.effect.read_part(self.history.bytes(), place, into);
+            return Err(failed);
         }
-        let place = place as usize;
-        let count = into.len().min(bytes.len() - place);
-        into[..count].copy_from_slice(&bytes[place..place + count]);
-        Ok(count)
+        Ok(fill(self.history.bytes(), place, into))
     }
 
     fn write_at(&mut self, place: u64, bytes: &[u8]) -> Result<(), Failed>
@@ -136,10 +154,16 @@ impl Disk for MemoryDisk {
         ensures change { Changes (Torn place (length bytes.now)) (known self.old.history) (known self.new.history) }
         ensures cause { HasCause self.old.faults self.new.faults result }
         ensures fails { IsErr result ↔ IsTrue (spec.change_fails (length bytes.now) self.old.plan self.old.history) }
-        ensures history { Becomes (spec.after_write place bytes.now) self.old.history self.new.history result }
+        ensures history { Becomes (spec.after_write place bytes.now) (written_by self.old.effect place bytes.now)
+            self.old.history self.new.history result }
+        ensures effect { self.new.effect ≡ self.old.effect }
         ensures counted { self.new.plan ≡ after_call self.old.plan }
     {
-        self.count_change(bytes.len())?;
+        if let Err(failed) = self.count_change(bytes.len()) {
+            self.effect
+                .write_part(&mut self.history, place as usize, bytes);
+            return Err(failed);
+        }
         self.history.write(place as usize, bytes);
         Ok(())
     }
@@ -149,10 +173,15 @@ impl Disk for MemoryDisk {
         ensures change { Changes (Cut len) (known self.old.history) (known self.new.history) }
         ensures cause { HasCause self.old.faults self.new.faults result }
         ensures fails { IsErr result ↔ IsTrue (spec.change_fails 0 self.old.plan self.old.history) }
-        ensures history { Becomes (spec.after_cut len) self.old.history self.new.history result }
+        ensures history { Becomes (spec.after_cut len) (cut_by self.old.effect len)
+            self.old.history self.new.history result }
+        ensures effect { self.new.effect ≡ self.old.effect }
         ensures counted { self.new.plan ≡ after_call self.old.plan }
     {
-        self.count_change(0)?;
+        if let Err(failed) = self.count_change(0) {
+            self.effect.cut_part(&mut self.history, len as usize);
+            return Err(failed);
+        }
         self.history.cut(len as usize);
         Ok(())
     }
@@ -162,10 +191,15 @@ impl Disk for MemoryDisk {
         ensures idle { Idles (known self.old.history) (known self.new.history) }
         ensures cause { HasCause self.old.faults self.new.faults result }
         ensures fails { IsErr result ↔ IsTrue (spec.change_fails 0 self.old.plan self.old.history) }
-        ensures history { Becomes spec.after_sync self.old.history self.new.history result }
+        ensures history { Becomes spec.after_sync (synced_by self.old.effect)
+            self.old.history self.new.history result }
+        ensures effect { self.new.effect ≡ self.old.effect }
         ensures counted { self.new.plan ≡ after_call self.old.plan }
     {
-        self.count_change(0)?;
+        if let Err(failed) = self.count_change(0) {
+            self.effect.sync_part(&mut self.history);
+            return Err(failed);
+        }
         self.history.sync();
         Ok(())
     }
