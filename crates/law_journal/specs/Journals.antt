@@ -116,6 +116,10 @@ read_into buffer (Ok None) = Ok None
 read_into buffer (Ok (Some next)) = Ok (Some (buffer, next))
 read_into buffer (Err fault) = Err fault
 
+-- bytes of which nothing is said: a reading that is refused may leave any in the buffer that it was lent
+abbrev pub MayBeAny : List ℕ → Type 0
+MayBeAny bytes = Unit {0}
+
 -- what is read at a gate is what stands there
 abbrev pub GivesEntry : ℕ → Step → Result (Option (List ℕ × ℕ)) LoadFault → Type 0
 GivesEntry place step (Ok None) = step ≡ ends

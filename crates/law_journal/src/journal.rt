@@ -7,7 +7,7 @@ ghost use Rattle.law_journal.specs.Disks.{Idles};
 ghost use Rattle.law_journal.specs.Grammar.{is_size, frame_of, payload_of};
 ghost use Rattle.law_journal.specs.Journals.{AddsFrame, GatesStay, GivesListed, HasLoadCause, IsFrame, IsLater};
 ghost use Rattle.law_journal.specs.Journals.{IsListed, LeavesFrameOrNot, LeavesOldOrSame, ListStays, MayAddPayload};
-ghost use Rattle.law_journal.specs.Journals.{ReadsEntry, TellsDamage, read_into, stays_ready};
+ghost use Rattle.law_journal.specs.Journals.{MayBeAny, ReadsEntry, TellsDamage, read_into, stays_ready};
 ghost use Rattle.law_journal.specs.States.{HasFault, IsKnown, LeavesAlone};
 
 use crate::Disk;
@@ -132,12 +132,13 @@ impl<D: Disk> Journal<D> {
 
     /// Puts the payload behind the gate at a place into a buffer, in the place of what the buffer had, and gives the
     /// place of the next gate; None at the closed gate. The first gate is at place 8. After a failure or damage the
-    /// journal has to be opened again.
+    /// journal has to be opened again. A call that is refused may leave any bytes in the buffer.
     pub fn read_record(&mut self, place: u64, into: &mut Vec<u8>) -> Result<Option<u64>, LoadFault>
         requires { self.old.ready ≡ true }
         ensures read { ReadsEntry (D.outlook self.old.disk) place (read_into into.new.items result) }
         ensures given { (D.outlook self.old.disk).tells
             → GivesListed (D.outlook self.old.disk).seen place (read_into into.new.items result) }
+        ensures refused { OnErr result (MayBeAny into.new.items) }
         ensures later { IfOk result (IsLater place) }
         ensures ready { self.new.ready ≡ stays_ready result }
         ensures listed { IsTrue self.new.ready → IsListed (D.outlook self.new.disk) self.new.gate }

@@ -1,9 +1,9 @@
 //! Keeper: where payloads are kept. A clause sees what is known of it, its holding, whether it is ready, and a count of
 //! faults.
 
-ghost use Rattle.std.specs.Prelude.{◌≡◌, ℕ, length, Err, IfOk, IsTrue};
+ghost use Rattle.std.specs.Prelude.{◌≡◌, ℕ, length, Err, IfOk, IsTrue, OnErr};
 ghost use Rattle.law_journal.specs.Grammar.{is_size};
-ghost use Rattle.law_journal.specs.Journals.{read_into};
+ghost use Rattle.law_journal.specs.Journals.{MayBeAny, read_into};
 ghost use Rattle.law_keeper.specs.declared.keep_fault.KeepFault.TheVariants as fault;
 ghost use Rattle.law_keeper.specs.declared.readiness.Readiness.{Readiness};
 ghost use Rattle.law_keeper.specs.declared.readiness.Readiness.TheVariants.{Ready};
@@ -26,11 +26,13 @@ pub trait Keeper {
     ghost faults: { Self → ℕ };
 
     /// Puts the payload at a cursor into a buffer, in the place of what the buffer had, and gives the next cursor; None
-    /// at the end of the list. Cursor 0 is the first. After a failure or damage the keeper has to be opened again.
+    /// at the end of the list. Cursor 0 is the first. After a failure or damage the keeper has to be opened again. A call
+    /// that is refused may leave any bytes in the buffer.
     fn load(&mut self, cursor: u64, into: &mut Vec<u8>) -> Result<Option<u64>, LoadFault>
         requires { readiness self.old ≡ Ready }
         ensures given { spec.Gives (holding self.old) cursor (holding self.new)
             (read_into into.new.items result) }
+        ensures refused { OnErr result (MayBeAny into.new.items) }
         ensures later { IfOk result (spec.MovesOn cursor) }
         ensures same { spec.Keeps (holding self.old) (holding self.new) }
         ensures crash { spec.LeavesNoMore (holding self.old) (holding self.new) }
