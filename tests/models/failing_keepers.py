@@ -27,6 +27,11 @@ def open_line(failing=(), days=(), payloads=()):
     return "open " + " ".join(word or "-" for word in words)
 
 
+def keep_line(failing=()):
+    """The first line of a keeper that keeps the payload of an append that fails."""
+    return "keep" + open_line(failing)[4:]
+
+
 def of_entry(parts, law_number, request, name="ada", day=1):
     return entry_bytes.spelled(entry_bytes.entry(parts, law_number, request, name, day))
 
@@ -145,6 +150,14 @@ READ = [(open_line(payloads=SPELLED), opened(9, 6)), *SENT, *((f"bytes {k}", ent
 SESSIONS = {
     "an append that fails": ([(open_line([FIRST_APPEND]), opened(0)), (command_line(1), FAULT), front(0, 0), (command_line(1), law(1)),
                               (command_line(1), again(law(1))), front(1, 1)], [kept(ENACTED), opened(1)]),
+    "an append that fails, and is kept": ([
+        (keep_line([FIRST_APPEND]), opened(0)), (command_line(1), FAULT), front(0, 0), (command_line(1), law(1)), (command_line(1), again(law(1))),
+        front(1, 1)], [kept(ENACTED), opened(1)]),
+    "what a failed append kept, found by another command": ([
+        (keep_line([FIRST_APPEND + 1]), opened(0)), (command_line(1), law(1)), (command_line(2), FAULT), front(1, 1), (command_line(3), law(3)),
+        (command_line(2), again(law(2))), front(3, 3), ("marks", "marks ada 2 1")], [kept(payload(1), payload(2), payload(3)), opened(3)]),
+    "what a failed append kept, found at the end": ([(keep_line([FIRST_APPEND]), opened(0)), (command_line(1), FAULT), front(0, 0)],
+                                                    [kept(ENACTED), opened(1)]),
     "an opening that fails": ([(open_line([1]), FAULT)], [kept(), opened(0)]),
     "a load that fails": ([(open_line([2]), FAULT)], [kept(), opened(0)]),
     "a load that fails behind a payload": ([(open_line([5], payloads=[ENACTED]), FAULT)], [kept(ENACTED), opened(1)]),
@@ -160,7 +173,7 @@ SESSIONS = {
 }
 SESSIONS.update(damages())
 SESSIONS.update({f"the first line {line}": ([(line, "no such line"), front(0, 0)], []) for line in (
-    "open", "open -", "open - -", "open x - -", "open - 2011-13-01 -", "open - - 0", "walk", "reopen")})
+    "open", "open -", "open - -", "open x - -", "open - 2011-13-01 -", "open - - 0", "keep", "keep x - -", "walk", "reopen")})
 SESSIONS.update({f"append {k} fails": failing_once(k) for k in range(1, 41)})
 SESSIONS.update({f"append {k} fails, and call {s} behind it": failing_twice(k, s) for k in (1, 2, 40) for s in (1, 2, 3)})
 SESSIONS.update({f"append {k} fails, and another command comes": another_first(k) for k in (2, 7)})

@@ -4,7 +4,7 @@ import tempfile
 import time
 
 from checks import DESK, check, over_a_folder, to_a_full_device
-from models import entry_bytes, failing_keepers as keepers_that_fail
+from models import entry_bytes, failing_desks, failing_keepers as keepers_that_fail
 from rows import dossiers, register
 
 
@@ -96,3 +96,13 @@ def failing_keepers():
         check(f"{name}: the status, and how many lines", (status, len(got)), (0, len(lines) + len(end)))
         for number, (want, line_got) in enumerate(zip([want for _, want in lines] + end, got), 1):
             check(f"{name}, line {number}", line_got, want)
+
+
+def keepers_in_turn():
+    """A desk each call of whose keeper fails, alone or with all behind it, and that keeps what a failed append brought or not: what it answers,
+    and what is kept."""
+    for name, lines, end in failing_desks.sessions():
+        status, got = lines_of(line for line, _ in lines)
+        wanted = [(line, want) for line, want in lines if want is not None] + [("", want) for want in end]
+        wrong = [(line, line_got) for (line, want), line_got in zip(wanted, got) if line_got != want]
+        check(name, (status, len(got), wrong[:1]), (0, len(wanted), []))

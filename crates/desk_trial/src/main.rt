@@ -161,11 +161,12 @@ fn run_set<R: Read + Drop, W: Write + Drop, L: Ledger>(
     let Setting {
         view,
         failing,
+        keeps_failed,
         days,
         kept,
     } = setting;
     let mut clock = clock_of(alloc, days.as_slice())?;
-    let mut keeper = keeper_of(alloc, failing.as_slice(), kept)?;
+    let mut keeper = keeper_of(alloc, failing.as_slice(), keeps_failed, kept)?;
     match viewed_line(alloc, &mut keeper, view)? {
         Some(told) => write_line(out, told.as_slice(), true),
         None => {

@@ -22,6 +22,8 @@ pub struct Setting {
     pub view: View,
     /// The numbers of the calls of the keeper that fail, counted from 1.
     pub failing: Vec<u64>,
+    /// Whether it keeps the payload of an append that fails.
+    pub keeps_failed: bool,
     /// The days that the clock tells, of which there is at least one.
     pub days: Vec<Day>,
     /// The payloads that the keeper has.
@@ -77,7 +79,12 @@ fn listed(alloc: Global, word: &str) -> Result<Option<Vec<Vec<u8>>>, Memory> {
 }
 
 // The setting of `FAILING DAYS PAYLOADS`. `None`: the words are none.
-fn setting_named(alloc: Global, view: View, words: &str) -> Result<Option<Setting>, Memory> {
+fn setting_named(
+    alloc: Global,
+    view: View,
+    keeps_failed: bool,
+    words: &str,
+) -> Result<Option<Setting>, Memory> {
     let Some((first, rest)) = words.split_once(' ') else {
         return Ok(None);
     };
@@ -91,6 +98,7 @@ fn setting_named(alloc: Global, view: View, words: &str) -> Result<Option<Settin
         Some(kept) => Ok(Some(Setting {
             view,
             failing,
+            keeps_failed,
             days,
             kept,
         })),
@@ -104,9 +112,10 @@ pub fn setting_of(alloc: Global, line: &[u8]) -> Result<Option<Setting>, Memory>
         return Ok(None);
     };
     match text.split_once(' ') {
-        Some(("open", words)) => setting_named(alloc, View::Opened, words),
-        Some(("walk", words)) => setting_named(alloc, View::Counted, words),
-        Some(("read", words)) => setting_named(alloc, View::Decoded, words),
+        Some(("open", words)) => setting_named(alloc, View::Opened, false, words),
+        Some(("keep", words)) => setting_named(alloc, View::Opened, true, words),
+        Some(("walk", words)) => setting_named(alloc, View::Counted, false, words),
+        Some(("read", words)) => setting_named(alloc, View::Decoded, false, words),
         _ => Ok(None),
     }
 }

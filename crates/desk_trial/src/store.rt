@@ -9,10 +9,19 @@ use law_office::Opened;
 use law_register::Register;
 use std::alloc::Global;
 
-/// A keeper in memory with these payloads, some of whose calls fail. The calls that give it the payloads are counted, too: one that opens it,
-/// and one for each of them.
-pub fn keeper_of(alloc: Global, failing: &[u64], kept: Vec<Vec<u8>>) -> Result<MapKeeper, Memory> {
-    let mut keeper = MapKeeper::new(alloc, failing)?;
+/// A keeper in memory with these payloads, some of whose calls fail, and that keeps the payload of an append that fails, or not. The calls
+/// that give it the payloads are counted, too: one that opens it, and one for each of them.
+pub fn keeper_of(
+    alloc: Global,
+    failing: &[u64],
+    keeps_failed: bool,
+    kept: Vec<Vec<u8>>,
+) -> Result<MapKeeper, Memory> {
+    let mut keeper = if keeps_failed {
+        MapKeeper::keeping(alloc, failing)?
+    } else {
+        MapKeeper::new(alloc, failing)?
+    };
     for payload in kept {
         give(alloc, &mut keeper, payload.as_slice())?;
     }
