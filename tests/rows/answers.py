@@ -7,6 +7,7 @@ import checks
 from checks import PROGRAM, SAID, TOP, check, over_a_folder, read, run, said_to_a_full_device
 from models import bearing
 from rows import dossiers
+from rows import spellings as written_forms
 
 
 def examples():
@@ -59,6 +60,17 @@ def tables():
         status, written = run(["text", "2011-01-01"], given)
         answer = json.loads(written)
         check(name, (status, answer["applied"], [u["cause"] for u in answer["unapplied"]]), (0, applied, reasons))
+
+
+def spellings():
+    """Each key twice, keys and texts by escapes, and numbers of every kind."""
+    whole = run(["text", "2011-01-01"], json.dumps(written_forms.WHOLE).encode())
+    check("an object of each form", whole[0], 0)
+    for table in (written_forms.KEYS, written_forms.NUMBERS, written_forms.TEXTS):
+        for name, given, line in table:
+            check(name, run(["text", "2011-01-01"], given), whole if line is None else (10, line))
+    for text, same in written_forms.CONTENTS:
+        check(f"the content {text}", *(run(["text", "2011-01-01"], written_forms.of_content(it)) for it in (text, same)))
 
 
 def spelled(value):

@@ -101,7 +101,8 @@ get_first : (k l : List ℕ) (e : Data) (ms : Members) → get_member k (member 
 get_first k l e ms =
     found_where (slice_cmp nat_cmp k l) e (get_member k ms) ∙ ap (λ t. cond t (Some e) (get_member k ms)) (is_eq-slice_cmp k l ∙ sym_eq k l)
 
-get_put : (k l : List ℕ) (d : Data) (ms : Members) → get_member k (put l d ms) ≡ cond (bytes_eq l k) (Some d) (get_member k ms)
+-- what is found where one member more is put in
+pub get_put : (k l : List ℕ) (d : Data) (ms : Members) → get_member k (put l d ms) ≡ cond (bytes_eq l k) (Some d) (get_member k ms)
 get_put k l d ms = by (bytes_eq l k) refl
   where
     by : (t : Bool) → bytes_eq l k ≡ t → get_member k (put l d ms) ≡ cond t (Some d) (get_member k ms)

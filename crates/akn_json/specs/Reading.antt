@@ -5,6 +5,7 @@ pub mod Names
 pub mod Nodes
 pub mod Widths
 pub mod Values
+pub mod Parts
 pub mod Acts
 pub mod Modifications
 pub mod Bytes

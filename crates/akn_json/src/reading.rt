@@ -18,6 +18,7 @@ mod fields;
 mod key;
 mod modifications;
 mod names;
+mod node_parts;
 mod nodes;
 mod numbers;
 mod tables;

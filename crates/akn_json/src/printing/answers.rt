@@ -8,7 +8,7 @@ ghost use Rattle.akn_json.specs.Printing.Answers.{answer_data, asked_expression}
 
 use super::lists::{put_ids, put_unapplied};
 use super::members::{put_flag, put_number, put_text};
-use super::provisions::put_nodes;
+use super::provisions::{put_nodes, room_of};
 use desk_base::Memory;
 use frbr_names::spelled_expression;
 use json::Writer;
@@ -63,7 +63,9 @@ fn put_parts(out: &mut Writer, alloc: Global, answer: &Answer) -> Result<(), Mem
 pub fn put_answer(alloc: Global, answer: &Answer) -> Result<Vec<u8>, Memory>
     ensures { IfOk result (λ bytes. bytes.items ≡ compact_text (answer_data answer.now)) }
 {
-    let mut out = Writer::new(Vec::new(alloc));
+    let room = room_of(&answer.nodes).saturating_add(512);
+    let bytes = Vec::with_capacity(alloc, room)?;
+    let mut out = Writer::new(bytes);
     put_parts(&mut out, alloc, answer)?;
     Ok(out.into_inner())
 }

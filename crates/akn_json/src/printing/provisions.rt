@@ -63,3 +63,32 @@ pub fn put_nodes(out: &mut Writer, nodes: &AnswerNodes) -> Result<(), Memory>
     out.end_array()?;
     Ok(())
 }
+
+// About as many bytes as a provision takes in the text, with all beneath it.
+#[cycle(room)]
+fn room_of_node(node: &AnswerNode) -> usize {
+    let names = node
+        .eid
+        .as_str()
+        .len()
+        .saturating_mul(2)
+        .saturating_add(192);
+    let texts = node
+        .heading
+        .as_str()
+        .len()
+        .saturating_add(node.content.as_str().len());
+    names
+        .saturating_add(texts)
+        .saturating_add(room_of(&node.children))
+}
+
+/// About as many bytes as the provisions take in the text, so that it can be written without being moved.
+#[cycle(room)]
+pub fn room_of(nodes: &AnswerNodes) -> usize {
+    let mut room: usize = 0;
+    for node in &nodes.items {
+        room = room.saturating_add(room_of_node(node));
+    }
+    room
+}

@@ -3,18 +3,16 @@
 ghost use Rattle.std.specs.Prelude.{◌≡◌, []};
 ghost use Rattle.act_tree.specs.Specs.{own_of, spec_view};
 ghost use Rattle.akn_json.specs.Reading.Reads.{Gives};
-ghost use Rattle.akn_json.specs.Reading.Fields.{each, optional_in};
+ghost use Rattle.akn_json.specs.Reading.Fields.{each, read_or, text_in};
 ghost use Rattle.akn_json.specs.Reading.Names.{expression_in};
 ghost use Rattle.akn_json.specs.Reading.Nodes as spec;
-ghost use Rattle.akn_json.specs.declared.reading.key.Key.TheVariants as key;
+ghost use Rattle.akn_json.specs.Reading.Parts.{own_of_parts, shown};
 ghost use Rattle.akn_json.specs.Reading.Values.{seen, items_seen};
 
 use super::faults::{BAD_ELEMENT, WRONG_SHAPE};
-use super::fields::{field, items, members, optional_text, text};
-use super::key::Key;
+use super::fields::{items, text};
 use super::names::expression;
-use super::tables::NODE;
-use super::values::at_key;
+use super::node_parts::{Parts, parts_of};
 use crate::ReadFail;
 use act_tree::{NodeSpec, Nodes, Refs};
 use desk_base::Text;
@@ -53,27 +51,36 @@ fn each_expression(alloc: Global, values: &[Value]) -> Result<Refs, ReadFail>
 }
 
 // The refs of a node, and none where it states none.
-#[tactic(auto, unfolding(crate::specs::Reading::Fields::optional_in, crate::specs::Reading::Nodes::refs_in))]
-fn refs(alloc: Global, value: &Value) -> Result<Refs, ReadFail>
-    ensures { Gives (λ r. r) result (optional_in key.Refs [] spec.refs_in (seen value.now)) }
+#[tactic(auto, unfolding(crate::specs::Reading::Nodes::refs_in))]
+fn refs(alloc: Global, found: Option<&Value>) -> Result<Refs, ReadFail>
+    ensures { Gives (λ r. r) result (read_or [] spec.refs_in (shown found.entry)) }
 {
-    match at_key(value, Key::Refs) {
-        Some(found) => each_expression(alloc, items(found)?),
+    match found {
+        Some(value) => each_expression(alloc, items(value)?),
         None => Ok(Refs::new(alloc)),
     }
 }
 
-// What a node says of itself, with no nodes beneath it yet.
-#[tactic(auto, unfolding(crate::specs::Reading::Nodes::own_in))]
-fn own(alloc: Global, value: &Value) -> Result<NodeSpec, ReadFail>
-    ensures { Gives own_of result (spec.own_in (seen value.now)) }
+// The text that was found, and the empty one where none was.
+fn text_or_none<'a>(found: Option<&Value<'a>>) -> Result<&'a str, ReadFail>
+    ensures { Gives (λ s. s.now) result (read_or [] text_in (shown found.entry)) }
 {
-    members(value, &NODE)?;
-    let element = element(field(value, Key::Element)?)?;
-    let num = num(field(value, Key::Num)?)?;
-    let heading = optional_text(value, Key::Heading)?;
-    let content = optional_text(value, Key::Content)?;
-    let refs = refs(alloc, value)?;
+    match found {
+        Some(value) => text(value),
+        None => Ok(""),
+    }
+}
+
+// What a node says of itself, with no nodes beneath it yet.
+#[tactic(auto, unfolding(crate::specs::Reading::Parts::own_with))]
+fn own(alloc: Global, parts: Parts) -> Result<NodeSpec, ReadFail>
+    ensures { Gives own_of result (own_of_parts parts.entry) }
+{
+    let element = element(parts.element)?;
+    let num = num(parts.num)?;
+    let heading = text_or_none(parts.heading)?;
+    let content = text_or_none(parts.content)?;
+    let refs = refs(alloc, parts.refs)?;
     Ok(NodeSpec {
         element,
         num,
@@ -86,12 +93,12 @@ fn own(alloc: Global, value: &Value) -> Result<NodeSpec, ReadFail>
 
 // A node, with all beneath it.
 #[cycle(node)]
-#[tactic(auto, using(crate::proofs::Values::node_parts))]
 fn node(alloc: Global, value: &Value) -> Result<NodeSpec, ReadFail>
     ensures { Gives spec_view result (spec.node_in (seen value.now)) }
 {
-    let mut node = own(alloc, value)?;
-    match at_key(value, Key::Children) {
+    let parts = parts_of(value)?;
+    let mut node = own(alloc, parts)?;
+    match parts.children {
         Some(found) => {
             node.children = nodes(alloc, found)?;
             Ok(node)

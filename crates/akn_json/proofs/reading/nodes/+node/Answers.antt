@@ -1,9 +1,11 @@
 -- Each call goes over a value that nests less deep.
-use Rattle.std.proofs.Common.{◌≡◌, ◌+◌, ◌*◌, ◌<◌, ◌≤◌, sym, ap, ◌∙◌, subst, arith, rules}
+use Rattle.std.proofs.Common.{◌≡◌, ◌+◌, ◌*◌, ◌<◌, ◌≤◌, sym, ap, ◌∙◌, Some, subst, arith, rules}
 use Rattle.serde_json.specs.Data.{array, depth, items_depth}
 use Rattle.akn_json.specs.declared.reading.key.Key.TheVariants as key
 use Rattle.akn_json.specs.Reading.Keys.{key_name}
 use Rattle.akn_json.specs.Reading.Nodes.{nodes_in}
+use Rattle.serde_json.specs.Find.{get}
+use Rattle.akn_json.specs.Reading.Parts.{shown}
 use Rattle.akn_json.specs.Reading.Reads.{Gives}
 use Rattle.akn_json.specs.Reading.Values.{seen, items_seen}
 use Rattle.akn_json.proofs.Values.{got_depth, item_depth, seen-Array}
@@ -11,7 +13,8 @@ use Rattle.akn_json.proofs.reading.nodes.+node.Goals as goal
 
 pub node-nodes-requires : goal.node-nodes-requires
 node-nodes-requires t c =
-    let deep = got_depth (key_name key.Children) (seen c.args.value.now) (seen c.in-Some.found.now) (sym c.in-Some.ensures) in
+    let is : get (key_name key.Children) (seen c.args.value.now) ≡ Some (seen c.in-Some.found.now) = sym c.in_ok-parts.ensures.children ∙ ap shown c.in-Some.is in
+    let deep = got_depth (key_name key.Children) (seen c.args.value.now) (seen c.in-Some.found.now) is in
     let falls : 2 * depth (seen c.in-Some.found.now) + 1 < 2 * depth (seen c.args.value.now) = omega (arith, deep) in
     search rules
 
