@@ -44,9 +44,11 @@ def cut_histories():
 
 
 def full_register():
-    """A register that is filled to its last law entry, in one stream."""
-    given, wanted = told(list(histories.full()))
-    check_written("a full register", batch(given), (0, wanted))
+    """A register that is filled to its last law entry, in one stream: by commands on one act, and on many. What a command costs does not
+    grow with the entries of its act."""
+    for name, an_act in (("one act", 65_536), ("many acts", 500)):
+        given, wanted = told(list(histories.full(an_act)))
+        check_written(f"a full register of {name}", batch(given), (0, wanted))
 
 
 def near_ends(rows):

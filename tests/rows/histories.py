@@ -154,9 +154,10 @@ GROWING = [
     *(of_parts(day, viewpoint, count) for day, counts in COUNTS.items() for viewpoint, count in zip((26, 27, 28), counts)),
 ]
 
-def full():
-    """A register that is filled: with items of a draft, drafters, ids of a work and law entries. Each rule that says so refuses what is one
-    more, and beside them those that no other history has. (Rule 17 wants half a gigabyte; `desk_trial` is filled so.)"""
+def full(an_act):
+    """A register that is filled: with items of a draft, drafters, ids of a work and law entries, of which so many are on an act. Each rule
+    that says so refuses what is one more, and beside them those that no other history has. (Rule 17 wants half a gigabyte; `desk_trial` is
+    filled so.)"""
     yield accepted(ENACTED, law(1))
     yield accepted(record("ada", 2, repeal("sec_3")), law(2))
     yield accepted(record("ada", 3, force()), law(3))
@@ -174,13 +175,13 @@ def full():
     for k in range(7):  # and there are 65 ids
         yield accepted(record("ada", 70 + k, *[repeal()] * (64 if k else 63)), law(5 + k))
     yield broken(record("ada", 77, repeal()), 15, 512)
-    for first in range(12, 65_536, 500):  # acts with 499 entries each: a command reads those of its act
+    for first in range(12, 65_536, an_act):
         uri = f"/akn/gb/act/2010-05-01/{first}"
         yield accepted(enact("ada", 100 + first, uri), law(first))
         yield accepted(record("ada", 101 + first, repeal("sec_3"), work=uri), law(first + 1))
-        for k in range(first + 2, min(first + 500, 65_536)):
+        for k in range(first + 2, min(first + an_act, 65_536)):
             yield accepted((restore if k % 2 else withdraw)("ada", 100 + k, f"{first + 1}.1"), law(k))
-    yield broken(withdraw("ada", 77, "65513.1"), 16, 65_535)
+    yield broken(withdraw("ada", 77, f"{first + 1}.1"), 16, 65_535)
     yield get("/front"), response(200, '{"front":65535}')
 
 

@@ -10,7 +10,7 @@ use Rattle.law_register.specs.declared.register.draft.DraftItem.{DraftItem}
 use Rattle.law_register.specs.declared.register.entry.Entry.{Entry}
 use Rattle.law_register.specs.declared.register.known.Known.{Known}
 use Rattle.law_register.specs.Answer.Renewing.{both_costs, costs_from, costs_touched}
-use Rattle.law_register.specs.Answer.Touched.{day_among, touched_days, work_entered}
+use Rattle.law_register.specs.Answer.Touched.{day_among, touched_day, touched_days, with_day, work_entered}
 use Rattle.law_register.specs.Register.Concerns.{is_named}
 use Rattle.law_register.specs.Register.Drafts.{draft_of}
 use Rattle.law_register.specs.Register.Indexes.{act_of}
@@ -193,6 +193,15 @@ kept_known es w kept for =
         ap (λ (act : Act). up_to (front es) (record a { act = act })) alike.act
         ∙ ap (λ (n : ℕ). up_to (front es) (record a { act = b.act; enacted = n })) alike.enacted
         ∙ ap (λ ms. up_to (front es) (record a { act = b.act; enacted = b.enacted; mods = ms })) alike.mods
+
+-- the day that an entry touches in the work that it concerns is the one that it touches
+pub day_there : (es : List Entry) (e : Entry) (w : List ℕ) → work_entered es (law_of es e) ≡ Some w → day_among (touched_days es e) w ≡ touched_day es e
+unfolding touched_days
+day_there es e w concerned = ap (λ (named : Option (List ℕ)). day_among (with_day named (touched_day es e)) w) concerned ∙ by (touched_day es e)
+  where
+    by : (day : Option ℕ) → day_among (with_day (Some w) day) w ≡ day
+    by None = refl
+    by (Some day) = ap (λ (b : Bool). cond b (Some day) None) (bytes_are w w refl)
 
 -- its tables are right before the day that an entry touches there
 pub right_before : (es : List Entry) (e : Entry) (w : List ℕ) (kept : WorkValue) (new : Known) → is_legal es ≡ true → IsForIf (known_now es w) kept

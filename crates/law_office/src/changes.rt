@@ -13,12 +13,12 @@ ghost use Rattle.version_cache.specs.Works.{AreRevisionsOf, IsForIf, renewed};
 ghost use Rattle.law_office.specs.Tables.{AreChangesOf, AreTablesOf, kept_in};
 
 use crate::book::{Changes, KeptWorks};
-use desk_base::{Day, Memory, Steps};
+use desk_base::{Memory, Steps};
 use frbr_names::WorkName;
 use law_register::laws::entries_are_legal;
 use law_register::replay_laws::bare_acts_stay;
 use law_register::{Act, Command, Entry, Reading, Register, known_after, known_enacted};
-use replay_core::{FromEnacted, touched_days, work_entered};
+use replay_core::{FromEnacted, touched_day_of, work_entered};
 use std::alloc::Global;
 use std::sync::ledger::Ledger;
 use version_cache::{WorkRevision, WorkTables};
@@ -31,18 +31,6 @@ fn act_of(command: &Command) -> Option<&Act>
         Command::Enact { act } => Some(act),
         _ => None,
     }
-}
-
-// The touched day of a work among these, if it is one of them.
-fn day_among(touched: &[(WorkName, Day)], work: &WorkName) -> Option<Day>
-    ensures { result ≡ touching.day_among touched.now work.now }
-{
-    for (other, day) in touched {
-        if other == work {
-            return Some(*day);
-        }
-    }
-    None
 }
 
 fn no_changes(alloc: Global) -> Changes
@@ -125,29 +113,32 @@ fn enacting<L: Ledger>(
     Ok(with_enacted(alloc, work, kept))
 }
 
-// The revision of what is kept of the work that an entry concerns, from the day that it touches there.
+// The revision of what is kept of the work that an entry concerns, from the day that it touches. What is known of the work is that
+// which is kept: no law entry is read.
 fn revise<L: Ledger>(
     alloc: Global,
     register: &Register,
     entry: &Entry,
-    work: &WorkName,
+    _work: &WorkName,
     kept: &WorkTables,
     steps: &mut Steps<L>,
 ) -> Result<WorkRevision, Memory>
-    requires right { IsForIf (known_now register.now.entries work.now) (work_view kept.now) }
+    requires right { IsForIf (known_now register.now.entries _work.now) (work_view kept.now) }
+    requires concerned { touching.work_entered register.now.entries (law_of register.now.entries entry.now)
+        ≡ Some _work.now }
     requires accepted { is_accepted entry.now.law (verdict register.now.entries entry.now.drafter
         entry.now.request entry.now.command) ≡ true }
     ensures fits { IfOk result
         (λ revision. AreRevisionsOf (work_view kept.now) (work_revision_view revision).tables) }
     ensures right { IfOk result (λ revision.
-        IsForIf (known_now (register.now.entries ++ entry.now ∷ []) work.now)
+        IsForIf (known_now (register.now.entries ++ entry.now ∷ []) _work.now)
         (renewed (work_view kept.now) (work_revision_view revision))) }
     ensures steps { steps.new ≤ steps.old + entry_cost register.now.entries entry.now }
 {
     entries_are_legal(register);
-    let touched = touched_days(alloc, register, entry)?;
-    let day = day_among(touched.as_slice(), work);
-    let known = known_after(alloc, register, kept.known(), entry)?;
+    let old = kept.known();
+    let day = touched_day_of(alloc, register, entry, old)?;
+    let known = known_after(alloc, register, old, entry)?;
     kept.revise(alloc, &FromEnacted, known, day, steps)
 }
 

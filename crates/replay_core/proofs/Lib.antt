@@ -1,6 +1,7 @@
-mod Grouping
-mod Turning
-mod ShowingLaws
-mod NodesFound
 mod EidsOnce
 mod DueByDays
+mod Grouping
+mod NamedMods
+mod NodesFound
+mod ShowingLaws
+mod Turning

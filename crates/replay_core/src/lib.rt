@@ -13,4 +13,4 @@ mod showing;
 mod touched;
 
 pub use from_enacted::FromEnacted;
-pub use touched::{touched_day, touched_days, work_entered};
+pub use touched::{touched_day, touched_day_of, touched_days, work_entered};
