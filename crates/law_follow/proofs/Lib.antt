@@ -1,0 +1,14 @@
+mod Pieces
+mod Fronts
+mod Heads
+mod Loading
+mod Openings
+mod Adding
+mod Replies
+mod Stepping
+mod Sized
+mod Ending
+mod Worlds
+mod Written
+mod Committing
+mod Opened

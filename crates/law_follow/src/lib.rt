@@ -1,0 +1,24 @@
+//! A follower of a register: another keeper that holds a front of the same list, whatever is lost, repeated or late of
+//! what it is sent.
+#![tactic(auto)]
+
+mod follower;
+mod frame;
+mod judging;
+pub mod laws;
+mod opening;
+mod put_fault;
+mod reading;
+mod replica;
+mod taken;
+mod taking;
+mod unfit;
+mod writing;
+
+pub use follower::{Follower, FollowerRefused};
+pub use frame::{Frame, FrameFault};
+pub use put_fault::PutFault;
+pub use reading::read_frame;
+pub use replica::{Pending, Replica};
+pub use taken::{TakeFault, Taken};
+pub use writing::put_frame;
