@@ -6,6 +6,8 @@ pub mod laws;
 mod list_gate;
 mod tcp_gate;
 mod tcp_link;
+#[cfg(test)]
+mod tests;
 
 pub use gate::Gate;
 pub use list_gate::ListGate;
