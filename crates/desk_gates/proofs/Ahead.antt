@@ -1,5 +1,5 @@
 -- The links of a gate in memory that are still to be given.
-use Rattle.std.proofs.Common.{◌≡◌, All, List, drop, sym, subst}
+use Rattle.std.proofs.Common.{◌≡◌, All, List, drop}
 use Rattle.std.proofs.lemmas.List.Elements.{All-drop}
 
 -- where each link was unused, each of the others is, once the first was given

@@ -1,5 +1,5 @@
 -- A gate in memory gives its links in their order: what it gave, and what is still ahead behind it, stays.
-use Rattle.std.proofs.Common.{◌≡◌, ℕ, Bool, true, false, if◌then◌else◌, List, [], ◌∷◌, ◌++◌, refl, sym, ap, ◌∙◌, append_assoc}
+use Rattle.std.proofs.Common.{◌≡◌, Bool, true, false, if◌then◌else◌, List, [], ◌∷◌, ◌++◌, refl, ap, ◌∙◌, append_assoc}
 use Rattle.desk_base.specs.MemoryStreams.{next_fails}
 use Rattle.desk_gates.specs.MemoryGates.{HeldGate, Call, to_listen, to_accept, to_take, after_fault, listening, after_giving, after_one, after_all, in_order}
 

@@ -1,6 +1,4 @@
-use Rattle.std.proofs.Common.{rules, arith, ap, length, ◌∷◌, []}
-use Rattle.std.proofs.lemmas.List.Elements.{All-drop}
-use Rattle.std.proofs.lemmas.List.{length-append}
+use Rattle.std.proofs.Common.{rules}
 use Rattle.desk_gates.specs.Tallies.{IsUnused}
 use Rattle.desk_gates.proofs.Ahead.{others_unused}
 use Rattle.desk_gates.proofs.list_gate.ListGateGate.accept.Goals as goal
