@@ -1,46 +1,14 @@
 -- What stands at the front of bytes that are read piece by piece.
 use Rattle.std.proofs.Common.{◌≡◌, ◌∙◌, sym, ap, subst, refl, Bool, false, List, [], ◌∷◌, ◌++◌, length, take, drop, ℕ, ◌≤◌, ◌<◌, ◌⊎◌, inl, inr, Option, Some, None, Result, Ok, Err, arith, length-append}
-use Rattle.std.specs.Prelude.{nat_lt, ◌==◌, if◌then◌else◌}
-use Rattle.std.proofs.lemmas.Bool.{lt-ltb, le-ltb, ne_eqb}
-use Rattle.law_follow.specs.Frames.{ends, holds, breaks, IsPieceOf, Reads, ReadsPayload, IsOfDevice, framed, front_of, head_in, headed, payload_front}
+use Rattle.std.specs.Prelude.{◌==◌, if◌then◌else◌}
+use Rattle.std.proofs.lemmas.Bool.{ne_eqb}
+use Rattle.law_follow.specs.Frames.{ends, IsPieceOf, Reads, ReadsPayload, IsOfDevice, framed, front_of, head_in, headed, payload_front}
 use Rattle.law_follow.specs.declared.frame.Frame.{Frame}
 use Rattle.law_follow.specs.declared.frame.FrameFault.{FrameFault}
 use Rattle.law_follow.specs.declared.frame.FrameFault.TheVariants as fault
 use Rattle.law_follow.specs.declared.frame.Head.{Head}
 use Rattle.law_follow.specs.declared.frame.TheConstants.{HEAD_SIZE}
 use Rattle.law_follow.proofs.Pieces.{cut_drop, cut_take}
-
--- a payload that is there whole, or not
-payload_holds : (number size : ℕ) (all bytes rest : List ℕ) → all ≡ bytes ++ rest → length bytes ≡ size
-    → payload_front number size all ≡ holds (record { number = number; payload = bytes }) rest
-payload_holds number size all bytes rest begins long =
-    let enough : nat_lt (length all) size ≡ false = le-ltb (length all) size (omega (arith, long, ap length begins, length-append bytes rest)) in
-    ap (λ (t : Bool). if t then breaks else holds (record { number = number; payload = take size all }) (drop size all)) enough
-    ∙ ap (λ (p : List ℕ). holds (record { number = number; payload = p }) (drop size all)) (cut_take size all bytes rest begins (omega (arith, long)) (inr (omega (arith, long))))
-    ∙ ap (λ (r : List ℕ). holds (record { number = number; payload = bytes }) r) (cut_drop size all bytes rest begins (omega (arith, long)) (inr (omega (arith, long))))
-
-payload_breaks : (number size : ℕ) (all : List ℕ) → length all < size → payload_front number size all ≡ breaks
-payload_breaks number size all short =
-    ap (λ (t : Bool). if t then breaks else holds (record { number = number; payload = take size all }) (drop size all)) (lt-ltb (length all) size short)
-
-pub payload_whole : (number size : ℕ) (left new : Option (List ℕ)) (f : Frame) → IsPieceOf size left new f.payload.items → f.number ≡ number
-    → length f.payload.items ≡ size → ReadsPayload number size left new (Ok f)
-payload_whole number size None new f piece same long = tt
-payload_whole number size (Some all) new f piece same long = (
-  piece.rest,
-  piece.left,
-  payload_holds number size all f.payload.items piece.rest piece.begins long
-      ∙ ap (λ (n : ℕ). holds (record { number = n; payload = f.payload.items }) piece.rest) (sym same),
-)
-
-pub payload_short : (number size : ℕ) (left new : Option (List ℕ)) (bytes : List ℕ) → IsPieceOf size left new bytes → length bytes < size
-    → ReadsPayload number size left new (Err fault.BadFrame)
-payload_short number size None new bytes piece short = tt
-payload_short number size (Some all) new bytes piece short = payload_breaks number size all (by piece.enough)
-  where
-    by : (piece.rest ≡ []) ⊎ (size ≤ length bytes) → length all < size
-    by (inl none) = omega (arith, short, ap length piece.begins, length-append bytes piece.rest, ap length none)
-    by (inr enough) = absurd (omega (arith, short, enough))
 
 -- what stands at the front of all, by the bytes of a head that were read, or of fewer at the end
 pub front_headed : (all bytes rest : List ℕ) → all ≡ bytes ++ rest → length bytes ≤ HEAD_SIZE → (rest ≡ []) ⊎ (HEAD_SIZE ≤ length bytes) → 0 < length bytes

@@ -9,6 +9,5 @@ mod Stepping
 mod Sized
 mod Ending
 mod Worlds
-mod Written
 mod Committing
 mod Opened
