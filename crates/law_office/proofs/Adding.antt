@@ -8,10 +8,9 @@ use Rattle.law_register.specs.declared.law.act.Act.{Act}
 use Rattle.law_register.specs.declared.law.command.Command.{Command}
 use Rattle.law_register.specs.declared.law.command.Command.TheVariants.{Enact, Record, Correct, Withdraw, Restore, DraftAdd, DraftDrop, File}
 use Rattle.law_register.specs.declared.register.entry.Entry.{Entry}
-use Rattle.law_register.specs.declared.register.known.Known.{Known}
 use Rattle.law_register.specs.Register.KnownIds.{enacted, enacted_by, enacted_from, enacted_or, known_by}
 use Rattle.law_register.specs.Register.KnownNext.{known_now}
-use Rattle.law_register.specs.Register.LawList.{acts_by, acts_of, front, laws, works_enacted}
+use Rattle.law_register.specs.Register.LawList.{front, laws, works_enacted}
 use Rattle.law_register.proofs.Next.{now_known}
 use Rattle.law_register.proofs.Puts.{bytes_either, bytes_same}
 use Rattle.version_cache.specs.Works.{IsForIf, WorkValue}

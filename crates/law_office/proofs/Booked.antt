@@ -1,5 +1,5 @@
 -- The book of what was opened: memory alone may be wanting.
-use Rattle.std.proofs.Common.{◌≡◌, ◌∙◌, ◌+◌, ◌≤◌, sym, ap, subst, refl, arith, ℕ, List, [], Option, None, Result, Ok, Err}
+use Rattle.std.proofs.Common.{◌≡◌, ◌+◌, ◌≤◌, sym, subst, refl, arith, ℕ, List, Option, None, Result, Ok, Err}
 use Rattle.std.specs.Prelude.{IfErr, IfOk}
 use Rattle.law_keeper.specs.Keepers.{Holding}
 use Rattle.law_keeper.specs.declared.readiness.Readiness.{Readiness}

@@ -17,7 +17,6 @@ use Rattle.law_register.specs.Answer.Renewing.{command_cost, cost_said}
 use Rattle.law_register.specs.Desk.Commands.{AreSettled, Begins, EndsWithin, IsIdle, IsPending, IsRefused, IsReplied, Waits}
 use Rattle.law_register.specs.Desk.States.{Standing}
 use Rattle.law_register.specs.Register.Entering.{entered, entered_by, entry_of}
-use Rattle.law_register.specs.Register.Registers.{Contents}
 use Rattle.law_register.specs.Register.Verdicts.{verdict}
 use Rattle.entry_codec.specs.Entries.{spelling}
 use Rattle.law_office.specs.Acting.{Acts, IsStill, Settles}
@@ -25,7 +24,6 @@ use Rattle.law_office.specs.Lists.{EndsOver, EndsWith, SpellsExactly}
 use Rattle.law_office.specs.Offices.{HoldsBook, Spells, pending_of, standing_of}
 use Rattle.law_office.specs.Opening.{spellings}
 use Rattle.law_office.specs.declared.book.Book.{Book}
-use Rattle.law_office.specs.declared.book.Pending.{Pending}
 
 -- the list of a keeper that holds a book in which nothing is pending
 pub spelled_none : (h : Holding) (readiness : Readiness) (book : Book) → HoldsBook h readiness book

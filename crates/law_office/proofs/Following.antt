@@ -2,7 +2,6 @@
 use Rattle.std.proofs.Common.{◌≡◌, ◌∙◌, sym, ap, subst, refl, ℕ, ◌+◌, ◌≤◌, Bool, true, false, cond, List, [], ◌∷◌, ◌++◌, map, Option, Some, None, IfSome, option_map, arith}
 use Rattle.std.proofs.lemmas.List.Sums.{sum_by-cons}
 use Rattle.std.specs.Str.{bytes_eq}
-use Rattle.law_register.specs.declared.answer.question.Reading.{Reading}
 use Rattle.law_register.specs.declared.law.act.Act.{Act}
 use Rattle.law_register.specs.declared.law.command.Command.{Command}
 use Rattle.law_register.specs.declared.law.command.Command.TheVariants.{Enact, Record, Correct, Withdraw, Restore, DraftAdd, DraftDrop, File}
@@ -30,7 +29,7 @@ use Rattle.version_cache.proofs.Agreeing.{right_until}
 use Rattle.version_cache.proofs.Alike.{for_still}
 use Rattle.version_cache.proofs.OneMore.{one_more_of}
 use Rattle.law_office.specs.declared.book.Changes.{Changes}
-use Rattle.law_office.specs.Tables.{AreChangesOf, AreTablesOf, Fit, FitAll, FitsOne, Kept, Matches, applied, enacted_view, revised_view, with_enacted, with_revision, with_revisions}
+use Rattle.law_office.specs.Tables.{AreChangesOf, AreTablesOf, Fit, FitsOne, Kept, Matches, enacted_view, revised_view, with_enacted, with_revision, with_revisions}
 
 -- where only the numbers of law entries move, what is kept of a work is for it still
 still : (n : ℕ) (known : Option Known) (kept : Option WorkValue) → Matches known kept → Matches (option_map (up_to n) known) kept

@@ -1,5 +1,5 @@
 -- What can be given to a keeper.
-use Rattle.std.proofs.Common.{◌≡◌, ◌∙◌, sym, ap, subst, ℕ, ◌≤◌, nat_le, true, ◌&&◌, IsTrue, List, length, arith}
+use Rattle.std.proofs.Common.{◌≡◌, ◌∙◌, sym, ap, subst, ℕ, ◌≤◌, IsTrue, List, length, arith}
 use Rattle.std.proofs.lemmas.Bool.Decides.{nat_tests}
 use Rattle.law_journal.specs.Grammar.{is_size}
 use Rattle.law_register.specs.declared.register.entry.Entry.{Entry}

@@ -7,5 +7,8 @@ mod Following
 mod Openings
 pub mod Images
 mod Keeping
+mod Histories
+mod Marking
 mod Ending
 mod Legality
+pub mod Sends

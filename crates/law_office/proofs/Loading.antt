@@ -1,12 +1,12 @@
 -- How far an opening has come.
-use Rattle.std.proofs.Common.{◌≡◌, ◌⊎◌, inl, ◌∙◌, sym, ap, subst, refl, ℕ, zero, suc, ◌+◌, List, [], ◌∷◌, ◌++◌, length, map, drop, Option, Some, None, Result, Ok, Err, IfOk, OnOk, arith}
-use Rattle.std.proofs.lemmas.List.{append-nil, length-append, length-map}
+use Rattle.std.proofs.Common.{◌≡◌, inl, ◌∙◌, sym, ap, subst, refl, ℕ, zero, suc, List, [], ◌∷◌, ◌++◌, length, drop, Option, Some, None, Result, Ok, Err, IfOk, OnOk, arith}
+use Rattle.std.proofs.lemmas.List.{append-nil, length-append}
 use Rattle.std.specs.Prelude.{slice_get}
 use Rattle.law_journal.specs.Grammar.{Listing}
-use Rattle.law_keeper.specs.Keepers.{Finds, HasReadCause, Holding, IsHolding, IsOldOrSame, IsSettled, Keeps, LeavesNoMore, LeavesOldOrSame, LeavesOnly, Gives}
+use Rattle.law_keeper.specs.Keepers.{Finds, HasReadCause, Holding, IsHolding, IsSettled, Keeps, LeavesNoMore, LeavesOnly, Gives}
 use Rattle.law_keeper.specs.declared.readiness.Readiness.{Readiness}
 use Rattle.law_keeper.specs.declared.readiness.Readiness.TheVariants.{Unopened, Ready, Stopped}
-use Rattle.law_keeper.proofs.Moments.{idles_on, keeps_both, rests, weaker}
+use Rattle.law_keeper.proofs.Moments.{idles_on, keeps_both, rests}
 use Rattle.law_keeper.proofs.Walks.{HasWalked, ok_is, one_more}
 use Rattle.law_register.specs.declared.desk.damage.Damage.{Damage}
 use Rattle.law_register.specs.declared.desk.damage.Damage.TheVariants as damage

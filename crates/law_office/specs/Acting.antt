@@ -2,7 +2,6 @@
 use Rattle.std.specs.Prelude.{ℕ, ◌≡◌, List, [], ◌∷◌, ◌++◌, Option, Some, None, IsSome, Result, Ok, Err}
 use Rattle.law_register.specs.declared.desk.command_fault.CommandFault.{CommandFault}
 use Rattle.law_register.specs.declared.desk.command_fault.CommandFault.TheVariants as fails
-use Rattle.law_register.specs.declared.law.command.Command.{Command}
 use Rattle.law_register.specs.declared.register.entry.Entry.{Entry}
 use Rattle.law_register.specs.declared.register.verdict.Reply.{Reply}
 use Rattle.law_register.specs.declared.register.verdict.Verdict.TheVariants.{Accepted}
@@ -11,7 +10,6 @@ use Rattle.law_register.specs.Register.Entering.{entered}
 use Rattle.law_register.specs.Register.Verdicts.{verdict}
 use Rattle.law_office.specs.Offices.{pending_of}
 use Rattle.law_office.specs.declared.book.Book.{Book}
-use Rattle.law_office.specs.declared.book.Pending.{Pending}
 
 -- the entries once it is known of the one that was pending whether it was found
 abbrev pub resolved : List Entry → Option Entry → Option ℕ → List Entry

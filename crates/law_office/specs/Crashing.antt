@@ -1,5 +1,5 @@
 -- What a crash leaves of an office, by what it leaves of the office's keeper.
-use Rattle.std.specs.Prelude.{ℕ, ◌≡◌, ◌⊎◌}
+use Rattle.std.specs.Prelude.{◌≡◌, ◌⊎◌}
 use Rattle.desk_base.specs.Crashes.{AreCrashes, Crashes}
 use Rattle.law_journal.specs.Grammar.{Listing}
 use Rattle.law_keeper.specs.Keepers.{Holding, IsHolding, LeavesOnly}

@@ -1,5 +1,5 @@
 -- What an office has, and how it stands to its keeper.
-use Rattle.std.specs.Prelude.{ℕ, true, ◌≡◌, ◌≢◌, ◌≤◌, List, [], ◌∷◌, length, All, Option, Some, None, IfSome, Ok}
+use Rattle.std.specs.Prelude.{ℕ, true, ◌≡◌, ◌≢◌, ◌≤◌, ◌+◌, ◌-◌, ◌^◌, List, [], ◌∷◌, length, All, Option, Some, None, IfSome, IsSome, Ok, max, min}
 use Rattle.std.specs.Option.{option_map}
 use Rattle.indexmap.specs.IndexMap.{IndexMap, spare}
 use Rattle.law_journal.specs.Grammar.{Listing}
@@ -20,8 +20,8 @@ use Rattle.law_office.specs.declared.book.Book.{Book}
 use Rattle.law_office.specs.declared.book.Pending.{Pending}
 
 -- what contracts see of an office: its keeper and its clock as they are now, its entries, the one that is pending,
--- the marks of faults, the keys of what it keeps of past viewpoints, and the names of the keeper and the clock that it
--- was lent
+-- the marks of faults, the keys of what it keeps of past viewpoints, its keeper's count of faults when it was made, and
+-- its origin
 pub record OfficeState (K C : Type 0) : Type 0 where
   pub keeper : K
   pub clock : C
@@ -29,11 +29,25 @@ pub record OfficeState (K C : Type 0) : Type 0 where
   pub pending : Option Entry
   pub marks : List FaultMark
   pub past : List PastKey
+  pub opened : ℕ
   pub origin : List ℕ
 
 -- the names of a keeper and a clock
 abbrev pub names_of : ℕ → ℕ → List ℕ
 names_of keeper clock = keeper ∷ clock ∷ []
+
+-- where an office comes from: the names of the keeper and the clock that it was lent, and the keeper's count of faults
+-- when it was made
+abbrev pub origin_of : ℕ → ℕ → ℕ → List ℕ
+origin_of keeper clock opened = keeper ∷ clock ∷ opened ∷ []
+
+-- where an entry is pending, a fault of the keeper left a mark
+abbrev pub IsMarked : Option Entry → List FaultMark → Type 0
+IsMarked pending marks = IsSome pending → marks ≢ []
+
+-- a keeper's count of faults rose by one for each mark; it stands still at its last value
+abbrev pub RoseWith : List FaultMark → ℕ → ℕ → Type 0
+RoseWith marks before now = now ≡ max before (min (before + length marks) (2 ^ 64 - 1))
 
 -- the entry that is pending, if there is one
 abbrev pub pending_of : Option Pending → Option Entry

@@ -1,4 +1,5 @@
-//! Laws of openings. Each law is a function that does nothing, whose clause is the law.
+//! Laws of openings, and of offices that threads use in turn. Each law of an opening is a function that does nothing,
+//! whose clause is the law.
 
 ghost use Rattle.std.specs.Prelude.{◌≡◌, ◌++◌, ◌∷◌, [], true, List, Ok};
 ghost use Rattle.law_journal.specs.Grammar.{Listing};
@@ -8,6 +9,10 @@ ghost use Rattle.law_register.specs.Register.Verdicts.{is_legal};
 ghost use Rattle.law_register.specs.declared.register.entry.Entry.{Entry};
 ghost use Rattle.entry_codec.specs.Entries.{keeps_rules};
 ghost use Rattle.law_office.specs.Opening.{HasBytes, opened, opened_of, spellings};
+
+use crate::Office;
+use desk_base::Clock;
+use law_keeper::Keeper;
 
 /// The spellings of legal entries that keep the rules of the format are opened as exactly these entries.
 pub fn spelled_entries_are_opened()
@@ -27,3 +32,19 @@ pub fn opened_entries_are_legal()
     ensures kept { (list : Listing) (entries : List Entry) → HasBytes list → opened_of list ≡ Ok entries
         → list_all keeps_rules entries ≡ true }
 {}
+
+// Takes what may cross threads, and gives it back.
+fn crossed<T: Send>(value: T) -> T
+    ensures { result ≡ value }
+{
+    value
+}
+
+/// An office may cross threads where its keeper and its clock may: it is given back as it came.
+pub fn offices_may_cross_threads<'k, 'c, K: Keeper + Send, C: Clock + Send>(
+    office: Office<'k, 'c, K, C>,
+) -> Office<'k, 'c, K, C>
+    ensures { result ≡ office.entry }
+{
+    crossed(office)
+}

@@ -1,5 +1,6 @@
 //! Office: a desk over a keeper and a clock that it is lent. A clause sees both as they are, its entries, the one
-//! that is pending, its marks, the keys of what it keeps of past viewpoints, and the names of what it was lent.
+//! that is pending, its marks, the keys of what it keeps of past viewpoints, its keeper's count of faults when it was
+//! made, and where it comes from.
 
 ghost use Rattle.std.specs.Prelude.{◌≡◌, ◌≢◌, ◌↔◌, ◌+◌, ◌<◌, ◌≤◌, [], true, None, Some, Ok, IfOk, IfErr, IfSome, IsTrue, is_some};
 ghost use Rattle.law_keeper.specs.Keepers.{Keeps, LeavesOldOrSame};
@@ -9,6 +10,7 @@ ghost use Rattle.law_register.specs.Answer.Asking.{answer_at};
 ghost use Rattle.law_register.specs.Answer.PastAsking.{AreKeysAfter, keys_asked, past_cost};
 ghost use Rattle.law_register.specs.Answer.Renewing.{opening_cost};
 ghost use Rattle.law_register.specs.Desk.Commands.{EndsWithin, HasCommandCause, LeavesBetween, LeavesNoMore, mark_of, marks_after};
+ghost use Rattle.law_register.specs.Desk.History.{history_of};
 ghost use Rattle.law_register.specs.Desk.States.{Found, IsDurable, IsFoundOf, IsSound, standing};
 ghost use Rattle.law_register.specs.Law.Spelling.{is_well_spelled};
 ghost use Rattle.law_register.specs.Register.KnownNext.{known_now};
@@ -19,7 +21,7 @@ ghost use Rattle.version_cache.specs.Seen.{table_view};
 ghost use Rattle.version_cache.specs.Tables as tables;
 ghost use Rattle.law_office.specs.Crashing.{crashes_of};
 ghost use Rattle.law_office.specs.Lists.{EndsOver};
-ghost use Rattle.law_office.specs.Offices.{HoldsBook, IsRight, Spells, desk_of, names_of, pending_of};
+ghost use Rattle.law_office.specs.Offices.{HoldsBook, IsRight, RoseWith, Spells, desk_of, names_of, origin_of, pending_of};
 ghost use Rattle.law_office.specs.Opening.{HasRefusalCause, Refuses, StaysUnlessFailed, cost_opened, opened_of};
 
 use crate::acting::command as do_command;
@@ -31,13 +33,15 @@ use frbr_names::WorkName;
 use law_keeper::Keeper;
 use law_register::laws::entries_are_legal;
 use law_register::{
-    Answer, AskFault, Command, CommandFault, Desk, Draft, Drafter, FaultMark, OpenFault, QueryRule,
-    Question, Reading, Register, Reply,
+    Answer, AskFault, Command, CommandFault, Desk, Draft, Drafter, Event, FaultMark, OpenFault,
+    QueryRule, Question, Reading, Register, Reply,
 };
 use replay_core::FromEnacted;
 use std::alloc::Global;
 use std::marker::Model;
+use std::snapshot::Snapshot;
 use std::sync::ledger::Ledger;
+use turn_lock::Held;
 use version_cache::Table;
 
 /// A keeper of which no office could be opened, and why.
@@ -66,11 +70,13 @@ pub struct Office<'k, 'c, K: Keeper, C: Clock> {
     keeper: &'k mut K,
     clock: &'c mut C,
     book: Book,
+    // The keeper as it was when the office was made.
+    opened: Snapshot<K>,
 }
 
 impl<'k, 'c, K: Keeper, C: Clock> Model for Office<'k, 'c, K, C> {
     ghost use Rattle.std.specs.Map.{keys_of};
-    ghost use Rattle.law_office.specs.Offices.{HoldsBook, IsRight, OfficeState, names_of, pending_of};
+    ghost use Rattle.law_office.specs.Offices.{HoldsBook, IsMarked, IsRight, OfficeState, RoseWith, origin_of, pending_of};
 
     ghost Value = { OfficeState K C };
 
@@ -87,10 +93,14 @@ impl<'k, 'c, K: Keeper, C: Clock> Model for Office<'k, 'c, K, C> {
       pending = pending_of o.book.pending;
       marks = o.book.marks.items;
       past = keys_of o.book.past;
-      origin = names_of o.keeper.ghost_name o.clock.ghost_name;
+      opened = K.faults o.opened.value;
+      origin = origin_of o.keeper.ghost_name o.clock.ghost_name (K.faults o.opened.value);
     } };
 
-    ghost invariant = { λ o. IsRight o.book × HoldsBook (K.holding o.keeper.now) (K.readiness o.keeper.now) o.book };
+    ghost invariant = { λ o. IsRight o.book
+        × HoldsBook (K.holding o.keeper.now) (K.readiness o.keeper.now) o.book
+        × IsMarked (pending_of o.book.pending) o.book.marks.items
+        × RoseWith o.book.marks.items (K.faults o.opened.value) (K.faults o.keeper.now) };
 }
 
 impl<'k, 'c, K: Keeper, C: Clock> Office<'k, 'c, K, C> {
@@ -124,8 +134,9 @@ impl<'k, 'c, K: Keeper, C: Clock> Office<'k, 'c, K, C> {
         ensures crash { IfOk result (λ office. LeavesOldOrSame (K.holding keeper.old) (K.holding office.keeper)) }
         ensures faults { IfOk result (λ office. K.faults office.keeper ≡ K.faults keeper.old) }
         ensures clock { IfOk result (λ office. office.clock ≡ clock.old) }
+        ensures count { IfOk result (λ office. office.opened ≡ K.faults keeper.old) }
         ensures origin { IfOk result (λ office. office.origin
-            ≡ names_of keeper.entry.ghost_name clock.entry.ghost_name) }
+            ≡ origin_of keeper.entry.ghost_name clock.entry.ghost_name (K.faults keeper.old)) }
         ensures past { IfOk result (λ office. office.past ≡ []) }
         ensures steps { (K.holding keeper.old).tells
             → steps.new ≤ steps.old + cost_opened (opened_of (K.holding keeper.old).list) }
@@ -141,31 +152,40 @@ impl<'k, 'c, K: Keeper, C: Clock> Office<'k, 'c, K, C> {
         }
     }
 
-    /// The office of a book that the keeper holds. It takes no memory.
+    /// The office of a book that was just opened, and that the keeper holds. It takes no memory.
     pub fn new(keeper: &'k mut K, clock: &'c mut C, book: Book) -> Office<'k, 'c, K, C>
         requires right { IsRight book }
         requires held { HoldsBook (K.holding keeper.old) (K.readiness keeper.old) book }
+        requires none_pending { book.pending ≡ None }
+        requires no_marks { book.marks.items ≡ [] }
         ensures entries { result.entries ≡ book.register.entries }
         ensures pending { result.pending ≡ pending_of book.pending }
         ensures marks { result.marks ≡ book.marks.items }
         ensures past { result.past ≡ keys_of book.past }
         ensures keeper { result.keeper ≡ keeper.old }
         ensures clock { result.clock ≡ clock.old }
-        ensures origin { result.origin ≡ names_of keeper.entry.ghost_name clock.entry.ghost_name }
+        ensures count { result.opened ≡ K.faults keeper.old }
+        ensures origin { result.origin
+            ≡ origin_of keeper.entry.ghost_name clock.entry.ghost_name (K.faults keeper.old) }
     {
+        let opened = Snapshot::of(&*keeper);
         Office {
             keeper,
             clock,
             book,
+            opened,
         }
     }
 
-    /// Gives keeper and clock back. The keeper's list spells the entries, with the one that is pending behind them or
-    /// not, and that list, and what a crash leaves of it, is opened so.
+    /// Gives keeper and clock back, which its origin names. The keeper's list spells the entries, with the one that is
+    /// pending behind them or not, and that list, and what a crash leaves of it, is opened so. The keeper's count of
+    /// faults rose by one for each mark since the office was made.
     pub fn close(self) -> Closed<'k, 'c, K, C>
         ensures keeper { result.keeper.now ≡ self.entry.keeper }
         ensures clock { result.clock.now ≡ self.entry.clock }
-        ensures names { names_of result.keeper.ghost_name result.clock.ghost_name ≡ self.entry.origin }
+        ensures names { origin_of result.keeper.ghost_name result.clock.ghost_name self.entry.opened
+            ≡ self.entry.origin }
+        ensures faults { RoseWith self.entry.marks self.entry.opened (K.faults result.keeper.now) }
         ensures list { (K.holding result.keeper.now).tells → Spells self.entry.entries self.entry.pending
             (K.holding result.keeper.now).list }
         ensures found { (K.holding result.keeper.now).tells → IsFoundOf self.entry.entries self.entry.pending
@@ -178,6 +198,7 @@ impl<'k, 'c, K: Keeper, C: Clock> Office<'k, 'c, K, C> {
             keeper,
             clock,
             book,
+            opened: _,
         } = self;
         drop(book);
         Closed { keeper, clock }
@@ -235,7 +256,23 @@ fn refuse_unknown(register: &Register, question: &Question) -> Result<Answer, As
     Err(AskFault::Query(QueryRule::UnknownWork(work)))
 }
 
+impl<'k, 'c, K: Keeper, C: Clock> Held for Office<'k, 'c, K, C> {
+    type Item = Event;
+
+    ghost use Rattle.law_register.specs.Desk.History.{history_of};
+    ghost use Rattle.law_office.specs.Offices.{desk_of};
+
+    ghost history = { λ office. history_of (desk_of K.faults C.days office) };
+
+    ghost origin = { λ office. office.origin };
+
+    fn count(&self) -> u64 {
+        self.book.count()
+    }
+}
+
 impl<'k, 'c, K: Keeper, C: Clock> Desk for Office<'k, 'c, K, C> {
+    ghost use Rattle.std.proofs.Common.{refl};
     ghost use Rattle.law_office.specs.Crashing.{crashes_are, crashes_of};
     ghost use Rattle.law_office.specs.Offices.{desk_of};
 
@@ -338,4 +375,8 @@ impl<'k, 'c, K: Keeper, C: Clock> Desk for Office<'k, 'c, K, C> {
     }
 
     ghost are_crashes = { λ office. crashes_are (K.holding office.keeper) (K.is_holding office.keeper) };
+
+    ghost history_is = { λ office. refl };
+
+    ghost origin_is = { λ office. refl };
 }

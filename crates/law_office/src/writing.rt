@@ -1,6 +1,6 @@
 //! What is written into a book. None of it takes memory but the room for a mark.
 
-ghost use Rattle.std.specs.Prelude.{◌≡◌, ◌≤◌, ◌<◌, ◌∷◌, ◌++◌, [], None, Ok, IfOk, OnOk, length, vec_len, vec_capacity};
+ghost use Rattle.std.specs.Prelude.{◌≡◌, ◌+◌, ◌≤◌, ◌<◌, ◌∷◌, ◌++◌, [], None, Ok, IfOk, OnOk, length, vec_len, vec_capacity};
 ghost use Rattle.indexmap.specs.IndexMap.{spare};
 ghost use Rattle.law_register.specs.Desk.Commands.{mark_of};
 ghost use Rattle.viewpoints.specs.Right as viewpoints;
@@ -12,9 +12,25 @@ ghost use Rattle.law_office.specs.Tables.{AreTablesOf, kept_in, table_on};
 use crate::book::{Book, Pending};
 use crate::renewing::apply;
 use desk_base::Memory;
-use law_register::{Drafter, Entry, FaultMark};
+use law_register::laws::entries_are_legal;
+use law_register::{Drafter, Entry, FaultMark, Register};
+
+// A register has few entries: each has a byte at least of those that a register may have.
+fn entries_are_few(register: &Register)
+    ensures { length register.now.entries ≤ 536870912 }
+{
+    entries_are_legal(register);
+}
 
 impl Book {
+    // How many entries and marks there are.
+    pub(crate) fn count(&self) -> u64
+        ensures { result ≡ length self.now.register.entries + length self.now.marks.items }
+    {
+        entries_are_few(&self.register);
+        self.register.len() as u64 + self.marks.len() as u64
+    }
+
     // Makes room for a mark, and the mark of a request.
     pub(crate) fn reserve_mark(
         &mut self,

@@ -15,7 +15,7 @@ pub use answer::{
     Reading, Replayer, Touched, Unapplied, Version, answer_by, answer_dated, continue_replay,
     enact,
 };
-pub use desk::{CommandFault, Damage, Desk, FaultMark, OpenFault};
+pub use desk::{CommandFault, Damage, Desk, Event, FaultMark, OpenFault};
 pub use law::{Act, Command, Destination, Kind, ModSource, Modification, Mods, entry_size};
 pub use register::{
     Draft, DraftItem, Drafter, EnterFault, Entry, Known, KnownMod, KnownMods, Register, Reply,

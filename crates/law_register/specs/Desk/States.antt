@@ -1,5 +1,5 @@
 -- What contracts alone see of a desk.
-use Rattle.std.specs.Prelude.{ℕ, ◌≡◌, ◌⊎◌, ◌≤◌, true, List, [], ◌∷◌, ◌++◌, length, All, Option, None, Some, IfSome, Result, Ok}
+use Rattle.std.specs.Prelude.{ℕ, ◌≡◌, ◌≢◌, ◌⊎◌, ◌≤◌, true, List, [], ◌∷◌, ◌++◌, length, All, Option, None, Some, IfSome, IsSome, Result, Ok}
 use Rattle.desk_base.specs.Crashes.{Crashes}
 use Rattle.law_register.specs.declared.desk.damage.Damage.{Damage}
 use Rattle.law_register.specs.declared.desk.fault_mark.FaultMark.{FaultMark}
@@ -45,10 +45,11 @@ abbrev pub IsFoundOf : List Entry → Option Entry → Found → Type 0
 IsFoundOf entries None found = found ≡ Ok entries
 IsFoundOf entries (Some entry) found = (found ≡ Ok entries) ⊎ (found ≡ Ok (entries ++ entry ∷ []))
 
--- an entry that is pending may stand behind the others, and each mark was made when so many entries stood as there
--- are, or fewer
+-- an entry that is pending may stand behind the others, and a fault of the keeper left a mark when it became so; each mark
+-- was made when so many entries stood as there are, or fewer
 pub record IsSound (state : DeskState) : Type 0 where
   pub pending : IfSome state.pending (MayFollow state.entries)
+  pub marked : IsSome state.pending → state.marks ≢ []
   pub marks : All (λ mark. mark.entries ≤ length state.entries) state.marks
 
 -- where it is told: after a crash the entries are found, with the one that is pending or without it

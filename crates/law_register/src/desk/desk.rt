@@ -9,20 +9,24 @@ ghost use Rattle.law_register.specs.Answer.Asking.{answer_at};
 ghost use Rattle.law_register.specs.Answer.PastAsking.{AreKeysAfter, keys_asked, past_cost};
 ghost use Rattle.law_register.specs.Answer.Previews.{preview_at, previewing_at};
 ghost use Rattle.law_register.specs.Desk.Commands.{EndsWithin, HasCommandCause, LeavesBetween, LeavesNoMore, mark_of, marks_after};
+ghost use Rattle.law_register.specs.Desk.History.{history_of};
 ghost use Rattle.law_register.specs.Desk.States.{DeskState, Found, IsDurable, IsSound, standing};
 ghost use Rattle.law_register.specs.Law.Spelling.{is_well_spelled};
 ghost use Rattle.law_register.specs.Register.Drafts.{draft_of};
 ghost use Rattle.law_register.specs.Register.LawList.{front};
 ghost use Rattle.law_register.specs.declared.answer.past_key.PastKey.{PastKey};
 
-use crate::{Answer, AskFault, Command, CommandFault, Draft, Drafter, Question, Register, Reply};
+use crate::{
+    Answer, AskFault, Command, CommandFault, Draft, Drafter, Event, Question, Register, Reply,
+};
 use desk_base::{Memory, Steps};
 use std::alloc::Global;
 use std::sync::ledger::Ledger;
+use turn_lock::Held;
 
 /// A register that takes commands and answers questions. Whatever keeps its entries may fail: then the entry of a
 /// command is pending until the next command finds out whether it was kept.
-pub trait Desk {
+pub trait Desk: Held<Item = Event> {
     /// What contracts alone see of it.
     ghost state: { Self → DeskState };
 
@@ -111,4 +115,10 @@ pub trait Desk {
 
     /// What holds of each: this moment is one of those since an earlier one.
     ghost are_crashes: { (desk : Self) → AreCrashes (crashes desk) };
+
+    // Its history is that of its entries and its marks.
+    ghost history_is: { (desk : Self) → Self.history desk ≡ history_of (state desk) };
+
+    // Its origin is the names of what it was lent.
+    ghost origin_is: { (desk : Self) → Self.origin desk ≡ (state desk).origin };
 }

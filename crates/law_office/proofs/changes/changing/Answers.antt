@@ -1,4 +1,3 @@
-use Rattle.std.proofs.Common.{sym}
 use Rattle.law_office.specs.Tables.{kept_in}
 use Rattle.law_office.proofs.Following.{no_changes, none_right}
 use Rattle.law_office.proofs.changes.changing.Goals as goal

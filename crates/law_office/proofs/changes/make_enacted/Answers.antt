@@ -1,4 +1,4 @@
-use Rattle.std.proofs.Common.{◌≡◌, sym, subst, arith, Option, Some}
+use Rattle.std.proofs.Common.{sym, subst, arith, Option, Some}
 use Rattle.law_register.specs.declared.register.known.Known.{Known}
 use Rattle.law_register.proofs.Grown.{if_ok}
 use Rattle.version_cache.specs.Seen.{work_view}

@@ -1,4 +1,4 @@
-use Rattle.std.proofs.Common.{subst, Option, Some}
+use Rattle.std.proofs.Common.{subst, Option}
 use Rattle.law_register.specs.Register.KnownNext.{known_now}
 use Rattle.version_cache.specs.Seen.{work_view}
 use Rattle.version_cache.specs.Works.{WorkValue}

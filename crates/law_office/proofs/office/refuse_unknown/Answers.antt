@@ -1,5 +1,3 @@
-use Rattle.std.proofs.Common.{◌≡◌, ◌∙◌, sym, ap, List, ℕ, Err}
-use Rattle.law_register.specs.declared.answer.queries.QueryRule.TheVariants.{UnknownWork}
 use Rattle.law_office.proofs.Asked.{unknown_answer}
 use Rattle.law_office.proofs.office.refuse_unknown.Goals as goal
 

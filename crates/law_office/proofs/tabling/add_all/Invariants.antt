@@ -1,5 +1,5 @@
 -- What is kept so far is right, and what is left costs what is left of all.
-use Rattle.std.proofs.Common.{◌≡◌, ◌+◌, ◌≤◌, drop}
+use Rattle.std.proofs.Common.{◌+◌, ◌≤◌, drop}
 use Rattle.std.specs.List.{sum_by}
 use Rattle.law_register.specs.Answer.Renewing.{costs_from}
 use Rattle.law_register.specs.Register.KnownNext.{known_now}

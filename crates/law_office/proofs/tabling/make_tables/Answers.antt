@@ -1,4 +1,4 @@
-use Rattle.std.proofs.Common.{◌≡◌, ap, arith, ℕ, List}
+use Rattle.std.proofs.Common.{ap, arith, ℕ, List}
 use Rattle.std.proofs.lemmas.List.Sorted.{sum_by-IsPermutation}
 use Rattle.std.specs.List.{sum_by}
 use Rattle.law_register.specs.Answer.Renewing.{costs_from, opening_cost}

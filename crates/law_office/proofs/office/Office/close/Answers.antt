@@ -16,3 +16,6 @@ returns-clause-durable g c =
     let office = c.self.inside in
     rw (sym c.self.view_is)
     (found_after office.book c.self.invariant.0 (g.K.Keeper.holding office.keeper.now) (g.K.Keeper.readiness office.keeper.now) c.self.invariant.1)
+
+pub returns-clause-faults : goal.returns-clause-faults
+returns-clause-faults g c = rw (sym c.self.view_is) c.self.invariant.3

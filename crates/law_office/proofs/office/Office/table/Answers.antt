@@ -1,10 +1,9 @@
-use Rattle.std.proofs.Common.{◌≡◌, ◌∙◌, sym, ap, subst, Option, Some, is_some, option_map}
+use Rattle.std.proofs.Common.{◌∙◌, sym, ap, subst, Option, is_some, option_map}
 use Rattle.law_register.specs.declared.register.known.Known.{Known}
 use Rattle.law_register.specs.Register.KnownNext.{known_now}
 use Rattle.version_cache.specs.declared.work_tables.WorkTables.{WorkTables}
 use Rattle.version_cache.specs.Seen.{work_view}
 use Rattle.version_cache.specs.Tables.{IsRight, TableValue}
-use Rattle.version_cache.specs.Works.{IsForIf}
 use Rattle.law_office.specs.Tables.{Matches}
 use Rattle.law_office.proofs.Asked.{in_reading, is_known, right_in}
 use Rattle.law_office.proofs.office.Office.table.Goals as goal

@@ -1,6 +1,38 @@
 use Rattle.std.proofs.Common.{sym}
+use Rattle.law_register.specs.Desk.Commands.{mark_of}
+use Rattle.law_office.specs.Offices.{standing_of}
 use Rattle.law_office.proofs.Images.{rests_on, found_after, found_between}
+use Rattle.law_office.proofs.Marking.{marked_after, rises_with, sound_of}
 use Rattle.law_office.proofs.office.OfficeDesk.command.Goals as goal
+
+pub invariant_of-self : goal.invariant_of-self
+invariant_of-self g c =
+    let office = c.self.inside in
+    let old = office.book in
+    let new = c.command.new.book in
+    let days = g.C.Clock.days in
+    let faults = g.K.Keeper.faults in
+    let drafter = c.in-Ok.drafter in
+    let mark = mark_of drafter c.args.request new.register.entries in (
+      c.command.ensures.right,
+      c.command.ensures.held,
+      marked_after drafter c.args.request c.args.command (standing_of old (days office.clock.now)) (standing_of new (days c.command.new.clock))
+          old.marks.items new.marks.items mark c.command.result c.command.ensures.outcome.ends c.command.ensures.marks c.self.invariant.2,
+      rises_with old.marks.items new.marks.items mark (faults office.opened.value) (faults office.keeper.now) (faults c.command.new.keeper)
+          c.command.result c.command.ensures.marks c.command.ensures.cause c.self.invariant.3,
+    )
+
+pub returns-in-Ok-clause-sound : goal.returns-in-Ok-clause-sound
+returns-in-Ok-clause-sound g c =
+    let office = c.self.inside in
+    let old = office.book in
+    let new = c.command.new.book in
+    let days = g.C.Clock.days in
+    let drafter = c.in-Ok.drafter in
+    let mark = mark_of drafter c.args.request new.register.entries in
+    sound_of new _ _ _ c.command.ensures.right
+    (marked_after drafter c.args.request c.args.command (standing_of old (days office.clock.now)) (standing_of new (days c.command.new.clock))
+    old.marks.items new.marks.items mark c.command.result c.command.ensures.outcome.ends c.command.ensures.marks c.self.invariant.2)
 
 pub returns-in-Ok-clause-crash : goal.returns-in-Ok-clause-crash
 returns-in-Ok-clause-crash g c =
