@@ -1,6 +1,6 @@
 -- A response that says 201 has its entry among those of the desk behind it.
-use Rattle.std.proofs.Common.{◌≡◌, ◌∙◌, sym, ap, refl, ℕ, ◌==◌, Bool, true, false, cond, not, ◌&&◌, ◌⊎◌, inl, inr, List, [], ◌∷◌, ◌++◌, Option, None, Some, Result, Ok, Err, append_assoc}
-use Rattle.std.specs.Prelude.{◌≢◌, IsTrue, codes}
+use Rattle.std.proofs.Common.{◌≡◌, ◌∙◌, sym, ap, refl, ℕ, ◌==◌, Bool, true, false, cond, not, ◌&&◌, inl, inr, List, [], ◌∷◌, ◌++◌, Option, None, Some, Result, Ok, Err, append_assoc}
+use Rattle.std.specs.Prelude.{◌≢◌, codes}
 use Rattle.std.specs.List.{starts_with}
 use Rattle.serde_json.specs.Written.{compact_text}
 use Rattle.std.specs.Option.{option_map_or, option_or}
@@ -11,8 +11,7 @@ use Rattle.law_register.proofs.Puts.{bytes_same, left_true, number_same, right_t
 use Rattle.desk_base.specs.Crashes.{AreCrashes, Crashes}
 use Rattle.law_register.specs.Answer.Asking.{answer_at}
 use Rattle.law_register.specs.Answer.Previews.{preview_at}
-use Rattle.law_register.specs.Desk.Commands.{Ends}
-use Rattle.law_register.specs.Desk.States.{DeskState, Found, standing}
+use Rattle.law_register.specs.Desk.States.{DeskState, Found}
 use Rattle.law_register.specs.declared.answer.past_key.PastKey.{PastKey}
 use Rattle.law_register.specs.Law.Same.{same_command}
 use Rattle.law_register.specs.Register.Drafts.{draft_of, is_by}
@@ -34,14 +33,14 @@ use Rattle.law_http.specs.Asking.{asking_of, question_at, question_previewed}
 use Rattle.law_http.specs.Lasting.{AreAcknowledged, BeginWith, Holds, HoldsAsked, IsKept, is_created}
 use Rattle.law_http.specs.Refusals.{request_reply}
 use Rattle.law_http.specs.Responses.{Reply, Says, reply, reply_bytes}
-use Rattle.law_http.specs.Serving.{Does, SaysOutcome, Serves, ServesAsking, ServesCommand, answer_reply, draft_reply, front_reply, query_status, rule_reply, rule_status}
+use Rattle.law_http.specs.Serving.{Does, SaysOutcome, ServesAsking, answer_reply, draft_reply, front_reply, query_status, rule_reply, rule_status}
 use Rattle.law_http.specs.Streaming.{AreServed, Exchange}
 use Rattle.law_http.specs.declared.asking.Asking.{Asking}
 use Rattle.law_http.specs.declared.asking.Asking.TheVariants as asks
 use Rattle.law_http.specs.declared.refusal.RequestRefusal.{RequestRefusal}
 use Rattle.law_http.specs.declared.refusal.RequestRefusal.TheVariants.{NoRoute, WrongMethod, BadForm}
 use Rattle.law_http.specs.declared.response.Response.{Response}
-use Rattle.law_http.specs.declared.response.Response.TheVariants.{Made, MemoryFault, KeeperFault}
+use Rattle.law_http.specs.declared.response.Response.TheVariants.{MemoryFault, KeeperFault}
 use Rattle.law_http.specs.declared.status.Allow.{Allow}
 use Rattle.law_http.specs.declared.status.Status.{Status}
 use Rattle.law_http.specs.declared.status.Status.TheVariants as status
@@ -190,7 +189,7 @@ outcome_holds state crashes past last asked old new (Err (fails.Rule rule)) resp
 outcome_holds state crashes past last asked old new (Err fails.KeeperFault) response does says is = no_other response is (ap is_created says ∙ keeper_other last)
 outcome_holds state crashes past last asked old new (Err fails.Memory) response does says is = no_other response is (ap is_created says ∙ memory_other)
 
-asking_holds : {D : Type 0} (state : D → DeskState) (crashes : D → Crashes Found) (past : D → List PastKey) (last : Bool) (asking : Result Asking RequestRefusal) (old new : D) (response : Response)
+pub asking_holds : {D : Type 0} (state : D → DeskState) (crashes : D → Crashes Found) (past : D → List PastKey) (last : Bool) (asking : Result Asking RequestRefusal) (old new : D) (response : Response)
     → ServesAsking state crashes past last asking old new response → is_created response ≡ true → (asked : Asked) × (asking ≡ Ok (asks.Command asked)) × Holds asked (state new).entries
 asking_holds state crashes past last (Err refusal) old new response (stays, says) is = no_other response is (says_other (request_reply refusal last) response (request_other refusal last) says)
 asking_holds state crashes past last (Ok asks.Front) old new response (stays, says) is =
@@ -206,7 +205,7 @@ asking_holds state crashes past last (Ok (asks.Command asked)) old new response 
 asking_holds state crashes past last (Ok (asks.Command asked)) old new response (inr (result, does, says)) is =
     (asked, refl, outcome_holds state crashes past last asked old new result response does says is)
 
-holds_more : (asked : Asked) (a b : List Entry) → BeginWith a b → Holds asked a → Holds asked b
+pub holds_more : (asked : Asked) (a b : List Entry) → BeginWith a b → Holds asked a → Holds asked b
 holds_more asked a b (more, is) h = record {
   before = h.before;
   entry = h.entry;
@@ -217,7 +216,7 @@ holds_more asked a b (more, is) h = record {
   command = h.command;
 }
 
-asked_more : (e : Exchange) (a b : List Entry) → BeginWith a b → HoldsAsked e a → HoldsAsked e b
+pub asked_more : (e : Exchange) (a b : List Entry) → BeginWith a b → HoldsAsked e a → HoldsAsked e b
 asked_more e a b begins (asked, is, holds) = (asked, is, holds_more asked a b begins holds)
 
 acknowledged_more : (es : List Exchange) (a b : List Entry) → BeginWith a b → AreAcknowledged a es → AreAcknowledged b es

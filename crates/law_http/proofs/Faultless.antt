@@ -31,7 +31,7 @@ use Rattle.law_http.specs.declared.streaming.Served.{Served}
 use Rattle.law_http.specs.declared.streaming.StreamEnd.{StreamEnd}
 use Rattle.law_http.specs.declared.streaming.StreamEnd.TheVariants as ends
 
-said_whole : (r : Reply) (response : Response) → Says r response → response ≢ MemoryFault → response_bytes response ≡ reply_bytes r
+pub said_whole : (r : Reply) (response : Response) → Says r response → response ≢ MemoryFault → response_bytes response ≡ reply_bytes r
 said_whole r response (inl made) had = ap response_bytes made
 said_whole r response (inr fault) had = absurd (had fault)
 

@@ -1,8 +1,8 @@
 -- The entries only grow along the requests that are answered, and what is kept of them stays kept.
 use Rattle.std.proofs.Common.{◌≡◌, ◌∙◌, sym, ap, subst, refl, ℕ, ◌≤◌, Bool, ◌⊎◌, inl, inr, List, [], ◌∷◌, ◌++◌, Option, None, Some, Result, Ok, Err, append_assoc, arith}
 use Rattle.std.proofs.lemmas.List.{append-nil}
-use Rattle.desk_base.specs.Crashes.{AreCrashes, Crashes, LeavesOnly, LeavesSince}
-use Rattle.law_register.specs.Desk.Commands.{AreSettled, Ends, IsFoundBetween, LeavesBetween, LeavesNoMore}
+use Rattle.desk_base.specs.Crashes.{AreCrashes, Crashes, LeavesOnly}
+use Rattle.law_register.specs.Desk.Commands.{AreSettled, Ends, IsFoundBetween, LeavesNoMore}
 use Rattle.law_register.specs.Desk.States.{DeskState, Found, IsFoundOf, Standing, standing}
 use Rattle.law_register.specs.declared.answer.past_key.PastKey.{PastKey}
 use Rattle.law_register.specs.Register.Entering.{entered, entered_by, entry_of}
@@ -18,7 +18,7 @@ use Rattle.law_register.specs.declared.register.verdict.Verdict.TheVariants.{Acc
 use Rattle.akn_json.specs.declared.asked.Asked.{Asked}
 use Rattle.law_http.specs.Asking.{asking_of}
 use Rattle.law_http.specs.Lasting.{BeginWith, FindsAfter, IsFoundAmong, IsKept, StoodAmong}
-use Rattle.law_http.specs.Serving.{Does, Serves, ServesAsking, ServesCommand}
+use Rattle.law_http.specs.Serving.{Does, Serves, ServesAsking}
 use Rattle.law_http.specs.Streaming.{AreServed, Exchange}
 use Rattle.law_http.specs.declared.asking.Asking.{Asking}
 use Rattle.law_http.specs.declared.asking.Asking.TheVariants as asks
@@ -31,7 +31,7 @@ begins_same a b e = ([], e ∙ sym (append-nil a))
 pub begins_then : (a b c : List Entry) → BeginWith a b → BeginWith b c → BeginWith a c
 begins_then a b c (xs, first) (ys, second) = (xs ++ ys, second ∙ ap (λ l. l ++ ys) first ∙ append_assoc a xs ys)
 
-settled_begin : (entries : List Entry) (pending : Option Entry) (settled : List Entry) → AreSettled entries pending settled → BeginWith entries settled
+pub settled_begin : (entries : List Entry) (pending : Option Entry) (settled : List Entry) → AreSettled entries pending settled → BeginWith entries settled
 settled_begin entries None settled is = begins_same entries settled is
 settled_begin entries (Some e) settled (inl is) = begins_same entries settled is
 settled_begin entries (Some e) settled (inr is) = (e ∷ [], is)
@@ -47,7 +47,7 @@ by_verdict es d r day c (Accepted law first) now reply h = (entry_of d r day law
 by_verdict es d r day c (Repeat first) now reply h = begins_same es now (sym (ap (λ x. entries_in x []) h))
 by_verdict es d r day c (Refused rule) now reply h = absurd (cc)
 
-entered_begin : (es : List Entry) (d : List ℕ) (r day : ℕ) (c : Command) (now : List Entry) (reply : Outcome) → entered es d r day c ≡ Ok (now, reply) → BeginWith es now
+pub entered_begin : (es : List Entry) (d : List ℕ) (r day : ℕ) (c : Command) (now : List Entry) (reply : Outcome) → entered es d r day c ≡ Ok (now, reply) → BeginWith es now
 unfolding entered
 entered_begin es d r day c now reply h = by_verdict es d r day c (verdict es d r c) now reply h
 
@@ -62,7 +62,7 @@ ends_begin d r c old new (Err fails.Memory) (inr is) = settled_begin old.entries
 
 -- what one answer keeps of a desk of which it is told what a crash leaves: the entries grow, and a crash leaves what was found before, or what one of
 -- both has
-record Step {D : Type 0} (state : D → DeskState) (crashes : D → Crashes Found) (old new : D) : Type 0 where
+pub record Step {D : Type 0} (state : D → DeskState) (crashes : D → Crashes Found) (old new : D) : Type 0 where
   pub grows : BeginWith (state old).entries (state new).entries
   pub kept : IsKept state crashes old → IsKept state crashes new
   pub later : IsKept state crashes old → (crashes old).moment ≤ (crashes new).moment
@@ -110,7 +110,7 @@ asking_step state crashes past last (Ok (asks.Draft drafter)) old new response (
 asking_step state crashes past last (Ok (asks.Command asked)) old new response (inl (stays, says)) = same_step state crashes old new stays.same stays.crash
 asking_step state crashes past last (Ok (asks.Command asked)) old new response (inr (result, does, says)) = does_step state crashes past asked old new result does
 
-step_of : {D : Type 0} (state : D → DeskState) (crashes : D → Crashes Found) (past : D → List PastKey) (e : Exchange) (old new : D) → Serves state crashes past e.request old new e.response → Step state crashes old new
+pub step_of : {D : Type 0} (state : D → DeskState) (crashes : D → Crashes Found) (past : D → List PastKey) (e : Exchange) (old new : D) → Serves state crashes past e.request old new e.response → Step state crashes old new
 step_of state crashes past e old new serves = asking_step state crashes past e.request.last (asking_of e.request) old new e.response serves
 
 pub entries_grow : {D : Type 0} (state : D → DeskState) (crashes : D → Crashes Found) (past : D → List PastKey) (es : List Exchange) (old new : D) → AreServed state crashes past es old new → BeginWith (state old).entries (state new).entries

@@ -2,12 +2,16 @@ pub mod Acknowledged
 pub mod Answered
 pub mod Apart
 pub mod Buffers
+pub mod Connected
+pub mod Counting
 pub mod CutShort
 pub mod Determined
 pub mod EmptyLines
 pub mod Faultless
 pub mod Growing
 pub mod HeadEnds
+pub mod Histories
+pub mod InTurn
 pub mod Kept
 pub mod LastHeard
 pub mod Lengths

@@ -1,5 +1,5 @@
 -- A repeat gets the first reply, and changes nothing.
-use Rattle.std.proofs.Common.{◌≡◌, ◌∙◌, ap, subst, ℕ, Bool, true, not, List, Option, Some, Result, Ok}
+use Rattle.std.proofs.Common.{◌≡◌, ◌∙◌, ap, ℕ, true, not, List, Option, Some, Ok}
 use Rattle.std.specs.Option.{option_map_or}
 use Rattle.law_register.proofs.Equality.{commands_decide}
 use Rattle.law_register.specs.Law.Same.{same_command}

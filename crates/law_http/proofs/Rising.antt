@@ -1,5 +1,5 @@
 -- What holds along the requests that are answered: the counts of faults, and the names of what the desk was lent.
-use Rattle.std.proofs.Common.{◌≡◌, ◌∙◌, sym, ap, refl, ℕ, ◌+◌, ◌-◌, ◌^◌, ◌≤◌, max, min, Bool, ◌⊎◌, inl, inr, List, [], ◌∷◌, Result, Ok, Err, arith}
+use Rattle.std.proofs.Common.{◌≡◌, ◌∙◌, ap, refl, ℕ, ◌+◌, ◌-◌, ◌^◌, max, min, Bool, inl, inr, List, [], ◌∷◌, Result, Ok, Err, arith}
 use Rattle.desk_base.specs.Crashes.{Crashes}
 use Rattle.law_register.specs.Desk.Commands.{HasCommandCause}
 use Rattle.law_register.specs.Desk.States.{DeskState, Found}
@@ -14,7 +14,7 @@ use Rattle.law_register.specs.Register.LawList.{front}
 use Rattle.law_http.specs.Asking.{asking_of, question_at, question_previewed}
 use Rattle.law_http.specs.Refusals.{request_reply}
 use Rattle.law_http.specs.Responses.{Reply, Says}
-use Rattle.law_http.specs.Serving.{SaysOutcome, Serves, ServesAsking, ServesCommand, answer_reply, draft_reply, front_reply, rule_reply}
+use Rattle.law_http.specs.Serving.{SaysOutcome, ServesAsking, ServesCommand, answer_reply, draft_reply, front_reply, rule_reply}
 use Rattle.law_http.specs.Streaming.{AreServed, Exchange, RoseBy, fault_told, faults_told}
 use Rattle.law_http.specs.declared.asking.Asking.{Asking}
 use Rattle.law_http.specs.declared.asking.Asking.TheVariants as asks

@@ -1,15 +1,15 @@
 -- How what is heard, said and written goes on behind a request that is answered.
-use Rattle.std.proofs.Common.{◌≡◌, ◌∙◌, sym, ap, subst, refl, ℕ, zero, suc, ◌+◌, Bool, true, false, ◌⊎◌, inl, inr, List, [], ◌∷◌, ◌++◌, map, Option, None, Some, Result, Ok, Err, append_assoc, arith}
-use Rattle.std.specs.Prelude.{◌≢◌, ◌≤◌, ◌↔◌, ◌||◌, IsTrue, IsFalse}
+use Rattle.std.proofs.Common.{◌≡◌, ◌∙◌, sym, ap, subst, refl, ℕ, zero, suc, ◌+◌, Bool, true, false, inl, inr, List, [], ◌∷◌, ◌++◌, Option, None, Some, Result, Ok, Err, append_assoc, arith}
+use Rattle.std.specs.Prelude.{◌≢◌, ◌↔◌, ◌||◌, IsTrue, IsFalse}
 use Rattle.std.specs.Io.KnownBytes.{append_known, prepend_known}
 use Rattle.std.proofs.lemmas.List.{append-nil}
 use Rattle.desk_base.specs.Streams.{Appended, AppendsFront, HasCause}
 use Rattle.desk_base.specs.declared.source.Failed.{Failed}
-use Rattle.law_http.specs.Hearing.{AreHeard, HoldsNoRequest, IsHeardOf}
+use Rattle.law_http.specs.Hearing.{HoldsNoRequest, IsHeardOf}
 use Rattle.law_http.specs.Responses.{response_bytes}
-use Rattle.law_http.specs.Streaming.{AppendsAll, AreCut, AreGivenUp, AreHeardFirst, ArePut, AreWritten, EndsAs, HadMemory, HearsAll, HearsFirst, HearsUntil, responses_bytes}
+use Rattle.law_http.specs.Streaming.{AppendsAll, AreCut, ArePut, EndsAs, HearsAll, HearsFirst, HearsUntil, responses_bytes}
 use Rattle.law_http.specs.Streams.{KeepsRequest}
-use Rattle.law_http.specs.Turns.{IsPut, IsPutInPart, PutsBefore, end_after, end_behind}
+use Rattle.law_http.specs.Turns.{PutsBefore, end_after, end_behind}
 use Rattle.law_http.specs.declared.heard.Heard.{Heard}
 use Rattle.law_http.specs.declared.heard.Heard.TheVariants as heard
 use Rattle.law_http.specs.declared.heard.Request.{Request}

@@ -1,5 +1,5 @@
 -- What lasts of what a stream was told, whenever the machine stops.
-use Rattle.std.specs.Prelude.{◌≡◌, ◌⊎◌, ℕ, ◌≤◌, List, [], ◌∷◌, ◌++◌, Bool, ◌==◌, IsTrue, codes, Result, Ok}
+use Rattle.std.specs.Prelude.{◌≡◌, List, ◌∷◌, ◌++◌, Bool, ◌==◌, IsTrue, codes, Ok}
 use Rattle.std.specs.List.{AllByRecursion, starts_with}
 use Rattle.akn_json.specs.declared.asked.Asked.{Asked}
 use Rattle.desk_base.specs.Crashes.{Crashes}

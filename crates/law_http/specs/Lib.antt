@@ -13,5 +13,7 @@ pub mod Routes
 pub mod Streams
 pub mod Serving
 pub mod Streaming
+pub mod Exchanges
 pub mod Turns
 pub mod Lasting
+pub mod Connections

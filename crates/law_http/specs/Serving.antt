@@ -1,5 +1,5 @@
 -- What a desk serves: what it answers to a request, and what comes of the desk.
-use Rattle.std.specs.Prelude.{◌≡◌, ◌≤◌, ◌⊎◌, ℕ, ◌+◌, nat_lt, Bool, true, false, if◌then◌else◌, List, [], ◌∷◌, ◌++◌, length, codes, Option, None, Some, Result, Ok, Err}
+use Rattle.std.specs.Prelude.{◌≡◌, ◌≤◌, ◌⊎◌, ℕ, ◌+◌, nat_lt, Bool, if◌then◌else◌, List, ◌++◌, codes, None, Result, Ok, Err}
 use Rattle.std.proofs.Common.{inl, inr}
 use Rattle.std.specs.Fmt.{decimal}
 use Rattle.serde_json.specs.Written.{compact_text}
@@ -33,7 +33,6 @@ use Rattle.law_http.specs.Refusals.{request_reply}
 use Rattle.law_http.specs.Responses.{Reply, Says, reply, reply_bytes}
 use Rattle.law_http.specs.declared.asking.Asking.{Asking}
 use Rattle.law_http.specs.declared.asking.Asking.TheVariants as asks
-use Rattle.law_http.specs.declared.asking.TextAsked.{TextAsked}
 use Rattle.law_http.specs.declared.heard.Request.{Request}
 use Rattle.law_http.specs.declared.refusal.RequestRefusal.{RequestRefusal}
 use Rattle.law_http.specs.declared.response.Response.{Response}

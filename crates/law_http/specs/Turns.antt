@@ -1,15 +1,17 @@
--- What a turn of a stream comes to: one request is answered and the stream goes on, or the stream ends.
-use Rattle.std.specs.Prelude.{◌≡◌, ◌≢◌, ◌⊎◌, ◌↔◌, ℕ, ◌+◌, ◌≤◌, ◌<◌, ◌||◌, Bool, true, false, IsTrue, IsFalse, List, Option, None, Some, Result, Ok, Err}
+-- What a turn of a stream comes to, whatever answers its requests: one is answered and the stream goes on, or it ends.
+use Rattle.std.specs.Prelude.{◌≡◌, ◌≢◌, ◌⊎◌, ◌↔◌, ℕ, ◌≤◌, ◌<◌, ◌||◌, Bool, IsTrue, IsFalse, List, Option, None, Some, Result, Ok, Err}
 use Rattle.desk_base.specs.Crashes.{Crashes}
 use Rattle.desk_base.specs.Streams.{AppendsFront, risen}
 use Rattle.desk_base.specs.declared.source.Failed.{Failed}
 use Rattle.law_register.specs.Desk.States.{DeskState, Found}
 use Rattle.law_register.specs.declared.answer.past_key.PastKey.{PastKey}
+use Rattle.law_http.specs.Asking.{asking_of}
 use Rattle.law_http.specs.Hearing.{IsHeardOf}
 use Rattle.law_http.specs.Refusals.{message_reply}
 use Rattle.law_http.specs.Responses.{Says, response_bytes}
-use Rattle.law_http.specs.Serving.{Serves, serving_cost}
-use Rattle.law_http.specs.Streaming.{AppendsAll, IsStreamed, fault_told}
+use Rattle.law_http.specs.Exchanges.{IsServed}
+use Rattle.law_http.specs.Serving.{ServesWithin}
+use Rattle.law_http.specs.Streaming.{AppendsAll, fault_told}
 use Rattle.law_http.specs.declared.heard.HearFault.{HearFault}
 use Rattle.law_http.specs.declared.heard.HearFault.TheVariants as faults
 use Rattle.law_http.specs.declared.heard.Request.{Request}
@@ -75,32 +77,34 @@ abbrev pub SpendsTurn : Option StreamEnd → ℕ → ℕ → Type 0
 SpendsTurn None before now = now < before
 SpendsTurn (Some end) before now = now ≤ before
 
-module _ {D : Type 0} (state : D → DeskState) (crashes : D → Crashes Found) (past : D → List PastKey) where
+module _ {S : Type 0} (answers : Request → S → S → Response → Type 0) where
   -- a request that does not close the stream is answered
-  pub record IsExchanged (left rest before now : Option (List ℕ)) (old new : D) (steps later : ℕ) (told : Bool)
-      : Type 0 where
+  pub record IsExchanged (left rest before now : Option (List ℕ)) (old new : S) (told : Bool) : Type 0 where
     pub request : Request
     pub response : Response
     pub heard : IsHeardOf left rest (heard.Request request)
     pub goes_on : IsFalse request.last
-    pub serves : Serves state crashes past request old new response
+    pub answered : answers request old new response
     pub had_memory : response ≢ MemoryFault
     pub written : AppendsAll before now (response_bytes response)
     pub faulted : IsTrue told ↔ (fault_told response ≢ 0)
-    pub cost : later ≤ steps + serving_cost state crashes past request old new response serves
 
   -- a turn is taken, behind which the link has these bytes over
-  abbrev pub IsTurn : Option (List ℕ) → Option (List ℕ) → Option (List ℕ) → Option (List ℕ) → Option (List ℕ) → D → D
-      → ℕ → ℕ → Bool → Option StreamEnd → Type 0
-  IsTurn left rest over before now old new steps later told None =
-      IsExchanged left rest before now old new steps later told
-  IsTurn left rest over before now old new steps later told (Some end) =
-      IsStreamed state crashes past left over before now old new steps later (record { end = end; faulted = told })
+  abbrev pub IsTurn : Option (List ℕ) → Option (List ℕ) → Option (List ℕ) → Option (List ℕ) → Option (List ℕ) → S → S
+      → Bool → Option StreamEnd → Type 0
+  IsTurn left rest over before now old new told None = IsExchanged left rest before now old new told
+  IsTurn left rest over before now old new told (Some end) =
+      IsServed answers left over before now old new (record { end = end; faulted = told })
 
-  -- whatever is streamed from here on is streamed from the start
-  abbrev pub GoesOn : Option (List ℕ) → Option (List ℕ) → Option (List ℕ) → Option (List ℕ) → D → D → ℕ → ℕ → Bool
-      → Type 0
-  GoesOn left here before written old desk steps later told =
-      (over now : Option (List ℕ)) (new : D) (last : ℕ) (served : Served)
-      → IsStreamed state crashes past here over written now desk new later last served
-      → IsStreamed state crashes past left over before now old new steps last (with_fault told served)
+  -- whatever is served from here on is served from the start
+  abbrev pub GoesOn : Option (List ℕ) → Option (List ℕ) → Option (List ℕ) → Option (List ℕ) → S → S → Bool → Type 0
+  GoesOn left here before written old mid told =
+      (over now : Option (List ℕ)) (new : S) (served : Served)
+      → IsServed answers here over written now mid new served
+      → IsServed answers left over before now old new (with_fault told served)
+
+module _ {D : Type 0} (state : D → DeskState) (crashes : D → Crashes Found) (past : D → List PastKey) where
+  -- a request is answered by a response, the desk goes from the one to the other, and so many steps were taken before it, and after
+  abbrev pub ServesCounted : Request → D × ℕ → D × ℕ → Response → Type 0
+  ServesCounted request old new response =
+      ServesWithin state crashes past request.last (asking_of request) old.0 new.0 response old.1 new.1

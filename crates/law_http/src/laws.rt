@@ -1,14 +1,18 @@
 //! Laws of what is heard, what is put and what is served, each as the contract of a function with an empty body.
 
-ghost use Rattle.std.specs.Prelude.{◌≡◌, ◌≢◌, ◌≤◌, ◌<◌, ◌^◌, ℕ, List, Option, None, Some, length};
+ghost use Rattle.std.specs.Prelude.{◌≡◌, ◌≢◌, ◌≤◌, ◌<◌, ◌^◌, ℕ, true, List, Option, None, Some, length};
+ghost use mathlib.Core.List.{IsPrefix};
+ghost use Rattle.law_register.specs.Desk.History.{entries_of};
 ghost use Rattle.law_register.specs.Desk.States.{Found};
 ghost use Rattle.law_register.specs.Register.Entering.{entered};
-ghost use Rattle.law_register.specs.Register.Verdicts.{request_of};
+ghost use Rattle.law_register.specs.Register.Verdicts.{is_legal, request_of};
+ghost use Rattle.law_register.specs.declared.desk.event.Event.{Event};
 ghost use Rattle.law_register.specs.declared.law.command.Command.{Command};
 ghost use Rattle.law_register.specs.declared.register.entry.Entry.{Entry};
 ghost use Rattle.law_register.specs.declared.register.verdict.Reply.{Reply as Outcome};
 ghost use Rattle.law_http.specs.Apart.{AreAlike, AsksOwn};
 ghost use Rattle.law_http.specs.Asking.{asking_of};
+ghost use Rattle.law_http.specs.Connections.{IsWellAnswered};
 ghost use Rattle.law_http.specs.Faultless.{IsDetermined, IsFaultless, reply_on};
 ghost use Rattle.law_http.specs.Hearing.{AreHeard, IsFirstHeard};
 ghost use Rattle.law_http.specs.Lasting as lasting;
@@ -55,6 +59,23 @@ pub fn response_is_read_back()
 pub fn entries_only_grow<D: Desk>()
     ensures { (exchanges : List Exchange) (old new : D) → AreServed D.state D.crashes D.past exchanges old new
         → lasting.BeginWith (D.state old).entries (D.state new).entries }
+{}
+
+/// What happened at a desk stays while requests are answered: its history only grows, and its origin is as it was.
+pub fn history_only_grows<D: Desk>()
+    ensures history { (exchanges : List Exchange) (old new : D) → AreServed D.state D.crashes D.past exchanges old new
+        → IsPrefix (D.history old) (D.history new) }
+    ensures origin { (exchanges : List Exchange) (old new : D) → AreServed D.state D.crashes D.past exchanges old new
+        → D.origin new ≡ D.origin old }
+{}
+
+/// A connection that is well answered stays so: from each beginning of what was seen before it, to each history with legal
+/// entries that begins with what was seen behind it.
+pub fn well_answered_stays()
+    ensures { (front seen later more : List Event) (left over before now : Option (List ℕ)) (served : Served)
+        → IsWellAnswered seen later left over before now served
+        → IsPrefix front seen → IsPrefix later more → is_legal (entries_of more) ≡ true
+        → IsWellAnswered front more left over before now served }
 {}
 
 /// Each response that says that the keeper failed has a fault of the keeper of its own.

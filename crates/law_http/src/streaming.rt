@@ -1,17 +1,14 @@
 //! Streaming: a stream is served to its end, each request before more is read.
 
-ghost use Rattle.std.specs.Prelude.{◌≡◌, ◌≢◌, ◌↔◌, ◌||◌, ◌≤◌, ◌+◌, ℕ, List, Option, length, IsTrue};
-ghost use Rattle.std.specs.Bool.{then_some};
+ghost use Rattle.std.specs.Prelude.{◌≡◌, ◌≤◌, ◌+◌, ℕ, List, Option, length};
 ghost use Rattle.std.specs.Io.KnownBytes.{prepend_known};
 ghost use Rattle.law_http.specs.Hearing.{IsHeardOf, Spends};
 ghost use Rattle.law_http.specs.Streaming as stream;
 ghost use Rattle.law_http.specs.Turns as spec;
 
-use crate::{
-    HearFault, Heard, MessageRefusal, Request, Response, Rest, put_response, read_request,
-    refused_message, respond,
-};
-use desk_base::{Failed, Link, Steps};
+use crate::putting::{Turn, either, end_where, is_fault, leave, put_before, refuse};
+use crate::{Heard, MessageRefusal, Request, Rest, read_request, respond};
+use desk_base::{Link, Steps};
 use law_register::Desk;
 use std::alloc::Global;
 use std::sync::ledger::Ledger;
@@ -40,65 +37,6 @@ pub struct Served {
     pub faulted: bool,
 }
 
-// What came of a turn: how the stream ended, if it did, and whether the response said that the keeper failed.
-#[derive(Clone, Copy)]
-struct Turn {
-    end: Option<StreamEnd>,
-    faulted: bool,
-}
-
-fn end_behind(response: &Response, end: Option<StreamEnd>) -> Option<StreamEnd>
-    ensures { result ≡ spec.end_behind response.now end }
-{
-    match response {
-        Response::Made { .. } => end,
-        Response::MemoryFault => Some(StreamEnd::Memory),
-        Response::KeeperFault { .. } => end,
-    }
-}
-
-fn end_after(put: Result<(), Failed>, end: Option<StreamEnd>) -> Option<StreamEnd>
-    ensures { result ≡ spec.end_after put end }
-{
-    match put {
-        Ok(()) => end,
-        Err(_) => Some(StreamEnd::WriteFault),
-    }
-}
-
-fn end_where(last: bool) -> Option<StreamEnd>
-    ensures { result ≡ then_some last StreamEnd.End }
-{
-    last.then_some(StreamEnd::End)
-}
-
-fn is_fault(response: &Response) -> bool
-    ensures { IsTrue result ↔ (stream.fault_told response.now ≢ 0) }
-{
-    match response {
-        Response::Made { .. } => false,
-        Response::MemoryFault => false,
-        Response::KeeperFault { .. } => true,
-    }
-}
-
-// Writes a response, behind which the stream ends so, or goes on.
-fn put_before<K: Link>(
-    link: &mut K,
-    response: &Response,
-    end: Option<StreamEnd>,
-) -> Option<StreamEnd>
-    ensures puts { spec.PutsBefore (K.written link.old) (K.written link.new) response.now
-        (K.write_faults link.old) (K.write_faults link.new) end result }
-    ensures left { K.left link.new ≡ K.left link.old }
-    ensures room { K.room link.new ≡ K.room link.old }
-    ensures read_faults { K.read_faults link.new ≡ K.read_faults link.old }
-    ensures origin { K.origin link.new ≡ K.origin link.old }
-{
-    let put = put_response(link, response);
-    end_after(put, end_behind(response, end))
-}
-
 fn answer<K: Link, D: Desk, L: Ledger>(
     alloc: Global,
     link: &mut K,
@@ -107,8 +45,8 @@ fn answer<K: Link, D: Desk, L: Ledger>(
     steps: &mut Steps<L>,
 ) -> Turn
     ensures turn { (left rest over : Option (List ℕ)) → IsHeardOf left rest (Heard.Request request.now)
-        → spec.IsTurn D.state D.crashes D.past left rest over (K.written link.old) (K.written link.new) desk.old desk.new
-        steps.old steps.new result.faulted result.end }
+        → spec.IsTurn (spec.ServesCounted D.state D.crashes D.past) left rest over (K.written link.old) (K.written link.new)
+        (desk.old, steps.old) (desk.new, steps.new) result.faulted result.end }
     ensures reads { spec.HasTurnCause stream.HasReadCause result.end
         (K.read_faults link.old) (K.read_faults link.new) }
     ensures writes { spec.HasTurnCause stream.HasWriteCause result.end
@@ -123,32 +61,6 @@ fn answer<K: Link, D: Desk, L: Ledger>(
     Turn { end, faulted }
 }
 
-fn refuse<K: Link>(alloc: Global, link: &mut K, refusal: MessageRefusal) -> Option<StreamEnd>
-    ensures refuses { spec.Refuses (K.written link.old) (K.written link.new) refusal
-        (K.write_faults link.old) (K.write_faults link.new) result }
-    ensures left { K.left link.new ≡ K.left link.old }
-    ensures room { K.room link.new ≡ K.room link.old }
-    ensures read_faults { K.read_faults link.new ≡ K.read_faults link.old }
-    ensures origin { K.origin link.new ≡ K.origin link.old }
-{
-    let response = refused_message(alloc, refusal);
-    put_before(link, &response, Some(StreamEnd::Refused(refusal)))
-}
-
-fn leave<K: Link>(link: &mut K, fault: HearFault) -> Option<StreamEnd>
-    ensures leaves { spec.Leaves (K.written link.old) (K.written link.new) fault
-        (K.write_faults link.old) (K.write_faults link.new) result }
-    ensures left { K.left link.new ≡ K.left link.old }
-    ensures room { K.room link.new ≡ K.room link.old }
-    ensures read_faults { K.read_faults link.new ≡ K.read_faults link.old }
-    ensures origin { K.origin link.new ≡ K.origin link.old }
-{
-    match fault {
-        HearFault::ReadFault => Some(StreamEnd::ReadFault),
-        HearFault::Memory => put_before(link, &Response::MemoryFault, Some(StreamEnd::Memory)),
-    }
-}
-
 // What comes of a member of the stream.
 fn act_on<K: Link, D: Desk, L: Ledger>(
     alloc: Global,
@@ -158,8 +70,8 @@ fn act_on<K: Link, D: Desk, L: Ledger>(
     steps: &mut Steps<L>,
 ) -> Turn
     ensures turn { (left rest over : Option (List ℕ)) → IsHeardOf left rest heard.now
-        → spec.IsTurn D.state D.crashes D.past left rest over (K.written link.old) (K.written link.new) desk.old desk.new
-        steps.old steps.new result.faulted result.end }
+        → spec.IsTurn (spec.ServesCounted D.state D.crashes D.past) left rest over (K.written link.old) (K.written link.new)
+        (desk.old, steps.old) (desk.new, steps.new) result.faulted result.end }
     ensures spent { (before now : ℕ) → Spends before now heard.now → spec.SpendsTurn result.end before now }
     ensures reads { spec.HasTurnCause stream.HasReadCause result.end
         (K.read_faults link.old) (K.read_faults link.new) }
@@ -189,9 +101,9 @@ fn take_turn<K: Link, D: Desk, L: Ledger>(
     desk: &mut D,
     steps: &mut Steps<L>,
 ) -> Turn
-    ensures turn { spec.IsTurn D.state D.crashes D.past
+    ensures turn { spec.IsTurn (spec.ServesCounted D.state D.crashes D.past)
         (prepend_known rest.old (K.left link.old)) (prepend_known rest.new (K.left link.new)) (K.left link.new)
-        (K.written link.old) (K.written link.new) desk.old desk.new steps.old steps.new result.faulted result.end }
+        (K.written link.old) (K.written link.new) (desk.old, steps.old) (desk.new, steps.new) result.faulted result.end }
     ensures spent { spec.SpendsTurn result.end
         (length rest.old + K.room link.old) (length rest.new + K.room link.new) }
     ensures reads { spec.HasTurnCause stream.HasReadCause result.end
@@ -207,12 +119,6 @@ fn take_turn<K: Link, D: Desk, L: Ledger>(
             faulted: false,
         },
     }
-}
-
-fn either(a: bool, b: bool) -> bool
-    ensures { result ≡ (a || b) }
-{
-    a || b
 }
 
 /// Reads requests from a link and answers each before more is read, to the end of the stream, to the first request that

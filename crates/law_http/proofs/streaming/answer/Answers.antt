@@ -1,10 +1,13 @@
+use Rattle.law_http.specs.Turns.{ServesCounted}
 use Rattle.law_http.proofs.Turning.{answered_by, reads_by, writes_by}
 use Rattle.law_http.proofs.streaming.answer.Goals as goal
 
 pub returns-clause-turn : goal.returns-clause-turn
 returns-clause-turn g c = λ left rest over first.
-    answered_by g.D.Desk.state g.D.Desk.crashes g.D.Desk.past left rest over _ _ _ _ _ _ _ _ _ c.args.request.now c.respond-response.result _ _ first c.respond-response.ensures.serves
-    c.put_before-end.ensures.puts c.end_where.ensures c.is_fault-faulted.ensures c.respond-response.ensures.within
+    answered_by (ServesCounted g.D.Desk.state g.D.Desk.crashes g.D.Desk.past) left rest over _ _
+    (c.args.desk.now, c.args.steps.now) (c.respond-response.new.desk, c.respond-response.new.steps) _ _ _
+    c.args.request.now c.respond-response.result _ _ first c.respond-response.ensures
+    c.put_before-end.ensures.puts c.end_where.ensures c.is_fault-faulted.ensures
 
 pub returns-clause-reads : goal.returns-clause-reads
 returns-clause-reads g c = reads_by _ _ _ _ _ _ _ _ _ _ c.put_before-end.ensures.puts c.end_where.ensures c.put_before-end.ensures.read_faults

@@ -1,7 +1,7 @@
 use Rattle.std.proofs.Common.{◌∙◌, ap}
 use Rattle.law_http.specs.Turns.{end_after}
 use Rattle.law_http.proofs.Said.{put_by}
-use Rattle.law_http.proofs.streaming.put_before.Goals as goal
+use Rattle.law_http.proofs.putting.put_before.Goals as goal
 
 pub returns-clause-puts : goal.returns-clause-puts
 returns-clause-puts g c =
