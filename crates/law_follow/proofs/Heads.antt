@@ -197,6 +197,10 @@ frame_read m rest is low =
     ∙ ap (λ (p : List ℕ). holds (record { number = m.number; payload = p }) (drop size behind)) (take_at m.payload rest size refl)
     ∙ ap (λ (r : List ℕ). holds m r) (drop_at m.payload rest size refl)
 
+-- a payload is not empty
+pub some_payload : (bytes : List ℕ) (head : Head) → head_in bytes ≡ Some head → 1 ≤ head.size
+some_payload bytes head is = leb-true 1 head.size (and_parts (nat_le 1 head.size) (nat_le head.size 16777216) (head_is bytes head is).fits).0
+
 -- what was read behind a head that keeps its rules keeps those of messages
 pub framed_ruled : (bytes : List ℕ) (head : Head) (read : Result Frame FrameFault) → head_in bytes ≡ Some head
     → IfOk read (λ f. (f.number ≡ head.number) × (length f.payload.items ≡ head.size)) → IfOk (framed read) (λ o. IfSome o (λ f. IsMessage (message_of f)))

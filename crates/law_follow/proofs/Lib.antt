@@ -11,3 +11,8 @@ mod Ending
 mod Worlds
 mod Committing
 mod Opened
+mod Courses
+mod Handed
+mod Stops
+mod Written
+mod Catching

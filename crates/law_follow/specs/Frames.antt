@@ -1,5 +1,5 @@
 -- Frames, in which the payloads of a list are handed on.
-use Rattle.std.specs.Prelude.{ℕ, ◌≡◌, ◌≤◌, ◌==◌, ◌⊎◌, nat_le, nat_lt, Bool, ◌&&◌, List, [], ◌∷◌, ◌++◌, length, take, drop, get_or, Option, Some, None, Result, Ok, Err, IsTrue, if◌then◌else◌}
+use Rattle.std.specs.Prelude.{ℕ, ◌≡◌, ◌≤◌, ◌<◌, ◌+◌, ◌==◌, ◌⊎◌, nat_le, nat_lt, Bool, ◌&&◌, List, [], ◌∷◌, ◌++◌, length, take, drop, get_or, Option, Some, None, Result, Ok, Err, IsTrue, if◌then◌else◌}
 use Rattle.std.specs.Int.{w32, w64, from_be_bytes, to_be_bytes}
 use Rattle.desk_base.specs.Streams.{risen}
 use Rattle.law_journal.specs.Grammar.{is_size}
@@ -78,13 +78,33 @@ abbrev pub IsPieceOf : ℕ → Option (List ℕ) → Option (List ℕ) → List 
 IsPieceOf size None now bytes = Unit {0}
 IsPieceOf size (Some all) now bytes = IsPiece size all now bytes
 
--- a frame is read where one stands, and nothing at the end of the input; where no frame stands, or not whole, that is told
+-- how many bytes the frame has that begins here, by its head; those of a head, where there is none
+abbrev pub size_by : Option Head → ℕ
+size_by None = HEAD_SIZE
+size_by (Some head) = HEAD_SIZE + head.size
+
+abbrev pub frame_size : List ℕ → ℕ
+frame_size bytes = size_by (head_in (take HEAD_SIZE bytes))
+
+-- fewer bytes than so many were taken
+pub record TakesFewer (size : ℕ) (bytes : List ℕ) (left : Option (List ℕ)) : Type 0 where
+  pub count : ℕ
+  pub fewer : count < size
+  pub behind : left ≡ Some (drop count bytes)
+
+-- the same of a source that tells what it has left
+abbrev pub TakesFewerOf : ℕ → Option (List ℕ) → Option (List ℕ) → Type 0
+TakesFewerOf size None left = Unit {0}
+TakesFewerOf size (Some bytes) left = TakesFewer size bytes left
+
+-- a frame is read where one stands, and nothing at the end of the input. Where no frame stands, its head was taken, and where
+-- one is not there whole, all that is there; a source that fails, and want of memory, leave a part of the frame untaken
 abbrev pub ReadsOf : List ℕ → Option (List ℕ) → Result (Option Frame) FrameFault → Type 0
 ReadsOf bytes left (Ok None) = (front_of bytes ≡ ends) × (left ≡ Some [])
 ReadsOf bytes left (Ok (Some f)) = (rest : List ℕ) × (left ≡ Some rest) × (front_of bytes ≡ holds (message_of f) rest)
-ReadsOf bytes left (Err fault.BadFrame) = front_of bytes ≡ breaks
-ReadsOf bytes left (Err fault.ReadFault) = Unit {0}
-ReadsOf bytes left (Err fault.Memory) = Unit {0}
+ReadsOf bytes left (Err fault.BadFrame) = (front_of bytes ≡ breaks) × (left ≡ Some (drop (frame_size bytes) bytes))
+ReadsOf bytes left (Err fault.ReadFault) = TakesFewer (frame_size bytes) bytes left
+ReadsOf bytes left (Err fault.Memory) = TakesFewer (frame_size bytes) bytes left
 
 abbrev pub Reads : Option (List ℕ) → Option (List ℕ) → Result (Option Frame) FrameFault → Type 0
 Reads None left result = Unit {0}
@@ -95,9 +115,9 @@ abbrev pub ReadsPayload : ℕ → ℕ → Option (List ℕ) → Option (List ℕ
 ReadsPayload number size None left result = Unit {0}
 ReadsPayload number size (Some bytes) left (Ok f) =
     (rest : List ℕ) × (left ≡ Some rest) × (payload_front number size bytes ≡ holds (message_of f) rest)
-ReadsPayload number size (Some bytes) left (Err fault.BadFrame) = payload_front number size bytes ≡ breaks
-ReadsPayload number size (Some bytes) left (Err fault.ReadFault) = Unit {0}
-ReadsPayload number size (Some bytes) left (Err fault.Memory) = Unit {0}
+ReadsPayload number size (Some bytes) left (Err fault.BadFrame) = (length bytes < size) × (left ≡ Some [])
+ReadsPayload number size (Some bytes) left (Err fault.ReadFault) = TakesFewer size bytes left
+ReadsPayload number size (Some bytes) left (Err fault.Memory) = TakesFewer size bytes left
 
 -- a fault of reading is one more in the count of the source's faults; else the count is as it was
 abbrev pub HasReadCause : {T : Type 0} → ℕ → ℕ → Result T FrameFault → Type 0

@@ -6,3 +6,6 @@ pub mod Replicas
 pub mod Taking
 pub mod Followers
 pub mod Worlds
+pub mod Messages
+pub mod Exporting
+pub mod Following

@@ -3,6 +3,7 @@
 use Rattle.std.specs.Prelude.{ℕ, ◌≡◌, ◌⊎◌, ◌+◌, List, [], ◌∷◌, ◌++◌, length, map, Option, Some, None, Result, Ok, Err, if◌then◌else◌}
 use Rattle.desk_base.specs.Streams.{risen}
 use Rattle.law_journal.specs.Grammar.{Listing}
+use Rattle.law_keeper.specs.Keepers.{Holding}
 use Rattle.law_register.specs.declared.desk.damage.Damage.{Damage}
 use Rattle.law_register.specs.declared.desk.damage.Damage.TheVariants as damage
 use Rattle.law_register.specs.declared.desk.open_fault.OpenFault.{OpenFault}
@@ -105,6 +106,10 @@ abbrev pub StaysUnlessFailed : ℕ → ℕ → OpenFault → Type 0
 StaysUnlessFailed before now fails.Failed = Unit {0}
 StaysUnlessFailed before now (fails.Damaged broken) = now ≡ before
 StaysUnlessFailed before now fails.Memory = now ≡ before
+
+-- both of an opening that a keeper refuses
+abbrev pub HasFirstCause : Holding → ℕ → ℕ → OpenFault → Type 0
+HasFirstCause h before now fault = HasRefusalCause before now fault × (h.tells → StaysUnlessFailed before now fault)
 
 -- a list is these payloads, and they are opened as entries that they spell
 pub record IsListOf (payloads : List (List ℕ)) (list : Listing) : Type 0 where

@@ -2,7 +2,10 @@
 //! what it is sent.
 #![tactic(auto)]
 
+mod exporting;
+mod followed;
 mod follower;
+mod following;
 mod frame;
 mod judging;
 pub mod laws;
@@ -15,7 +18,10 @@ mod taking;
 mod unfit;
 mod writing;
 
+pub use exporting::{ExportFault, export};
+pub use followed::{FollowFault, Followed, Refusal, Tally};
 pub use follower::{Follower, FollowerRefused};
+pub use following::follow;
 pub use frame::{Frame, FrameFault};
 pub use put_fault::PutFault;
 pub use reading::read_frame;

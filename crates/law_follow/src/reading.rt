@@ -1,19 +1,22 @@
 //! Frames are read from a source, piece by piece.
 
-ghost use Rattle.std.specs.Prelude.{◌≡◌, ◌+◌, ◌<◌, ◌≤◌, ◌^◌, length, IfErr, IfOk, IfSome};
+ghost use Rattle.std.specs.Prelude.{◌≡◌, ◌+◌, ◌<◌, ◌≤◌, ◌^◌, length, IfErr, IfOk, IfSome, OnErr};
 ghost use Rattle.std.specs.Int.{w32, w64, from_be_bytes};
 ghost use Rattle.law_follow.specs.Frames as spec;
 
 use crate::frame::{Frame, FrameFault, HEAD_SIZE, Head, MARK};
+use crate::writing::put_behind;
 use desk_base::Source;
 use std::alloc::Global;
 
 // Reads so many bytes, and fewer only where the input ends.
 fn read_bytes<S: Source>(alloc: Global, source: &mut S, size: usize) -> Result<Vec<u8>, FrameFault>
-    requires { size < 2 ^ 32 }
+    requires some { 1 ≤ size }
+    requires most { size < 2 ^ 32 }
     ensures taken { IfOk result (λ bytes. spec.IsPieceOf size (S.left source.old) (S.left source.new) bytes.items) }
     ensures most { IfOk result (λ bytes. length bytes.items ≤ size) }
     ensures device { IfErr result spec.IsOfDevice }
+    ensures fewer { OnErr result (spec.TakesFewerOf size (S.left source.old) (S.left source.new)) }
     ensures room { IfOk result (λ bytes. S.room source.new + length bytes.items ≡ S.room source.old) }
     ensures cause { spec.HasReadCause (S.faults source.old) (S.faults source.new) result }
 {
@@ -25,7 +28,7 @@ fn read_bytes<S: Source>(alloc: Global, source: &mut S, size: usize) -> Result<V
         if count == 0 {
             break;
         }
-        bytes.extend_from_slice(&piece[..count])?;
+        put_behind(&mut bytes, &piece[..count]);
     }
     Ok(bytes)
 }
@@ -64,6 +67,7 @@ fn head_in(head: &[u8]) -> Option<Head>
 
 // Reads the payload behind a head.
 fn read_payload<S: Source>(alloc: Global, source: &mut S, head: Head) -> Result<Frame, FrameFault>
+    requires { 1 ≤ head.size }
     ensures read { spec.ReadsPayload head.number head.size (S.left source.old) (S.left source.new) result }
     ensures frame { IfOk result (λ f. (f.number ≡ head.number) × (length f.payload.items ≡ head.size)) }
     ensures room { IfOk result (λ f. S.room source.new ≤ S.room source.old) }
@@ -91,8 +95,9 @@ fn framed(read: Result<Frame, FrameFault>) -> Result<Option<Frame>, FrameFault>
 
 /// Reads the frame that comes next. `None`: the input has ended.
 ///
-/// A frame whose payload is not there whole is none, and so is one with a number or a length that none has. What was
-/// read of it is lost.
+/// A frame whose payload is not there whole is none, and so is one with a number or a length that none has. Of what is none
+/// the bytes of a head are lost, or all that is there. After a fault of the source a part of the frame is lost, and for want
+/// of memory too.
 pub fn read_frame<S: Source>(alloc: Global, source: &mut S) -> Result<Option<Frame>, FrameFault>
     ensures read { spec.Reads (S.left source.old) (S.left source.new) result }
     ensures message { IfOk result (λ o. IfSome o (λ f. spec.IsMessage (spec.message_of f))) }

@@ -18,8 +18,8 @@ use entry_codec::encode;
 use entry_codec::laws::spelling_has_its_size;
 use law_keeper::{KeepFault, Keeper, settle};
 use law_register::laws::{
-    accepted_are_small, accepted_can_be_spelled, entries_are_few, entries_are_well_spelled,
-    entries_can_be_spelled,
+    accepted_are_small, accepted_can_be_spelled, entries_are_few, entries_are_legal,
+    entries_are_well_spelled, entries_can_be_spelled,
 };
 use law_register::{Entry, Register};
 use std::alloc::Global;
@@ -112,13 +112,16 @@ fn take_settled<K: Keeper>(
     }
 }
 
-// The bytes that spell the entry at an index.
-fn spelled(alloc: Global, register: &Register, index: usize) -> Result<Vec<u8>, Memory>
+/// The bytes that spell the entry at an index.
+pub(crate) fn spelled(alloc: Global, register: &Register, index: usize) -> Result<Vec<u8>, Memory>
     requires { index < length register.now.entries }
-    ensures { IfOk result (λ bytes. bytes.items ≡ get_or (spellings register.now.entries) index []) }
+    ensures same { IfOk result (λ bytes. bytes.items ≡ get_or (spellings register.now.entries) index []) }
+    ensures sized { IfOk result (λ bytes. IsTrue (is_size (length bytes.items))) }
 {
+    entries_are_legal(register);
     entries_are_well_spelled(register);
     entries_can_be_spelled(register);
+    spelling_has_its_size();
     encode(alloc, register.entry(index))
 }
 

@@ -1,3 +1,4 @@
+use Rattle.law_follow.proofs.Catching.{stream_read}
 use Rattle.law_follow.proofs.Heads.{frame_read, message_ruled, message_spelled}
 use Rattle.law_follow.proofs.laws.frames_spell_messages.Goals as goal
 
@@ -9,3 +10,6 @@ returns-clause-read c = λ bytes rest m all is. message_spelled bytes rest m all
 
 pub returns-clause-rules : goal.returns-clause-rules
 returns-clause-rules c = λ bytes rest m is. message_ruled bytes rest m is
+
+pub returns-clause-stream : goal.returns-clause-stream
+returns-clause-stream c = λ ms rest sent. stream_read ms rest sent

@@ -1,5 +1,6 @@
--- What is read so far is the front of what there was, and no longer than was wanted; no read has failed.
+-- What is read so far is the front of what there was, and no longer than was wanted, for which there is room; no read has failed.
 use Rattle.std.proofs.Common.{◌≡◌, ◌≤◌, ◌+◌, ◌-◌, vec_len}
+use Rattle.std.specs.Prelude.{vec_capacity}
 use Rattle.law_follow.proofs.Pieces.{IsFrontOf}
 use Rattle.law_follow.proofs.reading.read_bytes.Given as goal
 
@@ -9,6 +10,7 @@ invariant-loop-piece g l = record {
   counted : g.S.Source.faults l.source ≡ g.S.Source.faults l.initial.source;
   room : g.S.Source.room l.source + vec_len l.bytes ≡ g.S.Source.room l.initial.source;
   within : vec_len l.bytes ≤ l.size;
+  capacity : l.size ≤ vec_capacity l.bytes;
 }
 
 abbrev pub decreases-loop-piece : goal.decreases-loop-piece

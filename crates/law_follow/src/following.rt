@@ -1,0 +1,166 @@
+//! Following: the frames of a stream are taken, one behind another.
+
+ghost use Rattle.std.specs.Prelude.{◌≡◌, ◌<◌, ◌↔◌, None, IfOk, IfSome};
+ghost use Rattle.law_follow.specs.Following as spec;
+ghost use Rattle.law_follow.specs.Following.{Follows, HasFollowed};
+ghost use Rattle.law_follow.specs.Frames.{IsMessage, message_of};
+ghost use Rattle.law_follow.specs.Replicas.{HoldsReplica, IsRight, payloads_of, standing_of};
+ghost use Rattle.law_follow.specs.Taking.{LeavesLists, StandsForEither};
+
+use crate::followed::{FollowFault, Followed, Refusal, Tally};
+use crate::frame::{Frame, FrameFault};
+use crate::reading::read_frame;
+use crate::replica::Replica;
+use crate::taken::{TakeFault, Taken};
+use crate::taking::take;
+use desk_base::Source;
+use law_keeper::Keeper;
+use law_register::laws;
+use std::alloc::Global;
+
+// Reads the frame at a place of the stream, if the stream goes on.
+fn next_frame<S: Source>(
+    alloc: Global,
+    source: &mut S,
+    place: u64,
+) -> Result<Option<Frame>, FollowFault>
+    ensures read { spec.ReadsAt place (S.left source.old) (S.left source.new) result }
+    ensures message { IfOk result (λ o. IfSome o (λ f. IsMessage (message_of f))) }
+    ensures room { IfOk result (λ o. IfSome o (λ f. S.room source.new < S.room source.old)) }
+    ensures cause { spec.HasSourceCause (S.faults source.old) (S.faults source.new) result }
+{
+    match read_frame(alloc, source) {
+        Ok(next) => Ok(next),
+        Err(FrameFault::BadFrame) => Err(FollowFault::Refused(Refusal::BadFrame { place })),
+        Err(FrameFault::ReadFault) => Err(FollowFault::ReadFault),
+        Err(FrameFault::Memory) => Err(FollowFault::Memory),
+    }
+}
+
+// What comes of a message of this number, by what came of its payload. `None`: it is further on, and is skipped.
+fn answer_to(number: u64, taken: Result<Taken, TakeFault>) -> Result<Option<Taken>, FollowFault>
+    ensures { result ≡ spec.answer_to number taken }
+{
+    match taken {
+        Ok(answer) => Ok(Some(answer)),
+        Err(TakeFault::Gap { .. }) => Ok(None),
+        Err(TakeFault::Conflict { .. }) => Err(FollowFault::Refused(Refusal::Conflict { number })),
+        Err(TakeFault::BadEntry(broken)) => {
+            Err(FollowFault::Refused(Refusal::BadEntry { number, broken }))
+        }
+        Err(TakeFault::NotAccepted { rule }) => {
+            Err(FollowFault::Refused(Refusal::NotAccepted { number, rule }))
+        }
+        Err(TakeFault::KeeperFault) => Err(FollowFault::KeeperFault),
+        Err(TakeFault::Memory) => Err(FollowFault::Memory),
+    }
+}
+
+// Takes the message of a frame.
+fn take_frame<K: Keeper>(
+    alloc: Global,
+    keeper: &mut K,
+    replica: &mut Replica,
+    frame: Frame,
+) -> Result<Option<Taken>, FollowFault>
+    requires message { IsMessage (message_of frame) }
+    requires right { IsRight replica.old }
+    requires settled { replica.old.pending ≡ None }
+    requires held { HoldsReplica (K.holding keeper.old) (K.readiness keeper.old) replica.old }
+    ensures takes { spec.TakesMessage (message_of frame) (payloads_of replica.old) (standing_of replica.new) result }
+    ensures settled { IfOk result (λ _. replica.new.pending ≡ None) }
+    ensures tells { (K.holding keeper.old).tells ↔ (K.holding keeper.new).tells }
+    ensures right { IsRight replica.new }
+    ensures held { HoldsReplica (K.holding keeper.new) (K.readiness keeper.new) replica.new }
+    ensures crash { LeavesLists (StandsForEither replica.old replica.new) (K.holding keeper.old) (K.holding keeper.new) }
+    ensures cause { spec.HasKeeperCause (K.holding keeper.old) (K.faults keeper.old) (K.faults keeper.new) result }
+{
+    let Frame { number, payload } = frame;
+    let taken = take(alloc, keeper, replica, number, payload.as_slice());
+    drop(payload);
+    answer_to(number, taken)
+}
+
+// The counts once one more frame was answered so.
+fn counted(tally: Tally, answer: Option<Taken>) -> Tally
+    ensures { result ≡ spec.counted tally answer }
+{
+    let Tally { added, known, gaps } = tally;
+    match answer {
+        Some(Taken::Added) => Tally {
+            added: added.saturating_add(1),
+            known,
+            gaps,
+        },
+        Some(Taken::Known) => Tally {
+            added,
+            known: known.saturating_add(1),
+            gaps,
+        },
+        None => Tally {
+            added,
+            known,
+            gaps: gaps.saturating_add(1),
+        },
+    }
+}
+
+// Takes the frames of a stream to its end.
+fn follow_frames<S: Source, K: Keeper>(
+    alloc: Global,
+    source: &mut S,
+    keeper: &mut K,
+    replica: &mut Replica,
+) -> Result<Followed, FollowFault>
+    requires right { IsRight replica.old }
+    requires settled { replica.old.pending ≡ None }
+    requires held { HoldsReplica (K.holding keeper.old) (K.readiness keeper.old) replica.old }
+    ensures follows { HasFollowed (S.left source.old) (payloads_of replica.old) (S.left source.new) (standing_of replica.new)
+        result }
+    ensures tells { (K.holding keeper.old).tells ↔ (K.holding keeper.new).tells }
+    ensures right { IsRight replica.new }
+    ensures held { HoldsReplica (K.holding keeper.new) (K.readiness keeper.new) replica.new }
+    ensures crash { LeavesLists (spec.IsBetweenThese replica.old replica.new) (K.holding keeper.old) (K.holding keeper.new) }
+    ensures source_cause { spec.HasSourceCause (S.faults source.old) (S.faults source.new) result }
+    ensures keeper_cause { spec.HasKeeperCause (K.holding keeper.old) (K.faults keeper.old) (K.faults keeper.new) result }
+{
+    let mut tally = Tally {
+        added: 0,
+        known: 0,
+        gaps: 0,
+    };
+    let mut place = 1u64;
+    'frames: while let Some(frame) = next_frame(alloc, source, place)? {
+        let answer = take_frame(alloc, keeper, replica, frame)?;
+        tally = counted(tally, answer);
+        place = place.saturating_add(1);
+    }
+    laws::entries_are_few(&replica.register);
+    let length = replica.register.len() as u64;
+    Ok(Followed { length, tally })
+}
+
+/// Opens a keeper, and takes the frames of a stream to its end. One that is further on is counted and skipped, and the
+/// first that is refused ends it: nothing behind it is read. What the keeper has then is what the step of a follower makes of
+/// its list over the messages that were read, after a fault of the keeper with the payload of the last one or without it; and
+/// a crash at any moment leaves a list that it could leave before, or one between.
+pub fn follow<S: Source, K: Keeper>(
+    alloc: Global,
+    source: &mut S,
+    keeper: &mut K,
+) -> Result<Followed, FollowFault>
+    ensures follows { Follows (S.left source.old) (S.left source.new) (K.holding keeper.old) (K.holding keeper.new) result }
+    ensures unread { spec.LeavesSource source.old source.new result }
+    ensures source_cause { spec.HasSourceCause (S.faults source.old) (S.faults source.new) result }
+    ensures keeper_cause { spec.HasKeeperCause (K.holding keeper.old) (K.faults keeper.old) (K.faults keeper.new) result }
+{
+    match Replica::open(alloc, keeper) {
+        Ok(replica) => {
+            let mut replica = replica;
+            let followed = follow_frames(alloc, source, keeper, &mut replica);
+            drop(replica);
+            followed
+        }
+        Err(fault) => Err(FollowFault::Open(fault)),
+    }
+}
