@@ -4,7 +4,9 @@ that it names for it, its limits are those of the code and of docs/, and each of
 import os
 import re
 import shutil
+import socket
 import subprocess
+import time
 
 import checks
 from checks import TOP, check, over_a_folder, read, run, to_a_full_device
@@ -84,8 +86,11 @@ def no_file(folder):
 
 TEXT, BATCH, LIFE = ["text", "2011-01-01"], ["batch"], ["report", "lifecycle", "/akn/gb/act/2010-05-01/7"]
 HELD, MADE = ["report", "unapplied", "2011-01-01"], ["generate", "1", "1"]
+EXPORT, FOLLOW = ["export", "0"], ["follow"]
+PORT = 20000 + os.getpid() % 10000
+SERVE = ["serve", str(PORT), "1"]
 # How each form ends with each status but 7: its words, what it is given (a folder and a full device are devices that fail), and the file.
-FOLDER, FULL = "a folder as input", "a full device"
+FOLDER, FULL, CALLERS, TAKEN = "a folder as input", "a full device", "four connections", "a port in use"
 ENDS = {
     ("text", 0): (TEXT, dossier(), None), ("text", 3): (TEXT, FOLDER, None), ("text", 4): (TEXT, FULL, None),
     ("text", 9): (["text", "2010-04-30"], dossier(), None), ("text", 10): (TEXT, b"{", None),
@@ -93,10 +98,33 @@ ENDS = {
     ("check", 6): (["check"], b"", bad_journal),
     ("batch", 0): (BATCH, FRONT, None), ("batch", 1): (BATCH, b"GET", None), ("batch", 3): (BATCH, FOLDER, None), ("batch", 4): (BATCH, FULL, None),
     ("batch", 5): (BATCH, FRONT, no_file), ("batch", 6): (BATCH, FRONT, bad_journal),
+    ("serve", 0): (SERVE, CALLERS, None), ("serve", 4): (SERVE, FULL, bad_journal), ("serve", 5): (SERVE, b"", no_file),
+    ("serve", 6): (SERVE, b"", bad_journal), ("serve", 8): (SERVE, TAKEN, None),
     ("report", 0): (HELD, b"", None), ("report", 4): (HELD, FULL, None), ("report", 5): (HELD, b"", no_file), ("report", 6): (HELD, b"", bad_journal),
     ("report", 9): (LIFE, b"", None),
     ("generate", 0): (MADE, b"", None), ("generate", 4): (MADE, FULL, None),
+    ("export", 0): (EXPORT, b"", None), ("export", 4): (EXPORT, FULL, bad_journal), ("export", 5): (EXPORT, b"", no_file),
+    ("export", 6): (EXPORT, b"", bad_journal),
+    ("follow", 0): (FOLLOW, b"", None), ("follow", 3): (FOLLOW, FOLDER, None), ("follow", 4): (FOLLOW, FULL, None),
+    ("follow", 5): (FOLLOW, b"", no_file), ("follow", 6): (FOLLOW, b"", bad_journal), ("follow", 12): (FOLLOW, b"{", None),
 }
+
+
+def to_callers(line, folder):
+    """The status of a run that four connections come to, one after another."""
+    with subprocess.Popen(line, cwd=folder, stdin=subprocess.DEVNULL, stdout=subprocess.DEVNULL, stderr=subprocess.DEVNULL) as server:
+        for _ in range(4):
+            for _ in range(200):
+                try:
+                    with socket.create_connection(("127.0.0.1", PORT), timeout=10) as link:
+                        link.sendall(FRONT)
+                        link.shutdown(socket.SHUT_WR)
+                        while link.recv(4096):
+                            pass
+                    break
+                except ConnectionRefusedError:
+                    time.sleep(0.05)
+        return server.wait(timeout=60)
 
 
 def ended(words, given, spoil):
@@ -107,6 +135,11 @@ def ended(words, given, spoil):
         line = [checks.PROGRAM, *words]
         if given == FOLDER:
             return over_a_folder(line, cwd=folder)[0]
+        if given == CALLERS:
+            return to_callers(line, folder)
+        if given == TAKEN:
+            with socket.create_server(("127.0.0.1", PORT)):
+                return run(words, b"", cwd=folder)[0]
         if given == FULL:
             return to_a_full_device(line, FRONT if words == BATCH else dossier(), cwd=folder)
         return run(words, given, cwd=folder)[0]
@@ -115,7 +148,7 @@ def ended(words, given, spoil):
 def forms():
     """The statuses of each form are 7, which tests/devices/want_of_memory.py shows, and those with which it is seen to end here."""
     told = {tag: [int(status) for status in plain(lines[0]).split(", ")] for tag, lines in items(section("EXIT STATUS")) if not tag.isdigit()}
-    wanted = {form: sorted([7] + [status for name, status in ENDS if name == form]) for form in ("text", "check", "batch", "report", "generate")}
+    wanted = {form: sorted([7] + [status for name, status in ENDS if name == form]) for form in ("text", "check", "batch", "serve", "report", "generate", "export", "follow")}
     check("the statuses of each form in the manual page", told, wanted)
     for (form, status), way in ENDS.items():
         check(f"{form} ends with {status}", ended(*way), status)

@@ -133,7 +133,7 @@ rose_by zero before now some rose = absurd (some refl)
 rose_by (suc n) before now some rose = omega (arith, rose)
 
 -- the statuses of a refused opening
-refusal_status_is : (fault : OpenFault) (before after : Option (List ℕ)) (status : ℕ)
+pub refusal_status_is : (fault : OpenFault) (before after : Option (List ℕ)) (status : ℕ)
     → TellsRefusal fault before after status
     → (status ≡ 4) ⊎ ((status ≡ 5) ⊎ ((status ≡ 6) ⊎ (status ≡ 7)))
 refusal_status_is (fails.Damaged damage) before after status (inl told) = inr (inr (inl told.0))
@@ -145,7 +145,7 @@ refusal_status_is fails.Memory before after status told = inr (inr (inr told))
 rose_once : (before now : ℕ) → now ≡ risen before → Rose before now
 rose_once before now is = subst (λ (n : ℕ). risen before ≤ n) (sym is) (omega arith)
 
-refusal_cause : (fault : OpenFault) (before after : Option (List ℕ)) (status faults now : ℕ)
+pub refusal_cause : (fault : OpenFault) (before after : Option (List ℕ)) (status faults now : ℕ)
     → TellsRefusal fault before after status → HasRefusalCause faults now fault → status ≡ 5 → Rose faults now
 refusal_cause (fails.Damaged damage) before after status faults now (inl told) cause five = absurd (omega (arith, told.0))
 refusal_cause (fails.Damaged damage) before after status faults now (inr (inl told)) cause five =
@@ -154,7 +154,7 @@ refusal_cause (fails.Damaged damage) before after status faults now (inr (inr to
 refusal_cause fails.Failed before after status faults now told cause five = rose_once faults now cause
 refusal_cause fails.Memory before after status faults now told cause five = absurd (omega arith)
 
-refusal_stays : (fault : OpenFault) (before after : Option (List ℕ)) (status faults now : ℕ)
+pub refusal_stays : (fault : OpenFault) (before after : Option (List ℕ)) (status faults now : ℕ)
     → TellsRefusal fault before after status → StaysUnlessFailed faults now fault → status ≡ 6 → now ≡ faults
 refusal_stays (fails.Damaged damage) before after status faults now told stays six = stays
 refusal_stays fails.Failed before after status faults now told stays six = absurd (omega (arith, told, six))

@@ -12,11 +12,11 @@ use Rattle.desk_base.specs.Decimals.{decimal_up_to, is_decimal, up_to}
 use Rattle.frbr_names.specs.Works.{front_of, work_of}
 use Rattle.frbr_names.specs.Parts.{after_front}
 use Rattle.dossier_text.specs.Jobs.{text_on}
-use Rattle.lawdesk.specs.Jobs.{generate_with, job_of, plain_job, seeded_job, text_job}
+use Rattle.lawdesk.specs.Jobs.{counted, export_job, from_one, generate_job, generate_with, job_of, plain_job, serve_job, serve_with, text_job}
 use Rattle.law_register.specs.Answer.Questions.{reading_named}
 use Rattle.lawdesk.specs.ReportJobs.{correspondence_job, correspondence_on, lifecycle_job, report_job, short_job, unapplied_job, work_named}
 use Rattle.lawdesk.specs.Taking.{begins_with_dash}
-use Rattle.lawdesk.specs.declared.job.Job.TheVariants.{Report, Text}
+use Rattle.lawdesk.specs.declared.job.Job.TheVariants.{Export, Report, Serve, Text}
 use Rattle.law_register.specs.declared.answer.question.Reading.TheVariants.{Force}
 use Rattle.lawdesk.specs.declared.report_job.ReportJob.TheVariants.{Lifecycle, Unapplied}
 
@@ -71,6 +71,10 @@ no_reading word dash = rw (no_name word (codes "force") dash refl, no_name word 
 then_none : {A : Type 0} (a : Bool) (x : Option A) → x ≡ None → cond a x None ≡ None
 then_none true x none = none
 then_none false x none = refl
+
+either_none : {A : Type 0} (a : Bool) (x y : Option A) → x ≡ None → y ≡ None → cond a x y ≡ None
+either_none true x y first second = first
+either_none false x y first second = second
 
 both_none : {A : Type 0} (a b : Bool) (x y z : Option A) → x ≡ None → y ≡ None → z ≡ None → cond a x (cond b y z) ≡ None
 both_none true b x y z first second third = first
@@ -138,15 +142,27 @@ no_count : (seed : Option ℕ) → generate_with seed None ≡ None
 no_count None = refl
 no_count (Some seed) = refl
 
-seeded_dashed : (words : List (List ℕ)) → list_any begins_with_dash words ≡ true → seeded_job words ≡ None
-seeded_dashed [] dash = refl
-seeded_dashed (seed ∷ []) dash = refl
-seeded_dashed (seed ∷ count ∷ []) dash = elim (two_dash (begins_with_dash seed) (begins_with_dash count) dash) [
-  | inl here ↦ ap (λ o. generate_with o (decimal_up_to 2000 count)) (no_number 18446744073709551615 seed here)
-  | inr later ↦ ap (λ o. generate_with (decimal_up_to 18446744073709551615 seed) o) (no_number 2000 count later)
-      ∙ no_count (decimal_up_to 18446744073709551615 seed)
-]
-seeded_dashed (seed ∷ count ∷ more ∷ words) dash = refl
+no_connections : (port : Option ℕ) → option_map (λ job. Serve job) (serve_with port None) ≡ None
+no_connections None = refl
+no_connections (Some port) = refl
+
+uncounted : (most : ℕ) (word : List ℕ) → begins_with_dash word ≡ true → counted most word ≡ None
+uncounted most word dash = ap from_one (no_number most word dash)
+
+generate_dashed : (seed count : List ℕ) → (begins_with_dash seed ≡ true) ⊎ (begins_with_dash count ≡ true) → generate_job seed count ≡ None
+generate_dashed seed count (inl dash) = ap (λ o. generate_with o (counted 2000 count)) (no_number 18446744073709551615 seed dash)
+generate_dashed seed count (inr dash) =
+    ap (λ o. generate_with (decimal_up_to 18446744073709551615 seed) o) (uncounted 2000 count dash)
+    ∙ no_count (decimal_up_to 18446744073709551615 seed)
+
+export_dashed : (from : List ℕ) → begins_with_dash from ≡ true → export_job from ≡ None
+export_dashed from dash = ap (λ o. option_map (λ n. Export n) o) (no_number 18446744073709551615 from dash)
+
+serve_dashed : (port connections : List ℕ) → (begins_with_dash port ≡ true) ⊎ (begins_with_dash connections ≡ true)
+    → serve_job port connections ≡ None
+serve_dashed port connections (inl dash) = ap (λ o. option_map (λ job. Serve job) (serve_with o (counted 1000000 connections))) (uncounted 65535 port dash)
+serve_dashed port connections (inr dash) =
+    ap (λ o. option_map (λ job. Serve job) (serve_with (counted 65535 port) o)) (uncounted 1000000 connections dash) ∙ no_connections (counted 65535 port)
 
 unread : (day : Option ℕ) → text_on day None ≡ None
 unread None = refl
@@ -156,29 +172,41 @@ text_dashed : (date name : List ℕ) → (begins_with_dash date ≡ true) ⊎ (b
 text_dashed date name (inl dash) = ap (λ o. option_map (λ job. Text job) (text_on o (reading_named name))) (no_day date dash)
 text_dashed date name (inr dash) = ap (λ o. option_map (λ job. Text job) (text_on (day_of date) o)) (no_reading name dash) ∙ ap (option_map (λ job. Text job)) (unread (day_of date))
 
+three_none : {A : Type 0} (a b c : Bool) (x y z : Option A) → x ≡ None → y ≡ None → z ≡ None
+    → cond a x (cond b y (cond c z None)) ≡ None
+three_none true b c x y z first second third = first
+three_none false b c x y z first second third = both_none b c y z None second third refl
+
 plain_dashed : (word : List ℕ) (words : List (List ℕ)) → list_any begins_with_dash words ≡ true → plain_job (word ∷ words) ≡ None
 plain_dashed word [] dash = absurd (true≢false (sym dash))
-plain_dashed word (date ∷ []) dash =
-    then_none (bytes_eq word (codes "text")) (text_job date (Some Force))
-    (ap (λ o. option_map (λ job. Text job) (text_on o (Some Force))) (no_day date (one_dash (begins_with_dash date) dash)))
-plain_dashed word (date ∷ name ∷ []) dash =
-    then_none (bytes_eq word (codes "text")) (text_job date (reading_named name))
-    (text_dashed date name (two_dash (begins_with_dash date) (begins_with_dash name) dash))
-plain_dashed word (date ∷ name ∷ more ∷ words) dash = refl
+plain_dashed word (other ∷ []) dash =
+    let is : begins_with_dash other ≡ true = one_dash (begins_with_dash other) dash in
+    both_none (bytes_eq word (codes "text")) (bytes_eq word (codes "export")) (text_job other (Some Force)) (export_job other) None
+    (ap (λ o. option_map (λ job. Text job) (text_on o (Some Force))) (no_day other is)) (export_dashed other is) refl
+plain_dashed word (first ∷ second ∷ []) dash =
+    let some : (begins_with_dash first ≡ true) ⊎ (begins_with_dash second ≡ true) =
+    two_dash (begins_with_dash first) (begins_with_dash second) dash in
+    three_none (bytes_eq word (codes "text")) (bytes_eq word (codes "generate")) (bytes_eq word (codes "serve"))
+    (text_job first (reading_named second)) (generate_job first second) (serve_job first second)
+    (text_dashed first second some) (generate_dashed first second some) (serve_dashed first second some)
+plain_dashed word (first ∷ second ∷ more ∷ words) dash = refl
 
 first_dashed : (word : List ℕ) (words : List (List ℕ)) → begins_with_dash word ≡ true → plain_job (word ∷ words) ≡ None
-first_dashed word [] dash = rw (no_name word (codes "check") dash refl, no_name word (codes "batch") dash refl) refl
-first_dashed word (date ∷ []) dash = rw (no_name word (codes "text") dash refl) refl
-first_dashed word (date ∷ name ∷ []) dash = rw (no_name word (codes "text") dash refl) refl
-first_dashed word (date ∷ name ∷ more ∷ words) dash = refl
+first_dashed word [] dash =
+    rw (no_name word (codes "check") dash refl, no_name word (codes "batch") dash refl, no_name word (codes "follow") dash refl) refl
+first_dashed word (other ∷ []) dash =
+    rw (no_name word (codes "text") dash refl, no_name word (codes "export") dash refl) refl
+first_dashed word (first ∷ second ∷ []) dash =
+    rw (no_name word (codes "text") dash refl, no_name word (codes "generate") dash refl, no_name word (codes "serve") dash refl) refl
+first_dashed word (first ∷ second ∷ more ∷ words) dash = refl
 
 -- ---- all words
 
 pub dashed_is_none : (words : List (List ℕ)) → list_any begins_with_dash words ≡ true → job_of words ≡ None
 dashed_is_none [] dash = refl
 dashed_is_none (word ∷ words) dash = elim (either (begins_with_dash word) (list_any begins_with_dash words) dash) [
-  | inl here ↦ rw (no_name word (codes "report") here refl, no_name word (codes "generate") here refl) (first_dashed word words here)
-  | inr later ↦ both_none (bytes_eq word (codes "report")) (bytes_eq word (codes "generate"))
-      (option_map (λ job. Report job) (report_job words)) (seeded_job words) (plain_job (word ∷ words))
-      (ap (λ o. option_map (λ job. Report job) o) (report_dashed words later)) (seeded_dashed words later) (plain_dashed word words later)
+  | inl here ↦ rw (no_name word (codes "report") here refl) (first_dashed word words here)
+  | inr later ↦ either_none (bytes_eq word (codes "report"))
+      (option_map (λ job. Report job) (report_job words)) (plain_job (word ∷ words))
+      (ap (λ o. option_map (λ job. Report job) o) (report_dashed words later)) (plain_dashed word words later)
 ]

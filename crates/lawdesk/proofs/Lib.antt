@@ -1,7 +1,7 @@
 pub mod InMemory
 pub mod Stepping
 pub mod Outliving
-pub mod Serving
+pub mod Streamed
 pub mod Beginning
 pub mod Batches
 pub mod Staying
@@ -12,3 +12,16 @@ pub mod Wanting
 pub mod Misfits
 pub mod WordForms
 pub mod WordFronts
+pub mod SameOpening
+pub mod Tellings
+pub mod Exports
+pub mod Follows
+pub mod Runs
+pub mod OtherLengths
+pub mod Served
+pub mod ServingWorks
+pub mod ServingGates
+pub mod ServingVisits
+pub mod ServingFour
+pub mod ServingRuns
+pub mod ServingAsked

@@ -15,7 +15,7 @@ use Rattle.lawdesk.proofs.Batches.{ran_unopened}
 use Rattle.lawdesk.proofs.Staying.{keeps_same}
 
 -- where nothing is asked of a keeper, a crash leaves what it could leave before
-leaves_same : (h : Holding) → IsHolding h → LeavesOldOrSame h h
+pub leaves_same : (h : Holding) → IsHolding h → LeavesOldOrSame h h
 leaves_same h is = λ told. weaker h.may_leave (IsOldOrSame h) h h (λ list may. inl may) (rests h is told)
 
 no_text : IsDone 7 → ⊥

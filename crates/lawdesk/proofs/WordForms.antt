@@ -1,6 +1,6 @@
 -- Words are a form of the command line exactly where none of them is wrong.
-use Rattle.std.proofs.Common.{◌≡◌, ◌≢◌, ◌⊎◌, ◌↔◌, ◌==◌, inl, inr, ℕ, Bool, true, false, List, [], ◌∷◌, codes, Option, Some, None, option_map, refl, ap, sym, subst, ◌∙◌, true≢false}
-use Rattle.std.specs.Prelude.{cond, is_some, not}
+use Rattle.std.proofs.Common.{◌≡◌, ◌≢◌, ◌⊎◌, ◌↔◌, inl, inr, ℕ, Bool, true, false, List, [], ◌∷◌, codes, Option, Some, None, option_map, refl, ap, sym, subst, ◌∙◌, true≢false}
+use Rattle.std.specs.Prelude.{cond, is_some}
 use Rattle.std.specs.Option.{option_and_then}
 use Rattle.std.specs.Str.{bytes_eq}
 use Rattle.desk_base.specs.Days.{day_of}
@@ -10,12 +10,12 @@ use Rattle.law_register.proofs.Puts.{bytes_same}
 use Rattle.law_register.specs.Answer.Questions.{reading_named}
 use Rattle.law_register.specs.declared.answer.question.Reading.{Reading}
 use Rattle.law_register.specs.declared.answer.question.Reading.TheVariants.{Force}
-use Rattle.lawdesk.specs.Amiss.{amiss, is_count}
-use Rattle.lawdesk.specs.Jobs.{generate_with, job_of}
+use Rattle.lawdesk.specs.Amiss.{amiss}
+use Rattle.lawdesk.specs.Jobs.{counted, generate_with, job_of, serve_with}
 use Rattle.lawdesk.specs.ReportJobs.{correspondence_on, work_named}
 use Rattle.lawdesk.specs.declared.amiss.Amiss.{Amiss}
 use Rattle.lawdesk.specs.declared.job.Job.{Job}
-use Rattle.lawdesk.specs.declared.job.Job.TheVariants.{Generate, Report, Text}
+use Rattle.lawdesk.specs.declared.job.Job.TheVariants.{Export, Report, Serve, Text}
 use Rattle.lawdesk.specs.declared.report_job.ReportJob.TheVariants.{Lifecycle, Unapplied}
 
 -- none of the words is wrong
@@ -56,25 +56,46 @@ one_more : (x : Bool) (a b : Amiss) → false ≡ fits (cond x (Some b) (Some a)
 one_more true a b = refl
 one_more false a b = refl
 
-counted : (none : Bool) (job : Job) (a : Amiss) → is_some (cond none None (Some job)) ≡ fits (cond (not none) None (Some a))
-counted true job a = refl
-counted false job a = refl
-
 seeded : (seed count : Option ℕ) (a b : Amiss)
-    → is_some (generate_with seed count) ≡ fits (cond (is_some seed) (cond (is_count count) None (Some b)) (Some a))
+    → is_some (generate_with seed count) ≡ fits (cond (is_some seed) (cond (is_some count) None (Some b)) (Some a))
 seeded None count a b = refl
 seeded (Some seed) None a b = refl
-seeded (Some seed) (Some count) a b = counted (count == 0) (Generate (record { seed = seed; count = count })) b
+seeded (Some seed) (Some count) a b = refl
 
 generate_fits : (words : List (List ℕ)) → is_some (job_of (codes "generate" ∷ words)) ≡ fits (amiss (codes "generate" ∷ words))
 generate_fits [] = refl
 generate_fits (seed ∷ []) = one_more (is_some (decimal_up_to 18446744073709551615 seed)) _ _
 generate_fits (seed ∷ count ∷ []) =
-    seeded (decimal_up_to 18446744073709551615 seed) (decimal_up_to 2000 count) _ _
+    seeded (decimal_up_to 18446744073709551615 seed) (counted 2000 count) _ _
 generate_fits (seed ∷ count ∷ more ∷ words) =
-    two_more (is_some (decimal_up_to 18446744073709551615 seed)) (is_count (decimal_up_to 2000 count)) _ _ _
+    two_more (is_some (decimal_up_to 18446744073709551615 seed)) (is_some (counted 2000 count)) _ _ _
 
--- ---- `check` and `batch`
+-- ---- `export` and `serve`
+
+above : (from : Option ℕ) (a : Amiss) → is_some (option_map (λ n. Export n) from) ≡ fits (cond (is_some from) None (Some a))
+above None a = refl
+above (Some from) a = refl
+
+export_fits : (words : List (List ℕ)) → is_some (job_of (codes "export" ∷ words)) ≡ fits (amiss (codes "export" ∷ words))
+export_fits [] = refl
+export_fits (from ∷ []) = above (decimal_up_to 18446744073709551615 from) _
+export_fits (from ∷ more ∷ []) = one_more (is_some (decimal_up_to 18446744073709551615 from)) _ _
+export_fits (from ∷ more ∷ others ∷ words) = one_more (is_some (decimal_up_to 18446744073709551615 from)) _ _
+
+served : (port connections : Option ℕ) (a b : Amiss)
+    → is_some (option_map (λ job. Serve job) (serve_with port connections)) ≡ fits (cond (is_some port) (cond (is_some connections) None (Some b)) (Some a))
+served None connections a b = refl
+served (Some port) None a b = refl
+served (Some port) (Some connections) a b = refl
+
+serve_fits : (words : List (List ℕ)) → is_some (job_of (codes "serve" ∷ words)) ≡ fits (amiss (codes "serve" ∷ words))
+serve_fits [] = refl
+serve_fits (port ∷ []) = one_more (is_some (counted 65535 port)) _ _
+serve_fits (port ∷ connections ∷ []) = served (counted 65535 port) (counted 1000000 connections) _ _
+serve_fits (port ∷ connections ∷ more ∷ words) =
+    two_more (is_some (counted 65535 port)) (is_some (counted 1000000 connections)) _ _ _
+
+-- ---- `check`, `batch` and `follow`
 
 check_fits : (words : List (List ℕ)) → is_some (job_of (codes "check" ∷ words)) ≡ fits (amiss (codes "check" ∷ words))
 check_fits [] = refl
@@ -87,6 +108,12 @@ batch_fits [] = refl
 batch_fits (word ∷ []) = refl
 batch_fits (word ∷ other ∷ []) = refl
 batch_fits (word ∷ other ∷ more ∷ words) = refl
+
+follow_fits : (words : List (List ℕ)) → is_some (job_of (codes "follow" ∷ words)) ≡ fits (amiss (codes "follow" ∷ words))
+follow_fits [] = refl
+follow_fits (word ∷ []) = refl
+follow_fits (word ∷ other ∷ []) = refl
+follow_fits (word ∷ other ∷ more ∷ words) = refl
 
 -- ---- `report`
 
@@ -178,42 +205,59 @@ report_fits (name ∷ words) =
 
 -- ---- all words
 
+-- a word is the name of no command
+pub record IsOther (word : List ℕ) : Type 0 where
+  pub no_text : bytes_eq word (codes "text") ≡ false
+  pub no_check : bytes_eq word (codes "check") ≡ false
+  pub no_batch : bytes_eq word (codes "batch") ≡ false
+  pub no_report : bytes_eq word (codes "report") ≡ false
+  pub no_generate : bytes_eq word (codes "generate") ≡ false
+  pub no_export : bytes_eq word (codes "export") ≡ false
+  pub no_follow : bytes_eq word (codes "follow") ≡ false
+  pub no_serve : bytes_eq word (codes "serve") ≡ false
+
 -- what holds of each command, and of a word that is none, holds of a word
-pub by_command : (P : List ℕ → Type 0) → P (codes "text") → P (codes "check") → P (codes "batch") → P (codes "report") → P (codes "generate")
-    → (word : List ℕ)
-    → (bytes_eq word (codes "text") ≡ false → bytes_eq word (codes "check") ≡ false → bytes_eq word (codes "batch") ≡ false
-    → bytes_eq word (codes "report") ≡ false → bytes_eq word (codes "generate") ≡ false → P word)
-    → P word
-by_command P text check batch report generate word none = elim (either_way (bytes_eq word (codes "text"))) [
-  | inl is ↦ subst P (sym (bytes_same word (codes "text") is)) text
-  | inr first ↦ elim (either_way (bytes_eq word (codes "check"))) [
-    | inl is ↦ subst P (sym (bytes_same word (codes "check") is)) check
-    | inr second ↦ elim (either_way (bytes_eq word (codes "batch"))) [
-      | inl is ↦ subst P (sym (bytes_same word (codes "batch") is)) batch
-      | inr third ↦ elim (either_way (bytes_eq word (codes "report"))) [
-        | inl is ↦ subst P (sym (bytes_same word (codes "report") is)) report
-        | inr fourth ↦ elim (either_way (bytes_eq word (codes "generate"))) [
-          | inl is ↦ subst P (sym (bytes_same word (codes "generate") is)) generate
-          | inr fifth ↦ none first second third fourth fifth
+pub by_command : (P : List ℕ → Type 0) → P (codes "text") → P (codes "check") → P (codes "batch") → P (codes "report")
+    → P (codes "generate") → P (codes "export") → P (codes "follow") → P (codes "serve")
+    → (word : List ℕ) → (IsOther word → P word) → P word
+by_command P text check batch report generate export follow serve word none =
+    elim (either_way (bytes_eq word (codes "text"))) [
+      | inl is ↦ subst P (sym (bytes_same word (codes "text") is)) text
+      | inr first ↦ elim (either_way (bytes_eq word (codes "check"))) [
+        | inl is ↦ subst P (sym (bytes_same word (codes "check") is)) check
+        | inr second ↦ elim (either_way (bytes_eq word (codes "batch"))) [
+          | inl is ↦ subst P (sym (bytes_same word (codes "batch") is)) batch
+          | inr third ↦ elim (either_way (bytes_eq word (codes "report"))) [
+            | inl is ↦ subst P (sym (bytes_same word (codes "report") is)) report
+            | inr fourth ↦ elim (either_way (bytes_eq word (codes "generate"))) [
+              | inl is ↦ subst P (sym (bytes_same word (codes "generate") is)) generate
+              | inr fifth ↦ elim (either_way (bytes_eq word (codes "export"))) [
+                | inl is ↦ subst P (sym (bytes_same word (codes "export") is)) export
+                | inr sixth ↦ elim (either_way (bytes_eq word (codes "follow"))) [
+                  | inl is ↦ subst P (sym (bytes_same word (codes "follow") is)) follow
+                  | inr seventh ↦ elim (either_way (bytes_eq word (codes "serve"))) [
+                    | inl is ↦ subst P (sym (bytes_same word (codes "serve") is)) serve
+                    | inr eighth ↦ none (record { no_text = first; no_check = second; no_batch = third; no_report = fourth; no_generate = fifth; no_export = sixth; no_follow = seventh; no_serve = eighth })
+                  ]
+                ]
+              ]
+            ]
+          ]
         ]
       ]
     ]
-  ]
-]
 
-no_command : (word : List ℕ) (words : List (List ℕ)) → bytes_eq word (codes "text") ≡ false → bytes_eq word (codes "check") ≡ false
-    → bytes_eq word (codes "batch") ≡ false → bytes_eq word (codes "report") ≡ false → bytes_eq word (codes "generate") ≡ false
-    → IsTold (word ∷ words)
-no_command word [] first second third fourth fifth = rw (first, second, third, fourth, fifth) refl
-no_command word (name ∷ []) first second third fourth fifth = rw (first, second, third, fourth, fifth) refl
-no_command word (name ∷ other ∷ []) first second third fourth fifth = rw (first, second, third, fourth, fifth) refl
-no_command word (name ∷ other ∷ more ∷ words) first second third fourth fifth = rw (first, second, third, fourth, fifth) refl
+no_command : (word : List ℕ) (words : List (List ℕ)) → IsOther word → IsTold (word ∷ words)
+no_command word [] o = rw (o.no_text, o.no_check, o.no_batch, o.no_report, o.no_generate, o.no_export, o.no_follow, o.no_serve) refl
+no_command word (name ∷ []) o = rw (o.no_text, o.no_check, o.no_batch, o.no_report, o.no_generate, o.no_export, o.no_follow, o.no_serve) refl
+no_command word (name ∷ other ∷ []) o = rw (o.no_text, o.no_check, o.no_batch, o.no_report, o.no_generate, o.no_export, o.no_follow, o.no_serve) refl
+no_command word (name ∷ other ∷ more ∷ words) o = rw (o.no_text, o.no_check, o.no_batch, o.no_report, o.no_generate, o.no_export, o.no_follow, o.no_serve) refl
 
 is_told : (words : List (List ℕ)) → IsTold words
 is_told [] = refl
 is_told (word ∷ words) =
     by_command (λ w. IsTold (w ∷ words)) (text_fits words) (check_fits words) (batch_fits words) (report_fits words)
-    (generate_fits words) word (no_command word words)
+    (generate_fits words) (export_fits words) (follow_fits words) (serve_fits words) word (no_command word words)
 
 some_job : (job : Option Job) (found : Option Amiss) → is_some job ≡ fits found → (found ≡ None) ↔ (job ≢ None)
 some_job None None told = absurd (true≢false (sym told))

@@ -13,8 +13,8 @@ use Rattle.lawdesk.specs.Jobs.{job_of}
 use Rattle.lawdesk.specs.declared.amiss.Amiss.{Amiss}
 use Rattle.lawdesk.specs.declared.amiss.Wanted.{Wanted}
 use Rattle.lawdesk.specs.declared.job.Job.{Job}
-use Rattle.lawdesk.specs.declared.amiss.Wanted.TheVariants.{Command, Table, Day, Reading, Work, Seed, Count, Nothing}
-use Rattle.lawdesk.proofs.WordForms.{by_command, by_table, either_way, named}
+use Rattle.lawdesk.specs.declared.amiss.Wanted.TheVariants.{Command, Table, Day, Reading, Work, Seed, Count, From, Port, Connections, Nothing}
+use Rattle.lawdesk.proofs.WordForms.{IsOther, by_command, by_table, either_way, named}
 
 -- a word of each kind
 abbrev example : Wanted → List ℕ
@@ -25,6 +25,9 @@ example Reading = codes "force"
 example Work = codes "/akn/gb/act/2010-05-01/7"
 example Seed = codes "0"
 example Count = codes "1"
+example From = codes "0"
+example Port = codes "8080"
+example Connections = codes "1"
 example Nothing = []
 
 work_shown : is_wanted Work (example Work) ≡ true
@@ -184,6 +187,20 @@ generate_first words found is =
     first (codes "generate" ∷ words) found (suc inner.behind) (one_before found.index inner.behind inner.index_is) inner.more
     inner.front (λ less others. inner.wrong (one_less inner.behind words less) others)
 
+export_first : (words : List (List ℕ)) → Firsts (codes "export" ∷ words)
+unfolding AreShown
+export_first words found is =
+    let inner : IsAt 1 (From ∷ []) words found = at 1 (From ∷ []) words found refl is in
+    first (codes "export" ∷ words) found (suc inner.behind) (one_before found.index inner.behind inner.index_is) inner.more
+    inner.front (λ less others. inner.wrong (one_less inner.behind words less) others)
+
+serve_first : (words : List (List ℕ)) → Firsts (codes "serve" ∷ words)
+unfolding AreShown
+serve_first words found is =
+    let inner : IsAt 1 (Port ∷ Connections ∷ []) words found = at 1 (Port ∷ Connections ∷ []) words found refl is in
+    first (codes "serve" ∷ words) found (suc inner.behind) (one_before found.index inner.behind inner.index_is) inner.more
+    inner.front (λ less others. inner.wrong (one_less inner.behind words less) others)
+
 check_first : (words : List (List ℕ)) → Firsts (codes "check" ∷ words)
 unfolding AreShown
 check_first words found is =
@@ -196,6 +213,13 @@ unfolding AreShown
 batch_first words found is =
     let inner : IsAt 1 [] words found = at 1 [] words found refl is in
     first (codes "batch" ∷ words) found (suc inner.behind) (one_before found.index inner.behind inner.index_is) inner.more
+    inner.front (λ less others. inner.wrong (one_less inner.behind words less) others)
+
+follow_first : (words : List (List ℕ)) → Firsts (codes "follow" ∷ words)
+unfolding AreShown
+follow_first words found is =
+    let inner : IsAt 1 [] words found = at 1 [] words found refl is in
+    first (codes "follow" ∷ words) found (suc inner.behind) (one_before found.index inner.behind inner.index_is) inner.more
     inner.front (λ less others. inner.wrong (one_less inner.behind words less) others)
 
 lifecycle_first : (words : List (List ℕ)) → Firsts (codes "report" ∷ codes "lifecycle" ∷ words)
@@ -244,12 +268,10 @@ report_first (name ∷ words) found is =
     by_table (λ n. Firsts (codes "report" ∷ n ∷ words)) (lifecycle_first words) (correspondence_first words) (unapplied_first words)
     name (no_table_first name words) found is
 
-no_command_first : (word : List ℕ) (words : List (List ℕ)) → bytes_eq word (codes "text") ≡ false → bytes_eq word (codes "check") ≡ false
-    → bytes_eq word (codes "batch") ≡ false → bytes_eq word (codes "report") ≡ false → bytes_eq word (codes "generate") ≡ false
-    → Firsts (word ∷ words)
-no_command_first word words one two three four five found is =
+no_command_first : (word : List ℕ) (words : List (List ℕ)) → IsOther word → Firsts (word ∷ words)
+no_command_first word words o found is =
     let none : (others : List (List ℕ)) → amiss (word ∷ others) ≡ Some (record { index = 0; wanted = Command }) =
-    λ others. rw (one, two, three, four, five) refl in
+    λ others. rw (o.no_text, o.no_check, o.no_batch, o.no_report, o.no_generate, o.no_export, o.no_follow, o.no_serve) refl in
     let same : Some (record { index = 0; wanted = Command }) ≡ Some found = sym (none words) ∙ is in
     first (word ∷ words) found 0 (missing false (record { index = 0; wanted = Command }) found same)
     (codes "check" ∷ []) refl (λ less others. none others ∙ same)
@@ -260,7 +282,7 @@ firsts [] found is =
     (λ less others. absurd (omega (arith, less)))
 firsts (word ∷ words) found is =
     by_command (λ w. Firsts (w ∷ words)) (text_first words) (check_first words) (batch_first words) (report_first words)
-    (generate_first words) word (no_command_first word words) found is
+    (generate_first words) (export_first words) (follow_first words) (serve_first words) word (no_command_first word words) found is
 
 pub fronts : (words : List (List ℕ)) (found : Amiss) → amiss words ≡ Some found
     → (more : List (List ℕ)) × (job_of (take found.index words ++ more) ≢ None)

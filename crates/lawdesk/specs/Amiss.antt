@@ -1,27 +1,28 @@
 -- Which word is wrong where words are no form of the command line, and what is wanted in its place.
-use Rattle.std.specs.Prelude.{ℕ, ◌+◌, ◌==◌, Bool, true, false, not, ◌||◌, List, [], ◌∷◌, Option, Some, None, is_some, if◌then◌else◌, codes}
+use Rattle.std.specs.Prelude.{ℕ, ◌+◌, Bool, true, false, ◌||◌, List, [], ◌∷◌, Option, Some, None, is_some, if◌then◌else◌, codes}
 use Rattle.std.specs.Str.{bytes_eq}
 use Rattle.desk_base.specs.Days.{day_of}
 use Rattle.desk_base.specs.Decimals.{decimal_up_to}
 use Rattle.law_register.specs.Answer.Questions.{reading_named}
+use Rattle.lawdesk.specs.Jobs.{counted}
 use Rattle.lawdesk.specs.ReportJobs.{work_named}
 use Rattle.lawdesk.specs.declared.amiss.Amiss.{Amiss}
 use Rattle.lawdesk.specs.declared.amiss.Wanted.{Wanted}
-use Rattle.lawdesk.specs.declared.amiss.Wanted.TheVariants.{Command, Table, Day, Reading, Work, Seed, Count, Nothing}
+use Rattle.lawdesk.specs.declared.amiss.Wanted.TheVariants.{Command, Table, Day, Reading, Work, Seed, Count, From, Port, Connections, Nothing}
+
+abbrev pub is_later : List ℕ → Bool
+is_later word =
+    bytes_eq word (codes "generate") || (bytes_eq word (codes "export") || (bytes_eq word (codes "follow")
+    || bytes_eq word (codes "serve")))
 
 abbrev pub is_command : List ℕ → Bool
 is_command word =
     bytes_eq word (codes "text") || (bytes_eq word (codes "check") || (bytes_eq word (codes "batch")
-    || (bytes_eq word (codes "report") || bytes_eq word (codes "generate"))))
+    || (bytes_eq word (codes "report") || is_later word)))
 
 abbrev pub is_table : List ℕ → Bool
 is_table name =
     bytes_eq name (codes "lifecycle") || (bytes_eq name (codes "correspondence") || bytes_eq name (codes "unapplied"))
-
--- a count was read, and is not 0
-abbrev pub is_count : Option ℕ → Bool
-is_count None = false
-is_count (Some count) = not (count == 0)
 
 -- a word is what is wanted
 abbrev pub is_wanted : Wanted → List ℕ → Bool
@@ -31,7 +32,10 @@ is_wanted Day word = is_some (day_of word)
 is_wanted Reading word = is_some (reading_named word)
 is_wanted Work word = is_some (work_named word)
 is_wanted Seed word = is_some (decimal_up_to 18446744073709551615 word)
-is_wanted Count word = is_count (decimal_up_to 2000 word)
+is_wanted Count word = is_some (counted 2000 word)
+is_wanted From word = is_some (decimal_up_to 18446744073709551615 word)
+is_wanted Port word = is_some (counted 65535 word)
+is_wanted Connections word = is_some (counted 1000000 word)
 is_wanted Nothing word = false
 
 -- a reading may be left out, and no other word
@@ -50,11 +54,16 @@ abbrev pub wants_of_report : List (List ℕ) → List Wanted
 wants_of_report [] = Table ∷ []
 wants_of_report (name ∷ words) = Table ∷ wants_of_table name
 
+-- the same of the other commands
+abbrev pub wants_of_other : List ℕ → List Wanted
+wants_of_other word = if bytes_eq word (codes "export") then From ∷ []
+    else (if bytes_eq word (codes "serve") then Port ∷ Connections ∷ [] else [])
+
 -- what is wanted behind a command
 abbrev pub wants_behind : List ℕ → List (List ℕ) → List Wanted
 wants_behind word words = if bytes_eq word (codes "text") then Day ∷ Reading ∷ []
     else (if bytes_eq word (codes "generate") then Seed ∷ Count ∷ []
-    else (if bytes_eq word (codes "report") then wants_of_report words else []))
+    else (if bytes_eq word (codes "report") then wants_of_report words else wants_of_other word))
 
 -- what is wanted of words, one after another, by the first two of them
 abbrev pub wants_of : List (List ℕ) → List Wanted

@@ -9,3 +9,10 @@ pub mod Outliving
 pub mod ReportJobs
 pub mod Statuses
 pub mod Tabling
+pub mod Running
+pub mod Telling
+pub mod Exporting
+pub mod Following
+pub mod Serving
+pub mod ServingGates
+pub mod ServingWork

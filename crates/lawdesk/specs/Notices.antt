@@ -5,9 +5,9 @@ use Rattle.std.specs.Char.{is_ascii_graphic}
 use Rattle.lawdesk.specs.Amiss.{amiss}
 use Rattle.lawdesk.specs.declared.amiss.Amiss.{Amiss}
 use Rattle.lawdesk.specs.declared.amiss.Wanted.{Wanted}
-use Rattle.lawdesk.specs.declared.amiss.Wanted.TheVariants.{Command, Table, Day, Reading, Work, Seed, Count, Nothing}
+use Rattle.lawdesk.specs.declared.amiss.Wanted.TheVariants.{Command, Table, Day, Reading, Work, Seed, Count, From, Port, Connections, Nothing}
 use Rattle.lawdesk.specs.declared.notice.Said.{Said}
-use Rattle.lawdesk.specs.declared.notice.TheConstants.{HELD, UNKEPT, UNREAD, UNWRITTEN, WANTING}
+use Rattle.lawdesk.specs.declared.notice.TheConstants.{HELD, UNGATED, UNKEPT, UNREAD, UNWRITTEN, WANTING}
 use Rattle.lawdesk.specs.declared.usage.TheConstants.{USAGE_TEXT}
 
 -- a usage stands on lines of its own
@@ -45,6 +45,9 @@ wanted_text Reading = codes "a reading, force or efficacy"
 wanted_text Work = codes "the IRI of an act, as /akn/gb/act/2010-05-01/7"
 wanted_text Seed = codes "a seed, from 0 to 18446744073709551615"
 wanted_text Count = codes "a count, from 1 to 2000"
+wanted_text From = codes "a number, from 0 to 18446744073709551615"
+wanted_text Port = codes "a port, from 1 to 65535"
+wanted_text Connections = codes "a count of connections, from 1 to 1000000"
 wanted_text Nothing = codes "no more words"
 
 -- a line, and the usage behind it
@@ -64,7 +67,7 @@ unwanted command wanted word =
     with_usage (command ++ codes " wants " ++ wanted_text wanted ++ codes ", and not " ++ word)
 
 -- what is said of a word that is there
-abbrev pub wrong_word : List ℕ → Wanted → List ℕ → List ℕ
+unfoldable pub wrong_word : List ℕ → Wanted → List ℕ → List ℕ
 wrong_word command Command word = no_command word
 wrong_word command wanted word = unwanted command wanted word
 
@@ -93,4 +96,5 @@ notice_of status is_held words =
     else (if status == 3 then Some UNREAD.now
     else (if status == 4 then Some UNWRITTEN.now
     else (if status == 5 then Some (if is_held then HELD.now else UNKEPT.now)
-    else (if status == 7 then Some WANTING.now else None))))
+    else (if status == 7 then Some WANTING.now
+    else (if status == 8 then Some UNGATED.now else None)))))

@@ -4,6 +4,7 @@ ghost use Rattle.std.specs.Prelude.{◌≡◌, ◌∷◌, map, string_bytes};
 ghost use Rattle.lawdesk.specs.Amiss as spec;
 ghost use Rattle.lawdesk.specs.declared.amiss.Wanted.TheVariants as wanted;
 
+use crate::job::counted;
 use desk_base::{Day, decimal_number};
 use frbr_names::parse_work;
 use law_register::Reading;
@@ -25,6 +26,12 @@ pub enum Wanted {
     Seed,
     /// How many requests.
     Count,
+    /// The number behind which an export begins.
+    From,
+    /// A port.
+    Port,
+    /// How many connections.
+    Connections,
     /// No word.
     Nothing,
 }
@@ -44,6 +51,10 @@ const TEXT: &[Wanted] = &[Wanted::Command, Wanted::Day, Wanted::Reading];
 
 const GENERATE: &[Wanted] = &[Wanted::Command, Wanted::Seed, Wanted::Count];
 
+const EXPORT: &[Wanted] = &[Wanted::Command, Wanted::From];
+
+const SERVE: &[Wanted] = &[Wanted::Command, Wanted::Port, Wanted::Connections];
+
 const REPORT: &[Wanted] = &[Wanted::Command, Wanted::Table];
 
 const LIFECYCLE: &[Wanted] = &[Wanted::Command, Wanted::Table, Wanted::Work];
@@ -62,7 +73,14 @@ const UNAPPLIED: &[Wanted] = &[Wanted::Command, Wanted::Table, Wanted::Day];
 fn is_command(word: &str) -> bool
     ensures { result ≡ spec.is_command word.now }
 {
-    word == "text" || word == "check" || word == "batch" || word == "report" || word == "generate"
+    word == "text" || word == "check" || word == "batch" || word == "report" || is_later(word)
+}
+
+// Whether a word is the name of one of the other commands.
+fn is_later(word: &str) -> bool
+    ensures { result ≡ spec.is_later word.now }
+{
+    word == "generate" || word == "export" || word == "follow" || word == "serve"
 }
 
 // Whether a word is the name of a table.
@@ -70,16 +88,6 @@ fn is_table(name: &str) -> bool
     ensures { result ≡ spec.is_table name.now }
 {
     name == "lifecycle" || name == "correspondence" || name == "unapplied"
-}
-
-// Whether a word is a count of requests.
-fn is_count(word: &str) -> bool
-    ensures { result ≡ spec.is_wanted wanted.Count word.now }
-{
-    match decimal_number(word, 2_000) {
-        Some(count) => count != 0,
-        None => false,
-    }
 }
 
 // Whether a word is what is wanted.
@@ -93,7 +101,10 @@ fn is_wanted(wanted: Wanted, word: &str) -> bool
         Wanted::Reading => Reading::from_name(word).is_some(),
         Wanted::Work => parse_work(word).is_ok(),
         Wanted::Seed => decimal_number(word, 18_446_744_073_709_551_615).is_some(),
-        Wanted::Count => is_count(word),
+        Wanted::Count => counted(word, 2_000).is_some(),
+        Wanted::From => decimal_number(word, 18_446_744_073_709_551_615).is_some(),
+        Wanted::Port => counted(word, 65_535).is_some(),
+        Wanted::Connections => counted(word, 1_000_000).is_some(),
         Wanted::Nothing => false,
     }
 }
@@ -121,13 +132,33 @@ fn wants_behind(word: &str, words: &[String]) -> &'static [Wanted]
     if word == "generate" {
         return GENERATE;
     }
-    if word != "report" {
-        return COMMAND;
+    if word == "report" {
+        return wants_of_report(words);
     }
+    wants_of_other(word)
+}
+
+// What is wanted of the words of a report.
+fn wants_of_report(words: &[String]) -> &'static [Wanted]
+    ensures { result.now ≡ wanted.Command ∷ spec.wants_of_report (map string_bytes words.now) }
+{
     if words.is_empty() {
         return REPORT;
     }
     wants_of_table(words[0].as_str())
+}
+
+// What is wanted of the words of the other commands.
+fn wants_of_other(word: &str) -> &'static [Wanted]
+    ensures { result.now ≡ wanted.Command ∷ spec.wants_of_other word.now }
+{
+    if word == "export" {
+        return EXPORT;
+    }
+    if word == "serve" {
+        return SERVE;
+    }
+    COMMAND
 }
 
 // What is wanted of words, one after another.

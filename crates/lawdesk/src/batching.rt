@@ -32,8 +32,8 @@ fn tell_damage<W: Sink>(alloc: Global, sink: &mut W, damage: Damage) -> u8
     }
 }
 
-// The status of an opening that was refused. Damage is written.
-fn tell_refusal<W: Sink>(alloc: Global, sink: &mut W, fault: OpenFault) -> u8
+/// Tells why an opening was refused, and gives the status to end with. Damage is written.
+pub fn tell_refusal<W: Sink>(alloc: Global, sink: &mut W, fault: OpenFault) -> u8
     ensures told { TellsRefusal fault (W.written sink.old) (W.written sink.new) result }
     ensures unwritten { (result ≡ 5) ⊎ (result ≡ 7) → sink.new ≡ sink.old }
     ensures cause { result ≡ 4 → W.faults sink.new ≡ risen (W.faults sink.old) }

@@ -28,6 +28,7 @@ fn generated_in<K: Keeper, C: Clock, L: Ledger>(
     requires right { IsRight book }
     requires held { HoldsBook (K.holding keeper.old) (K.readiness keeper.old) book }
     requires none_pending { book.pending ≡ None }
+    requires no_marks { book.marks.items ≡ [] }
     requires empty { book.register.entries ≡ [] }
     requires days { TellsOnly day_of_all (C.days clock.old) }
     ensures { IfOk result (λ told. told ≡ generated job.seed job.count) }

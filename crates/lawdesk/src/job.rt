@@ -1,12 +1,13 @@
 //! Job: what the words of the command line ask for.
 
-ghost use Rattle.std.specs.Prelude.{◌≡◌, ◌≢◌, None, ℕ, List, map, option_map, string_bytes, IfOk, OnErr};
-ghost use Rattle.lawdesk.specs.Jobs.{generate_job, job_of, plain_job, seeded_job, text_job, word_job};
+ghost use Rattle.std.specs.Prelude.{◌≡◌, ◌≢◌, ◌≤◌, [], ◌∷◌, None, ℕ, List, map, option_map, string_bytes, IfOk, IfSome, OnErr};
+ghost use Rattle.lawdesk.specs.Jobs.{counted, export_job, generate_job, job_of, pair_job, plain_job, serve_job, serve_named, serving_of, text_job, triple_job, word_job};
 ghost use Rattle.lawdesk.specs.Taking.{given, words_in};
 ghost use Rattle.lawdesk.specs.ReportJobs.{report_job};
 ghost use Rattle.lawdesk.specs.declared.job.Job.TheVariants as jobs;
 
 use crate::report_job::ReportJob;
+use crate::serving::serve_job::ServeJob;
 use crate::taking::{has_dash, take_words};
 use clap::ArgMatches;
 use desk_base::{Memory, decimal_number};
@@ -37,6 +38,12 @@ pub enum Job {
     Report(ReportJob),
     /// Generate a register, and say what became of its commands.
     Generate(GenerateJob),
+    /// Open the register that is kept, and write the frames of all its payloads above this number, or what is damaged.
+    Export(u64),
+    /// Open the register that is kept, and take the frames of the source.
+    Follow,
+    /// Serve connections over the register that is kept.
+    Serve(ServeJob),
 }
 
 // The job of the text on a day, where the words name a day and a reading.
@@ -46,29 +53,55 @@ fn text_job(date: &str, reading: Option<Reading>) -> Option<Job>
     Some(Job::Text(TextJob::named(date, reading)?))
 }
 
+/// The number from 1 up to `most` that a word names.
+pub fn counted(word: &str, most: u64) -> Option<u64>
+    ensures value { result ≡ counted most word.now }
+    ensures bound { IfSome result (λ n. n ≤ most) }
+{
+    let count = decimal_number(word, most)?;
+    if count == 0 {
+        return None;
+    }
+    Some(count)
+}
+
 // The job of generating a register, where the words name a seed and a count.
 fn generate_job(seed: &str, count: &str) -> Option<Job>
     ensures { result ≡ generate_job seed.now count.now }
 {
     let seed = decimal_number(seed, 18_446_744_073_709_551_615)?;
-    let count = decimal_number(count, 2_000)?;
-    if count == 0 {
-        return None;
-    }
+    let count = counted(count, 2_000)?;
     Some(Job::Generate(GenerateJob {
         seed,
         count: count as u16,
     }))
 }
 
-// The job of generating a register, where the words behind `generate` are a seed and a count.
-fn seeded_job<S: AsStr>(words: &[S]) -> Option<Job>
-    ensures { result ≡ seeded_job (map S.text words.now) }
+// The job of exporting what stands above a number, where the word names one.
+fn export_job(from: &str) -> Option<Job>
+    ensures { result ≡ export_job from.now }
 {
-    if words.len() == 2 {
-        return generate_job(words[0].as_str(), words[1].as_str());
-    }
-    None
+    let from = decimal_number(from, 18_446_744_073_709_551_615)?;
+    Some(Job::Export(from))
+}
+
+// The connections to serve, where the words name a port and a count.
+fn serve_named(port: &str, connections: &str) -> Option<ServeJob>
+    ensures { result ≡ serve_named port.now connections.now }
+{
+    let port = counted(port, 65_535)?;
+    let connections = counted(connections, 1_000_000)?;
+    Some(ServeJob {
+        port: port as u16,
+        connections: connections as u32,
+    })
+}
+
+// The job of serving them.
+fn serve_job(port: &str, connections: &str) -> Option<Job>
+    ensures { result ≡ serve_job port.now connections.now }
+{
+    Some(Job::Serve(serve_named(port, connections)?))
 }
 
 // The job that one word asks for.
@@ -81,23 +114,55 @@ fn word_job(word: &str) -> Option<Job>
     if word == "batch" {
         return Some(Job::Batch);
     }
+    if word == "follow" {
+        return Some(Job::Follow);
+    }
     None
 }
 
-// The job that words other than those of a report, and other than `generate` with what follows it, ask for.
+// The job that two words ask for.
+fn pair_job(word: &str, other: &str) -> Option<Job>
+    ensures { result ≡ pair_job word.now other.now }
+{
+    if word == "text" {
+        return text_job(other, Some(Reading::Force));
+    }
+    if word == "export" {
+        return export_job(other);
+    }
+    None
+}
+
+// The job that three words ask for.
+fn triple_job(word: &str, first: &str, second: &str) -> Option<Job>
+    ensures { result ≡ triple_job word.now first.now second.now }
+{
+    if word == "text" {
+        return text_job(first, Reading::from_name(second));
+    }
+    if word == "generate" {
+        return generate_job(first, second);
+    }
+    if word == "serve" {
+        return serve_job(first, second);
+    }
+    None
+}
+
+// The job that words other than those of a report ask for.
 fn plain_job<S: AsStr>(words: &[S]) -> Option<Job>
     ensures { result ≡ plain_job (map S.text words.now) }
 {
     if words.len() == 1 {
         return word_job(words[0].as_str());
     }
-    if words.len() < 2 || words.len() > 3 || words[0].as_str() != "text" {
-        return None;
-    }
     if words.len() == 2 {
-        return text_job(words[1].as_str(), Some(Reading::Force));
+        return pair_job(words[0].as_str(), words[1].as_str());
     }
-    text_job(words[1].as_str(), Reading::from_name(words[2].as_str()))
+    if words.len() == 3 {
+        return triple_job(words[0].as_str(), words[1].as_str(), words[2].as_str());
+    }
+    None
 }
 
 // The job of the table that the words behind `report` ask for.
@@ -123,9 +188,6 @@ fn job_in<S: AsStr>(alloc: Global, words: &[S]) -> Result<Option<Job>, Memory>
     if words[0].as_str() == "report" {
         return report_job(alloc, &words[1..]);
     }
-    if words[0].as_str() == "generate" {
-        return Ok(seeded_job(&words[1..]));
-    }
     Ok(plain_job(words))
 }
 
@@ -149,6 +211,27 @@ fn untaken_job(alloc: Global, words: &[String]) -> Result<Option<Job>, Memory>
         Some(_) => Err(Memory),
         None => Ok(None),
     }
+}
+
+// The connections to serve, where three words ask for that.
+#[tactic(auto, using(crate::proofs::Served::serve_words, crate::proofs::Served::other_word))]
+fn serve_words(word: &str, port: &str, connections: &str) -> Option<ServeJob>
+    ensures { result ≡ serving_of (job_of (word.now ∷ port.now ∷ connections.now ∷ [])) }
+{
+    if word == "serve" {
+        return serve_named(port, connections);
+    }
+    None
+}
+
+/// The connections to serve, where words ask for that. It takes no memory.
+pub fn serve_asked(words: &[String]) -> Option<ServeJob>
+    ensures { result ≡ serving_of (job_of (map string_bytes words.now)) }
+{
+    if words.len() == 3 {
+        return serve_words(words[0].as_str(), words[1].as_str(), words[2].as_str());
+    }
+    None
 }
 
 impl Job {

@@ -7,7 +7,7 @@ ghost use Rattle.lawdesk.specs.Amiss.{amiss};
 ghost use Rattle.lawdesk.specs.Jobs.{job_of};
 ghost use Rattle.lawdesk.specs.Notices.{notice_of, usage_of};
 ghost use Rattle.lawdesk.specs.declared.amiss.Amiss.{Amiss};
-ghost use Rattle.lawdesk.specs.declared.job.Job.TheVariants.{Generate};
+ghost use Rattle.lawdesk.specs.declared.job.Job.TheVariants.{Export, Generate, Serve};
 ghost use Rattle.lawdesk.specs.declared.usage.TheConstants.{USAGE_TEXT};
 
 /// At most so many bytes are read of a source: one more than a dossier may have.
@@ -26,6 +26,26 @@ pub fn counts_are_limited()
     ensures larger_seed { job_of (codes "generate" ∷ codes "18446744073709551616" ∷ codes "1" ∷ []) ≡ None }
 {}
 
+/// What is exported stands above a number of 64 bits, in decimal without leading zeros.
+pub fn exports_are_limited()
+    ensures least { job_of (codes "export" ∷ codes "0" ∷ []) ≡ Some (Export 0) }
+    ensures most { job_of (codes "export" ∷ codes "18446744073709551615" ∷ []) ≡ Some (Export 18446744073709551615) }
+    ensures one_more { job_of (codes "export" ∷ codes "18446744073709551616" ∷ []) ≡ None }
+    ensures zeros { job_of (codes "export" ∷ codes "01" ∷ []) ≡ None }
+{}
+
+/// Connections are served at a port from 1 to 65535, 1 to 1000000 of them by each gate.
+pub fn connections_are_limited()
+    ensures least { job_of (codes "serve" ∷ codes "1" ∷ codes "1" ∷ [])
+        ≡ Some (Serve (record { port = 1; connections = 1 })) }
+    ensures most { job_of (codes "serve" ∷ codes "65535" ∷ codes "1000000" ∷ [])
+        ≡ Some (Serve (record { port = 65535; connections = 1000000 })) }
+    ensures no_port { job_of (codes "serve" ∷ codes "0" ∷ codes "1" ∷ []) ≡ None }
+    ensures no_connection { job_of (codes "serve" ∷ codes "8080" ∷ codes "0" ∷ []) ≡ None }
+    ensures larger_port { job_of (codes "serve" ∷ codes "65536" ∷ codes "1" ∷ []) ≡ None }
+    ensures one_more { job_of (codes "serve" ∷ codes "8080" ∷ codes "1000001" ∷ []) ≡ None }
+{}
+
 /// Where words are no form of the command line, and there alone, one of them is named, or the one that is missing behind them: the
 /// words before it begin a form, and no form begins with them and it.
 pub fn wrong_words_are_named()
@@ -37,6 +57,7 @@ pub fn wrong_words_are_named()
 {}
 
 /// What is said of words that are no form of the command line: which is wrong, and then the usage.
+#[tactic(auto, unfolding(crate::specs::Notices::wrong_word))]
 pub fn wrong_words_are_told()
     ensures none { usage_of (Some []) ≡ codes "lawdesk: no command is given" ++ 10 ∷ USAGE_TEXT.now }
     ensures command { usage_of (Some (codes "txt" ∷ [])) ≡ codes "lawdesk: txt is no command" ++ 10 ∷ USAGE_TEXT.now }
@@ -60,6 +81,8 @@ pub fn notices_are_these()
         ≡ Some (codes "lawdesk: the journal lawdesk.jnl could not be opened, read or written") }
     ensures held { (words : Option (List (List ℕ))) → notice_of 5 true words ≡ Some (codes "lawdesk: another process holds lawdesk.jnl") }
     ensures memory { (held : Bool) (words : Option (List (List ℕ))) → notice_of 7 held words ≡ Some (codes "lawdesk: there was not enough memory") }
+    ensures gates { (held : Bool) (words : Option (List (List ℕ))) → notice_of 8 held words
+        ≡ Some (codes "lawdesk: the port could not be listened at, or a connection could not be had") }
 {}
 
 /// What is said of all words that are no form of the command line.
@@ -71,26 +94,37 @@ pub fn usage_is_this()
         codes "Commands:" ++ 10 ∷
         codes "  text DATE [READING]                   the text on that day of the act of the "
         ++ codes "dossier on standard input" ++ 10 ∷
-        codes "  batch                                 answers the HTTP requests on standard input, "
-        ++ codes "over the register" ++ 10 ∷
+        codes "  batch                                 answers the HTTP requests on standard "
+        ++ codes "input, over the register" ++ 10 ∷
+        codes "  serve PORT CONNECTIONS                answers the HTTP requests of connections, "
+        ++ codes "four at a time, over the register" ++ 10 ∷
         codes "  check                                 how many entries the register has, or what "
         ++ codes "is damaged" ++ 10 ∷
         codes "  report lifecycle WORK                 a table of what happened to an act" ++ 10 ∷
         codes "  report correspondence WORK DATE DATE  a table of which provision of one day is "
         ++ codes "which of another" ++ 10 ∷
-        codes "  report unapplied DATE                 a table of what could not be applied on that "
-        ++ codes "day, and why" ++ 10 ∷
+        codes "  report unapplied DATE                 a table of what could not be applied on "
+        ++ codes "that day, and why" ++ 10 ∷
         codes "  generate SEED COUNT                   makes a register in memory, and tells what "
-        ++ codes "became of its commands" ++ 10 ∷ 10 ∷
+        ++ codes "became of its commands" ++ 10 ∷
+        codes "  export FROM                           the entries of the register that stand "
+        ++ codes "above a number, as frames" ++ 10 ∷
+        codes "  follow                                takes the frames on standard input into the "
+        ++ codes "register" ++ 10 ∷ 10 ∷
         codes "Words:" ++ 10 ∷
-        codes "  DATE     a day from 0001-01-01 to 9999-12-31, as 2011-01-01" ++ 10 ∷
-        codes "  READING  force (what is in force, if no reading is given) or efficacy (what has effect)" ++ 10 ∷
-        codes "  WORK     the IRI of an act, as /akn/gb/act/2010-05-01/7" ++ 10 ∷
-        codes "  SEED     a whole number from 0 to 18446744073709551615" ++ 10 ∷
-        codes "  COUNT    a whole number from 1 to 2000" ++ 10 ∷ 10 ∷
-        codes "batch, check and report open the journal lawdesk.jnl in the working folder. Answers, "
-        ++ codes "responses and tables are" ++ 10 ∷
-        codes "written to standard output." ++ 10 ∷ 10 ∷
+        codes "  DATE         a day from 0001-01-01 to 9999-12-31, as 2011-01-01" ++ 10 ∷
+        codes "  READING      force (what is in force, if no reading is given) or efficacy (what "
+        ++ codes "has effect)" ++ 10 ∷
+        codes "  PORT         a whole number from 1 to 65535, of this machine alone" ++ 10 ∷
+        codes "  CONNECTIONS  a whole number from 1 to 1000000, which each of the four serves one "
+        ++ codes "after another" ++ 10 ∷
+        codes "  WORK         the IRI of an act, as /akn/gb/act/2010-05-01/7" ++ 10 ∷
+        codes "  SEED         a whole number from 0 to 18446744073709551615" ++ 10 ∷
+        codes "  COUNT        a whole number from 1 to 2000" ++ 10 ∷
+        codes "  FROM         a whole number from 0 (for all entries) to 18446744073709551615" ++ 10 ∷ 10 ∷
+        codes "All but text and generate open the journal lawdesk.jnl in the working folder. "
+        ++ codes "Answers, responses, tables and frames" ++ 10 ∷
+        codes "are written to standard output." ++ 10 ∷ 10 ∷
         codes "Exit status:" ++ 10 ∷
         codes "  0   it was done" ++ 10 ∷
         codes "  1   batch: what stood behind the last request was none" ++ 10 ∷
@@ -100,6 +134,8 @@ pub fn usage_is_this()
         codes "  5   the journal could not be opened, read or written, or another process holds it" ++ 10 ∷
         codes "  6   what the journal keeps is no register" ++ 10 ∷
         codes "  7   there was not enough memory" ++ 10 ∷
+        codes "  8   serve: the port could not be listened at, or no connection could be had" ++ 10 ∷
         codes "  9   a rule of the register refuses the act, a modification or the question" ++ 10 ∷
-        codes "  10  standard input is no dossier" }
+        codes "  10  standard input is no dossier" ++ 10 ∷
+        codes "  12  follow: a frame is refused" }
 {}

@@ -4,14 +4,18 @@
 mod amiss;
 mod batching;
 mod checking;
+mod exporting;
+mod following;
 mod generating;
 mod job;
 mod laws;
 mod notice;
 mod report_job;
 mod run;
+mod serving;
 mod tabling;
 mod taking;
+mod telling;
 mod usage;
 
 ghost use Rattle.std.specs.Prelude.{◌≡◌, ◌↔◌, ◌≢◌, None, map, string_bytes};
@@ -19,7 +23,8 @@ ghost use Rattle.std.specs.declared.io.ErrorKind.TheVariants.{OutOfMemory};
 ghost use Rattle.lawdesk.specs.Jobs.{job_of};
 ghost use Rattle.lawdesk.specs.Statuses.{IsStatus};
 
-use desk_base::{Reading, Steps, UtcClock, Writing};
+use desk_base::{Reading, UtcClock, Writing};
+use desk_gates::TcpGate;
 use law_journal::FileDisk;
 use law_keeper::{JournalKeeper, Keeper};
 use notice::{Said, notice};
@@ -27,9 +32,9 @@ use run::run;
 use std::alloc::Global;
 use std::env;
 use std::io::{self, ErrorKind, Read, Write};
-use std::marker::Brand;
+use std::net::Net;
 use std::process::ExitCode;
-use std::sync::ledger::{Blank, Ledger};
+use std::sync::{OnceLock, Wait};
 use std::thread::Threads;
 use std::time::Clock;
 
@@ -45,34 +50,38 @@ fn words(rt: &HostRuntime) -> io::Result<Vec<String>> {
     Ok(words)
 }
 
-// Runs the words over a reader, a writer, a keeper and the machine's clock, with a count of steps that begins here.
-fn run_over<L: Ledger, H: Threads + Clock, R: Read + Drop, W: Write + Drop, K: Keeper>(
-    rt: &H,
-    alloc: Global,
-    words: &[String],
-    reader: R,
-    writer: W,
-    keeper: &mut K,
-    blank: Blank,
-) -> u8
-    requires name { blank.name ≡ L.name }
-    requires parts { blank.parts ≡ L.parts }
-    requires one { blank.parts ≡ 1 }
+// Runs the words over a reader, a writer, a keeper, the machine's clock, and four gates of its own address that share one socket.
+fn run_over<
+    H: Threads + Wait + Sync + Net + Clock,
+    R: Read + Drop,
+    W: Write + Drop,
+    K: Keeper + Send,
+>(rt: &H, alloc: Global, words: &[String], reader: R, writer: W, keeper: &mut K) -> u8
+where
+    H::Listener: Send + Sync,
+    H::Stream: Send,
     ensures status { IsStatus result }
     ensures words { (result ≡ 2) ↔ (job_of (map string_bytes words.now) ≡ None) }
 {
-    let mut steps = Steps::<L>::start(rt, blank);
     let mut source = Reading::new(reader);
     let mut sink = Writing::new(writer);
     let mut clock = UtcClock::new(rt);
+    let shared = OnceLock::new();
+    let mut gates = [
+        TcpGate::new(rt, &shared),
+        TcpGate::new(rt, &shared),
+        TcpGate::new(rt, &shared),
+        TcpGate::new(rt, &shared),
+    ];
     run(
+        rt,
         alloc,
         words,
         &mut source,
         &mut sink,
         keeper,
         &mut clock,
-        &mut steps,
+        &mut gates,
     )
 }
 
@@ -111,14 +120,13 @@ fn main(rt: HostRuntime) -> ExitCode {
     match words(&rt) {
         Ok(words) => {
             let mut keeper = JournalKeeper::new(rt.alloc(), FileDisk::new(&rt, JOURNAL));
-            let status = run_over::<Brand, _, _, _, _>(
+            let status = run_over(
                 &rt,
                 rt.alloc(),
                 words.as_slice(),
                 rt.stdin(),
                 rt.stdout(),
                 &mut keeper,
-                Blank::new(1),
             );
             let is_held = keeper.disk().is_held();
             say(&rt, notice(status, is_held, Some(words.as_slice())));

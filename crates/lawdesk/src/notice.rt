@@ -17,6 +17,9 @@ pub const UNKEPT: &str = "lawdesk: the journal lawdesk.jnl could not be opened, 
 
 pub const HELD: &str = "lawdesk: another process holds lawdesk.jnl";
 
+pub const UNGATED: &str =
+    "lawdesk: the port could not be listened at, or a connection could not be had";
+
 pub const WANTING: &str = "lawdesk: there was not enough memory";
 
 /// What is said: these pieces in one line, and the usage on lines of its own where there is one.
@@ -107,6 +110,9 @@ fn wanted_text(wanted: Wanted) -> &'static str
         Wanted::Work => "the IRI of an act, as /akn/gb/act/2010-05-01/7",
         Wanted::Seed => "a seed, from 0 to 18446744073709551615",
         Wanted::Count => "a count, from 1 to 2000",
+        Wanted::From => "a number, from 0 to 18446744073709551615",
+        Wanted::Port => "a port, from 1 to 65535",
+        Wanted::Connections => "a count of connections, from 1 to 1000000",
         Wanted::Nothing => "no more words",
     }
 }
@@ -157,6 +163,7 @@ fn unwanted<'a>(command: &'a str, wanted: Wanted, word: &'a str) -> Said<'a>
 }
 
 // What is said of a word that is there.
+#[tactic(auto, unfolding(crate::specs::Notices::wrong_word))]
 fn wrong_word<'a>(command: &'a str, wanted: Wanted, word: &'a str) -> Said<'a>
     ensures { said_text result ≡ spec.wrong_word command.now wanted word.now }
 {
@@ -190,7 +197,7 @@ fn usage(words: &[String]) -> Said<'_>
     }
 }
 
-/// What is said beside a status: at 2 which word is wrong and the usage, and what failed at 3, 4, 5 and 7. Of a journal that another
+/// What is said beside a status: at 2 which word is wrong and the usage, and what failed at 3, 4, 5, 7 and 8. Of a journal that another
 /// process holds, it is said that one does. `None` in the place of the words: some word is no text.
 pub fn notice(status: u8, is_held: bool, words: Option<&[String]>) -> Option<Said<'_>>
     ensures { option_map said_text result
@@ -205,6 +212,7 @@ pub fn notice(status: u8, is_held: bool, words: Option<&[String]>) -> Option<Sai
         4 => Some(line(UNWRITTEN)),
         5 => Some(line(if is_held { HELD } else { UNKEPT })),
         7 => Some(line(WANTING)),
+        8 => Some(line(UNGATED)),
         _ => None,
     }
 }

@@ -3,7 +3,7 @@ use Rattle.std.proofs.Common.{◌∙◌, ap, get_or, subst, sym, ℕ, List}
 use Rattle.law_office.specs.Offices.{Spells, pending_of}
 use Rattle.law_office.specs.Opening.{opened_of}
 use Rattle.law_register.specs.Desk.States.{IsFoundOf}
-use Rattle.lawdesk.proofs.Serving.{serves_over}
+use Rattle.lawdesk.proofs.Streamed.{serves_over}
 use Rattle.lawdesk.proofs.batching.serve_book.Goals as goal
 
 pub returns-clause-served : goal.returns-clause-served

@@ -1,0 +1,99 @@
+-- What follows of how a run told something: why the sink failed, and that no other status came of it.
+use Rattle.std.proofs.Common.{◌≡◌, ◌≢◌, ◌⊎◌, ◌∙◌, inl, inr, ℕ, List, Option, Some, None, Result, Ok, Err, ap, arith, refl, sym}
+use Rattle.desk_base.specs.Streams.{Appended, risen}
+use Rattle.desk_base.specs.declared.source.Failed.{Failed}
+use Rattle.dossier_text.proofs.Telling.{is_front}
+use Rattle.dossier_text.specs.Reports.{Told}
+use Rattle.dossier_text.specs.Runs.{IsWritten}
+use Rattle.law_follow.specs.Opening.{HasFirstCause}
+use Rattle.law_keeper.specs.Keepers.{Holding}
+use Rattle.law_register.specs.declared.desk.damage.Damage.{Damage}
+use Rattle.law_register.specs.declared.desk.damage.Damage.TheVariants as damage
+use Rattle.law_register.specs.declared.desk.open_fault.OpenFault.{OpenFault}
+use Rattle.law_register.specs.declared.desk.open_fault.OpenFault.TheVariants as fails
+use Rattle.lawdesk.specs.Checking.{told_damage}
+use Rattle.lawdesk.specs.Telling.{EndsWith, IsToldInPart, IsToldWhole, Tells, TellsUnopened}
+
+is_written : (before now : Option (List ℕ)) (bytes : List ℕ) (done : Unit {0})
+    → Appended {E = Failed} before now bytes (Ok done) → IsWritten before now bytes
+is_written None now bytes done appended = tt
+is_written (Some before) now bytes done appended = appended
+
+module _ {W : Type 0} (written : W → Option (List ℕ)) (faults : W → ℕ) (sink sink_new : W) (told : Told) where
+  pub told_whole : (done : Unit {0}) → Appended {E = Failed} (written sink) (written sink_new) told.bytes (Ok done)
+      → faults sink_new ≡ faults sink → Tells written faults sink sink_new told.status told
+  told_whole done appended stays = inl (record {
+    status_is = refl;
+    bytes = is_written (written sink) (written sink_new) told.bytes done appended;
+    stays = stays;
+  })
+
+  pub told_in_part : (fault : Failed) → Appended (written sink) (written sink_new) told.bytes (Err fault)
+      → faults sink_new ≡ risen (faults sink) → Tells written faults sink sink_new 4 told
+  told_in_part fault appended rises = inr (inl (record {
+    status_is = refl;
+    bytes = is_front (written sink) (written sink_new) told.bytes fault appended;
+    rises = rises;
+  }))
+
+module _ {W : Type 0} (written : W → Option (List ℕ)) (faults : W → ℕ) (sink sink_new : W) (status : ℕ) where
+  -- a fault of the sink is the cause of a 4, and there is none else
+  pub four_cause : (told : Told) → told.status ≢ 4 → Tells written faults sink sink_new status told
+      → status ≡ 4 → faults sink_new ≡ risen (faults sink)
+  four_cause told other (inl whole) four = absurd (other (sym whole.status_is ∙ four))
+  four_cause told other (inr (inl part)) four = part.rises
+  four_cause told other (inr (inr ends)) four = let seven : status ≡ 7 = ends.status_is in absurd (omega (arith, seven, four))
+
+  pub four_stays : (told : Told) → Tells written faults sink sink_new status told → status ≢ 4 → faults sink_new ≡ faults sink
+  four_stays told (inl whole) other = whole.stays
+  four_stays told (inr (inl part)) other = absurd (other part.status_is)
+  four_stays told (inr (inr ends)) other = ap faults ends.same
+
+  -- it ends with its own status, with 4 or with 7
+  pub one_of_three : (told : Told) → Tells written faults sink sink_new status told → (status ≡ told.status) ⊎ ((status ≡ 4) ⊎ (status ≡ 7))
+  one_of_three told (inl whole) = inl whole.status_is
+  one_of_three told (inr (inl part)) = inr (inl part.status_is)
+  one_of_three told (inr (inr ends)) = inr (inr ends.status_is)
+
+  six_is_not_four : (damage : Damage) → (told_damage damage).status ≢ 4
+  six_is_not_four damage four = let wrong : 6 ≡ 4 = four in omega (arith, wrong)
+
+  pub unopened_cause : (fault : OpenFault) → TellsUnopened written faults sink sink_new status fault
+      → status ≡ 4 → faults sink_new ≡ risen (faults sink)
+  unopened_cause (fails.Damaged broken) tells four = four_cause (told_damage broken) (six_is_not_four broken) tells four
+  unopened_cause fails.Failed ends four = let five : status ≡ 5 = ends.status_is in absurd (omega (arith, five, four))
+  unopened_cause fails.Memory ends four = let seven : status ≡ 7 = ends.status_is in absurd (omega (arith, seven, four))
+
+  pub unopened_stays : (fault : OpenFault) → TellsUnopened written faults sink sink_new status fault
+      → status ≢ 4 → faults sink_new ≡ faults sink
+  unopened_stays (fails.Damaged broken) tells other = four_stays (told_damage broken) tells other
+  unopened_stays fails.Failed ends other = ap faults ends.same
+  unopened_stays fails.Memory ends other = ap faults ends.same
+
+  -- the status of a register that was not opened
+  pub unopened_status : (fault : OpenFault) → TellsUnopened written faults sink sink_new status fault
+      → (status ≡ 4) ⊎ ((status ≡ 5) ⊎ ((status ≡ 6) ⊎ (status ≡ 7)))
+  unopened_status (fails.Damaged broken) (inl whole) = inr (inr (inl whole.status_is))
+  unopened_status (fails.Damaged broken) (inr (inl part)) = inl part.status_is
+  unopened_status (fails.Damaged broken) (inr (inr ends)) = inr (inr (inr ends.status_is))
+  unopened_status fails.Failed ends = inr (inl ends.status_is)
+  unopened_status fails.Memory ends = inr (inr (inr ends.status_is))
+
+  -- why the keeper failed
+  pub opening_cause : (h : Holding) (before now : ℕ) (fault : OpenFault) → HasFirstCause h before now fault
+      → TellsUnopened written faults sink sink_new status fault → status ≡ 5 → now ≡ risen before
+  opening_cause h before now (fails.Damaged broken) cause (inl whole) five =
+      let six : status ≡ 6 = whole.status_is in absurd (omega (arith, six, five))
+  opening_cause h before now (fails.Damaged broken) cause (inr (inl part)) five =
+      let four : status ≡ 4 = part.status_is in absurd (omega (arith, four, five))
+  opening_cause h before now (fails.Damaged broken) cause (inr (inr ends)) five =
+      let seven : status ≡ 7 = ends.status_is in absurd (omega (arith, seven, five))
+  opening_cause h before now fails.Failed cause ends five = cause.0
+  opening_cause h before now fails.Memory cause ends five =
+      let seven : status ≡ 7 = ends.status_is in absurd (omega (arith, seven, five))
+
+  pub opening_stays : (h : Holding) (before now : ℕ) (fault : OpenFault) → HasFirstCause h before now fault
+      → TellsUnopened written faults sink sink_new status fault → status ≢ 5 → h.tells → now ≡ before
+  opening_stays h before now (fails.Damaged broken) cause tells other told = cause.1 told
+  opening_stays h before now fails.Failed cause ends other told = absurd (other ends.status_is)
+  opening_stays h before now fails.Memory cause ends other told = cause.0
