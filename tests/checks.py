@@ -23,6 +23,7 @@ SAID = {
     4: b"lawdesk: standard output could not be written\n",
     5: b"lawdesk: the journal lawdesk.jnl could not be opened, read or written\n",
     7: b"lawdesk: there was not enough memory\n",
+    8: b"lawdesk: the port could not be listened at, or a connection could not be had\n",
 }
 HELD = b"lawdesk: another process holds lawdesk.jnl\n"
 

@@ -14,11 +14,13 @@ from devices.measured_runs import KEEPER, SINK, SOURCE
 from devices.journal_file import journal
 from devices.want_of_memory import NO_MEMORY
 from models import failing_keepers
+from models.followers import LONG, framed
 from models.journal_openings import entered, entries, payloads, undated
 from rows import dossiers, histories, mixed
 from rows.register import ONE
 
 POINTS = 5_000
+SENT = 12
 WORKERS = os.cpu_count()
 
 
@@ -77,6 +79,25 @@ class Opened(Form):
         return run[:4] if run[:3] not in wanted or payloads(run.kept or b"") != [] else None
 
 
+class Exported(Form):
+    """The frames of a register: where there is not enough memory, the first of them may be written."""
+
+    def fault_of(self, run):
+        fronts = [framed(LONG[:count]) for count in range(len(LONG) + 1)]
+        allowed = run[:3] == self.whole or (run.met and run.status == 7 and run.said == SAID[7] and run.written in fronts)
+        return None if allowed and run.kept == self.begun else run[:3]
+
+
+class Followed(Form):
+    """Frames that are sent to an empty follower: what it holds is a front of its leader's payloads."""
+
+    def fault_of(self, run):
+        wanted = [self.whole] + [(7, b"", SAID[7])] * run.met
+        left = payloads(run.kept or b"")
+        allowed = run[:3] in wanted and left is not None and left == LONG[:len(left)] and (run.status == 7 or len(left) == SENT)
+        return None if allowed else (*run[:3], left and len(left))
+
+
 def forms():
     file = whole_journal()
     damaged = journal(failing_keepers.EXAMPLE)
@@ -94,6 +115,8 @@ def forms():
         "report": [(0, Form(["report", "unapplied", "2011-01-01"], begun=file)), (0, Form(["report", "lifecycle", ONE], begun=file)),
                    (0, Form(["report", "correspondence", ONE, "2010-06-01", "2011-01-01"], begun=file)),
                    (9, Form(["report", "lifecycle", ONE + "0"], begun=file)), (5, Form(["report", "lifecycle", ONE], failing=KEEPER))],
+        "export": [(0, Exported(["export", "0"], begun=journal(*LONG)))],
+        "follow": [(0, Followed(["follow"], framed(LONG[:SENT])))],
         "words": [(2, Form(["text", "2011-01-32"])), (0, Form(["generate", "0", "3"]))],
     }
 
