@@ -24,4 +24,3 @@ pub mod ServingGates
 pub mod ServingVisits
 pub mod ServingFour
 pub mod ServingRuns
-pub mod ServingAsked
