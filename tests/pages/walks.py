@@ -3,11 +3,13 @@ to what is promised of a crash. He reads 200 words a minute, and types the comma
 import json
 import os
 import re
+import socket
 import subprocess
 import time
 
 import checks
 from checks import TOP, check, read
+from clients.served_desks import free_port
 
 LIMIT, WORDS_A_MINUTE = 300, 200
 BLOCK = re.compile(r"^```sh\n(.*?)^```$(?:\n\n```text\n(.*?)^```$)?", re.DOTALL | re.MULTILINE)
@@ -37,6 +39,24 @@ def typed(line, folder):
     return (done.returncode, done.stdout, done.stderr), time.monotonic() - began
 
 
+def served(line, folder):
+    """The same of a command that serves a port, at another port, which is asked for the front until the command has served all connections."""
+    began, port = time.monotonic(), free_port()
+    line = re.sub(r"serve \d+", f"serve {port}", line)
+    child = subprocess.Popen(["sh", "-c", line], stdin=subprocess.DEVNULL, stdout=subprocess.PIPE, stderr=subprocess.PIPE, cwd=folder)
+    while child.poll() is None and time.monotonic() - began < LIMIT:
+        try:
+            with socket.create_connection(("127.0.0.1", port), timeout=5) as peer:
+                peer.sendall(b"GET /front HTTP/1.1\r\nHost: desk\r\nConnection: close\r\n\r\n")
+                while peer.recv(4096):
+                    pass
+        except OSError:
+            time.sleep(0.01)
+    child.kill()
+    written, said = child.communicate()
+    return (child.returncode, written, said), time.monotonic() - began
+
+
 def place():
     """A folder in which the commands of the page find the script and the examples."""
     folder = checks.folder()
@@ -51,7 +71,7 @@ def commands():
     check("blocks of README.md", len(blocks) >= 3, True)
     with place() as folder:
         for number, (line, shown) in enumerate(blocks, 1):
-            (status, written, said), _ = typed(line, folder)
+            (status, written, said), _ = (served if " serve " in line else typed)(line, folder)
             check(f"README.md, block {number}", (status, said), (0, b""))
             if shown:
                 check(f"what README.md shows of block {number}", written.decode().rstrip("\n"), shown.rstrip("\n"))
