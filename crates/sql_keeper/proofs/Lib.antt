@@ -5,3 +5,6 @@ pub mod Queries
 pub mod Loads
 pub mod Steps
 pub mod Holdings
+pub mod Moves
+pub mod Appending
+pub mod Composing

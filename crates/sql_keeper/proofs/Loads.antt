@@ -6,10 +6,10 @@ use Rattle.sqlite.specs.Order.{Row, column}
 use Rattle.sqlite.specs.State.{State, IsUnchanged, Shown, ShowsRows, QueriesRow}
 use Rattle.sqlite.specs.Listing.{understood}
 use Rattle.sqlite.proofs.Callers.{IsPlain}
-use Rattle.sql_keeper.specs.Tables.{entry_schema, list_of}
+use Rattle.sql_keeper.specs.Tables.{entry_schema, list_of, row_text}
 use Rattle.sql_keeper.specs.Connections.{IsSame, HasTable, IsPayloadOf}
 use Rattle.sql_keeper.specs.declared.open_refused.OpenRefused.{OpenRefused}
-use Rattle.sql_keeper.proofs.Meanings.{row_text, row_plain}
+use Rattle.sql_keeper.proofs.Meanings.{row_plain}
 use Rattle.sql_keeper.proofs.Rests.{unchanged, not_queried}
 use Rattle.sql_keeper.proofs.Queries.{shown_row}
 

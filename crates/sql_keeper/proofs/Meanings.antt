@@ -1,5 +1,5 @@
 -- What the statements of a keeper mean.
-use Rattle.std.proofs.Common.{◌≡◌, ℕ, pos, negsuc, List, [], ◌∷◌, codes, false, None, Ok, refl}
+use Rattle.std.proofs.Common.{◌≡◌, pos, negsuc, List, [], ◌∷◌, codes, false, None, Ok, refl}
 use Rattle.sqlite.specs.declared.types.Value.TheVariants.{Null, Int}
 use Rattle.sqlite.specs.Term.{Term, lit, col, op2}
 use Rattle.sqlite.specs.Query.{Query, inner, end}
@@ -13,19 +13,7 @@ use Rattle.sqlite_tied.specs.Compute.{everything}
 use Rattle.sqlite.proofs.Callers.{IsPlain, command_of, statement_of}
 use Rattle.sqlite_sql.specs.declared.ops.BinaryOp.TheVariants.{Compare}
 use Rattle.sqlite_sql.specs.declared.ops.CompareOp.TheVariants.{Eq}
-use Rattle.sql_keeper.specs.Tables.{entry, entry_schema, no_schema}
-
-abbrev pub create_text : List ℕ
-create_text = codes "CREATE TABLE IF NOT EXISTS entry (number INTEGER PRIMARY KEY, payload BLOB NOT NULL) STRICT"
-
-abbrev pub insert_text : List ℕ
-insert_text = codes "INSERT INTO entry (number, payload) VALUES (?1, ?2)"
-
-abbrev pub rows_text : List ℕ
-rows_text = codes "SELECT number, payload FROM entry ORDER BY number"
-
-abbrev pub row_text : List ℕ
-row_text = codes "SELECT payload FROM entry WHERE number = ?1"
+use Rattle.sql_keeper.specs.Tables.{entry, entry_schema, no_schema, create_text, insert_text, rows_text, row_text}
 
 abbrev pub rows_query : Query
 rows_query = record {

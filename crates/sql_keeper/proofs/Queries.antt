@@ -20,9 +20,9 @@ use Rattle.sqlite_sql.specs.declared.ops.CompareOp.TheVariants.{Eq}
 use Rattle.sqlite_value.specs.declared.keys.Collation.TheVariants.{Binary}
 use Rattle.sqlite_value.specs.Order.{value_cmp}
 use Rattle.sqlite_value.proofs.OrderLemmas.{value_cmp_total}
-use Rattle.sql_keeper.specs.Tables.{entry_schema, rows_in, shown, list_from, list_of}
+use Rattle.sql_keeper.specs.Tables.{entry_schema, rows_in, shown, list_from, list_of, rows_text, row_text}
 use Rattle.sql_keeper.specs.Connections.{HasTable}
-use Rattle.sql_keeper.proofs.Meanings.{rows_text, rows_query, rows_is, rows_plain, row_text, row_query, row_is, row_plain}
+use Rattle.sql_keeper.proofs.Meanings.{rows_query, rows_is, rows_plain, row_query, row_is, row_plain}
 use Rattle.sql_keeper.proofs.Rests.{rows_there}
 use Rattle.sql_keeper.proofs.Rows.{number_rises, begins}
 

@@ -29,9 +29,9 @@ use Rattle.sqlite_trees.specs.View.{doubt}
 use Rattle.sqlite_trees.proofs.Doubt.{no_doubt}
 use Rattle.sqlite_trees.proofs.TreeLemmas.{IsTable-put_row}
 use Rattle.law_journal.specs.Grammar.{is_size}
-use Rattle.sql_keeper.specs.Tables.{entry, entry_schema, no_schema, rows_in, stored, shown, list_from, list_of}
+use Rattle.sql_keeper.specs.Tables.{entry, entry_schema, no_schema, rows_in, stored, shown, list_from, list_of, create_text, insert_text}
 use Rattle.sql_keeper.specs.Connections.{IsAtRest, HasTable, MayHaveTable, IsSame}
-use Rattle.sql_keeper.proofs.Meanings.{create_text, create_is, create_plain, again_is, again_plain, insert_text, insert_terms, insert_is, insert_plain}
+use Rattle.sql_keeper.proofs.Meanings.{create_is, create_plain, again_is, again_plain, insert_terms, insert_is, insert_plain}
 use Rattle.sql_keeper.proofs.Rows.{put_behind, listed_behind}
 
 -- a store that is open has been given what was written

@@ -12,9 +12,9 @@ use Rattle.sqlite.specs.Listing.{understood}
 use Rattle.sqlite.specs.Given.{HasGiven, HasBegun, GivesOn, IsRefused}
 use Rattle.sql_keeper.specs.Openers.{as_load_fault}
 use Rattle.sqlite.proofs.Callers.{IsPlain, given_begin, begun_plain}
-use Rattle.sql_keeper.specs.Tables.{entry_of, list_from, list_of}
+use Rattle.sql_keeper.specs.Tables.{entry_of, list_from, list_of, rows_text}
 use Rattle.sql_keeper.specs.Connections.{IsAtRest, HasTable, IsSame, IsChecked, ChecksNext, StepsOn, Counts}
-use Rattle.sql_keeper.proofs.Meanings.{rows_text, rows_plain}
+use Rattle.sql_keeper.proofs.Meanings.{rows_plain}
 use Rattle.sql_keeper.proofs.Rows.{AreEntries, whole, damaged, one_more}
 use Rattle.sql_keeper.proofs.Queries.{begun_rows, all_rows}
 use Rattle.sql_keeper.specs.declared.open_refused.OpenRefused.{OpenRefused}

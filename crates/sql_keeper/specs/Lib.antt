@@ -2,3 +2,4 @@ pub mod Tables
 pub mod Connections
 pub mod Openers
 pub mod SqlKeepers
+pub mod Moving

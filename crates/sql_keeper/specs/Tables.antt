@@ -35,6 +35,19 @@ entry_schema = record { tables = entry ∷ []; indexes = []; views = [] }
 abbrev pub no_schema : Schema
 no_schema = record { tables = []; indexes = []; views = [] }
 
+-- the statements: the table is made, a row is put in, the rows are shown in the order of their numbers, and the payload of a number
+abbrev pub create_text : List ℕ
+create_text = codes "CREATE TABLE IF NOT EXISTS entry (number INTEGER PRIMARY KEY, payload BLOB NOT NULL) STRICT"
+
+abbrev pub insert_text : List ℕ
+insert_text = codes "INSERT INTO entry (number, payload) VALUES (?1, ?2)"
+
+abbrev pub rows_text : List ℕ
+rows_text = codes "SELECT number, payload FROM entry ORDER BY number"
+
+abbrev pub row_text : List ℕ
+row_text = codes "SELECT payload FROM entry WHERE number = ?1"
+
 -- the rows of the table of that name; none where there is no such table
 abbrev pub rows_in : Database → List Row
 rows_in db = unwrap_or (option_map (λ t. db.trees t.tree)

@@ -2,7 +2,7 @@
 
 ghost use Rattle.std.specs.Prelude.{◌≡◌};
 
-use crate::open_refused::refusal_of;
+use crate::open_refused::opened;
 use crate::{OpenRefused, Opener};
 use sqlite::{Connection, FileFrom, FileStore, Wary};
 use std::rt::HostRuntime;
@@ -39,10 +39,10 @@ impl Opener for FileOpener<'_> {
     ghost faults = { λ opener. opener.faults };
 
     fn open(&mut self) -> Result<Connection<FileStore<FileFrom<Wary>>>, OpenRefused> {
-        match Connection::open_from(self.rt, NAME, false, Wary) {
-            Ok(connection) => Ok(connection),
-            Err((error, _)) => Err(refusal_of(error, &mut self.faults)),
-        }
+        opened(
+            Connection::open_from(self.rt, NAME, false, Wary),
+            &mut self.faults,
+        )
     }
 
     ghost stays_open = { λ opener told. absurd told };

@@ -2,7 +2,7 @@
 
 ghost use Rattle.std.specs.Prelude.{◌≡◌};
 ghost use Rattle.sql_keeper.specs.declared.open_refused.OpenRefused.TheVariants as refusal;
-ghost use Rattle.sql_keeper.specs.Openers.{HasCountedRefusal, as_load_fault};
+ghost use Rattle.sql_keeper.specs.Openers.{HasCountedRefusal, HasRefusalCause, as_load_fault, told_as, told_opening};
 
 use desk_base::{Failed, LoadFault, count_fault};
 use sqlite::{Error, ErrorCode};
@@ -22,12 +22,27 @@ pub enum OpenRefused {
 
 /// Tells what SQLite refused, and counts it unless memory was wanting.
 pub(crate) fn refusal_of(error: Error, faults: &mut u64) -> OpenRefused
-    ensures { HasCountedRefusal faults.old faults.new result }
+    ensures told { result ≡ told_as error }
+    ensures counted { HasCountedRefusal faults.old faults.new result }
 {
     if matches!(error, Error::SqliteFailure(ErrorCode::OutOfMemory)) {
         OpenRefused::Memory
     } else {
         OpenRefused::from(count_fault(faults))
+    }
+}
+
+/// Tells what an opening answered.
+pub(crate) fn opened<C: Drop, L: Drop>(
+    answer: Result<C, (Error, L)>,
+    faults: &mut u64,
+) -> Result<C, OpenRefused>
+    ensures told { result ≡ told_opening answer }
+    ensures cause { HasRefusalCause faults.old faults.new result }
+{
+    match answer {
+        Ok(connection) => Ok(connection),
+        Err((error, _)) => Err(refusal_of(error, faults)),
     }
 }
 

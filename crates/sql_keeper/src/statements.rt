@@ -1,14 +1,16 @@
 //! The statements of a keeper, one a function. A clause sees whether one was refused, which is counted.
 
-ghost use Rattle.std.specs.Prelude.{◌≡◌, ◌<◌, ◌^◌, pos, is_some, IsTrue, IfOk, OnOk};
+ghost use Rattle.std.specs.Prelude.{◌≡◌, ◌<◌, ◌^◌, [], ◌∷◌, pos, is_some, Err, IsTrue, IfErr, IfOk, OnOk};
 ghost use Rattle.sqlite.specs.Held.{state};
 ghost use Rattle.sqlite.specs.Order.{column};
 ghost use Rattle.sqlite.specs.Value.{owned};
-ghost use Rattle.sqlite.specs.declared.types.Value.TheVariants.{Blob};
+ghost use Rattle.sqlite.specs.State.{Executes, HasCleanDisk};
+ghost use Rattle.sqlite.specs.declared.types.Value.TheVariants.{Blob, Int};
 ghost use Rattle.sql_keeper.specs.Connections.{IsChecked, StepsOn, MakesTable, CountsRows, GivesRow, PutsRow};
 ghost use Rattle.sql_keeper.specs.Tables as table;
 ghost use Rattle.law_journal.specs.Journals.{HasLoadCause};
-ghost use Rattle.sql_keeper.specs.Openers.{HasRefusalCause};
+ghost use Rattle.sql_keeper.specs.Openers.{HasRefusalCause, WantsMemory};
+ghost use Rattle.sql_keeper.specs.declared.open_refused.OpenRefused.TheVariants as refusal;
 
 use crate::OpenRefused;
 use crate::open_refused::refusal_of;
@@ -25,6 +27,8 @@ pub(crate) fn make_table<S: Alter>(
     faults: &mut u64,
 ) -> Result<(), OpenRefused>
     ensures made { MakesTable (state S.Store connection.old) (state S.Store connection.new) result }
+    ensures wants { WantsMemory result (λ e. HasCleanDisk (state S.Store connection.new)
+        → Executes table.create_text [] (state S.Store connection.old) (state S.Store connection.new) (Err e)) }
     ensures cause { HasRefusalCause faults.old faults.new result }
 {
     match connection.execute(
@@ -142,6 +146,7 @@ fn copy_payload(row: &Row, into: &mut Vec<u8>, faults: &mut u64) -> Result<(), O
 fn id_of(number: u64, faults: &mut u64) -> Result<i64, OpenRefused>
     ensures value { IfOk result (λ id. id ≡ pos number) }
     ensures fits { IfOk result (λ _. number < 2 ^ 63) }
+    ensures refused { IfErr result (λ refused. refused ≡ refusal.Failed) }
     ensures cause { HasRefusalCause faults.old faults.new result }
 {
     match i64::try_from(number) {
@@ -175,6 +180,9 @@ pub(crate) fn insert_row<S: Alter>(
     faults: &mut u64,
 ) -> Result<(), OpenRefused>
     ensures put { PutsRow (state S.Store connection.old) (state S.Store connection.new) number payload.now result }
+    ensures wants { WantsMemory result (λ e. HasCleanDisk (state S.Store connection.new)
+        → Executes table.insert_text (Int (pos number) ∷ Blob payload.now ∷ []) (state S.Store connection.old)
+        (state S.Store connection.new) (Err e)) }
     ensures cause { HasRefusalCause faults.old faults.new result }
 {
     let id = id_of(number, faults)?;

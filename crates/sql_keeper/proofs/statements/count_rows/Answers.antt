@@ -2,9 +2,8 @@ use Rattle.std.proofs.Common.{[], rules, refl, Ok, Bool, subst, ◌-◌}
 use Rattle.std.proofs.lemmas.Result.{err_from_is_err_and}
 use Rattle.sqlite.specs.State.{HasCleanDisk}
 use Rattle.sqlite.specs.Held.{Held, state}
-use Rattle.sql_keeper.specs.Tables.{list_of}
+use Rattle.sql_keeper.specs.Tables.{list_of, rows_text}
 use Rattle.sql_keeper.specs.Connections.{CountsRows, StepsOn}
-use Rattle.sql_keeper.proofs.Meanings.{rows_text}
 use Rattle.sql_keeper.proofs.Rests.{open_is_clean, not_queried}
 use Rattle.sql_keeper.proofs.Steps.{begun, refused_query, none_counted, walked_on, walked_to_end, walked_to_fault}
 use Rattle.sql_keeper.proofs.statements.count_rows.Goals as goal
