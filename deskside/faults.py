@@ -112,6 +112,14 @@ class Form:
             return self.say(6, path, value, f"no whole number from 0 to {most}")
         return value.value
 
+    def limit(self, value, path):
+        """How many provisions an act may have."""
+        if value.kind != "number":
+            return self.of_kind(value, path, "number")
+        if value.value not in forms.LIMITS:
+            return self.say(6, path, value, f"no number of provisions that an act may have, {' or '.join(map(str, forms.LIMITS))}")
+        return value.value
+
     def period(self, value, path):
         found = self.table(value, path, ("from",), ("until",))
         if found is None:
@@ -121,10 +129,12 @@ class Form:
         return (start, end, path, value) if start is not None and end is not None else None
 
     def source(self, value, path):
-        found = self.table(value, path, ("href", "place"))
+        found = self.table(value, path, ("href", "place"), ("provision",))
         if found is not None:
             self.work(found["href"], f"{path}.href")
             self.number(found["place"], f"{path}.place", 65535)
+            if "provision" in found:
+                self.text(found["provision"], f"{path}.provision", 3, forms.PORTION.match, "is no wId of a provision: 1 to 512 letters, digits, - and _")
 
     def list(self, value, path, each):
         found = self.of_kind(value, path, "list")
@@ -146,7 +156,7 @@ class Form:
 
     def act(self, value, path):
         keys = ("FRBRuri", "FRBRdate", "FRBRlanguage", "force", "body")
-        found = self.table(value, path, keys, ("numbering",))
+        found = self.table(value, path, keys, ("numbering", "nodeLimit"))
         if found is None:
             return None
         work = self.work(found["FRBRuri"], f"{path}.FRBRuri")
@@ -158,9 +168,10 @@ class Form:
         self.text(found["FRBRlanguage"], f"{path}.FRBRlanguage", 3, lambda it: re.fullmatch(r"[a-z]{3}", it), "is no language of three letters")
         name = lambda it, at: self.text(it, at, 5, lambda text: text in forms.WORDS, "is no element of the desk")
         numbering = self.list(found["numbering"], f"{path}.numbering", name) if "numbering" in found else ["article", "section"]
+        limit = self.limit(found["nodeLimit"], f"{path}.nodeLimit") if "nodeLimit" in found else forms.MOST_NODES
         force = self.period(found["force"], f"{path}.force")
         body = self.list(found["body"], f"{path}.body", self.node)
-        return {"numbering": numbering, "force": force, "body": body, "path": path, "value": value}
+        return {"numbering": numbering, "limit": limit, "force": force, "body": body, "path": path, "value": value}
 
     def modification(self, value, path):
         if value.kind != "object":
@@ -324,7 +335,7 @@ class Rules:
     def say(self, number, kept, path, value, why):
         self.faults.append(Fault("rule", number, kept, path, value.at, why))
 
-    def tree(self, nodes, numbering, path, value):
+    def tree(self, nodes, numbering, path, value, most=forms.MOST_NODES):
         """The first of the four faults of a tree, which is the kept value of rule 5."""
         eids, deepest, number, long, twice = set(), 0, 0, None, None
         stack = [(it, "", 1) for it in reversed(nodes)]
@@ -338,7 +349,7 @@ class Rules:
                 long = long or f"a heading or a content has more than {forms.MOST_TEXT:,} bytes ({where})"
             stack += [(it, eid, depth + 1) for it in reversed(children)]
         found = [(1, twice), (2, deepest > forms.MOST_DEPTH and f"deeper than {forms.MOST_DEPTH} levels"),
-                 (3, number > forms.MOST_NODES and f"more than {forms.MOST_NODES:,} provisions"), (4, long)]
+                 (3, number > most and f"more than {most:,} provisions"), (4, long)]
         kept, why = next(((kept, why) for kept, why in found if why), (0, ""))
         if kept:
             self.say(5, kept, path, value, why)
@@ -356,7 +367,7 @@ class Rules:
             self.say(7, kept, period[2], period[3], "the period ends where it starts, or before")
 
     def act(self, act):
-        self.tree(act["body"], frozenset(act["numbering"]), act["path"] + ".body", act["value"])
+        self.tree(act["body"], frozenset(act["numbering"]), act["path"] + ".body", act["value"], act["limit"])
         self.refs(act["body"], 0)
         self.period(act["force"], 0)
 

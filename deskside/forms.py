@@ -37,6 +37,9 @@ LANGUAGES = {
 TAGS = {three: two for two, three in LANGUAGES.items()}
 
 MOST_NODES, MOST_DEPTH, MOST_TEXT, MOST_REFS, MOST_SIDE, MOST_MODIFICATIONS = 4096, 12, 16384, 16, 64, 512
+# The provisions that an act may have: as many as any, or as a wide one.
+LIMITS = (MOST_NODES, 8192)
+PORTION = re.compile(r"[A-Za-z0-9_-]{1,512}\Z")
 
 CAUSES = {
     "TargetMissing": "the provision that it aims at is not in the text of that day",
@@ -81,3 +84,8 @@ def eid(parent, element, num, numbering):
     """The eId of a provision beneath a parent's eId ('' for the body)."""
     own = level(element, num)
     return own if not parent or element in numbering else f"{parent}__{own}"
+
+
+def count(nodes):
+    """How many provisions nodes are, with all beneath them."""
+    return sum(1 + count(it.get("children", ())) for it in nodes)

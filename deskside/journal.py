@@ -29,7 +29,7 @@ class Entry:
     """Reads an entry from the left."""
 
     def __init__(self, data):
-        self.data, self.at = data, 0
+        self.data, self.at, self.format = data, 0, 1
 
     def number(self, size):
         self.at += size
@@ -72,10 +72,13 @@ class Entry:
     def act(self):
         work, language, date, numbering = self.text(), self.bytes(3), self.day(), self.number(2)
         elements = [it for at, it in enumerate(ELEMENTS) if numbering >> at & 1]
-        return {"FRBRuri": work, "FRBRdate": date, "FRBRlanguage": language, "numbering": elements, "force": self.period(), "body": self.list(self.node)}
+        limit = {"nodeLimit": self.number(2)} if self.format == 2 else {}
+        return {"FRBRuri": work, "FRBRdate": date, "FRBRlanguage": language, "numbering": elements, **limit, "force": self.period(), "body": self.list(self.node)}
 
     def source(self):
-        return {"href": self.text(), "place": self.number(2)}
+        made = {"href": self.text(), "place": self.number(2)}
+        provision = self.text() if self.format == 2 else ""
+        return {**made, "provision": provision} if provision else made
 
     def occurrence(self):
         return {"old": self.text(), "occurrence": self.number(2)}
@@ -123,7 +126,8 @@ class Entry:
         return {"type": "join", **here, "second": self.text(), "separator": self.text()}
 
     def whole(self):
-        if self.number(1) != 1:
+        self.format = self.number(1)
+        if self.format not in (1, 2):
             raise ValueError("an entry of another format")
         made = {"drafter": self.name(), "request": self.number(8), "day": self.day(), "law": self.number(4)}
         kind = self.number(1)

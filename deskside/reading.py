@@ -297,7 +297,8 @@ def read_act(root, path, report, work="", force=""):
     if any(akn.around(root)):
         place.say(BESIDE, "comments and processing instructions around the document are copied", root)
     place.around = [[akn.text_of(it) for it in side] for side in akn.around(root)]
-    act = {"FRBRuri": work, "FRBRdate": date, "FRBRlanguage": language, "numbering": sorted(place.numbering), "force": force_of(document, body, force, place), "body": nodes}
+    wide = {"nodeLimit": forms.LIMITS[1]} if forms.count(nodes) > forms.LIMITS[0] else {}
+    act = {"FRBRuri": work, "FRBRdate": date, "FRBRlanguage": language, "numbering": sorted(place.numbering), **wide, "force": force_of(document, body, force, place), "body": nodes}
     place.shells["body"] = {"shell": akn.text_of(shell), "eId": body.get("eId") or "body", "num": "", "heading": "", "content": ""}
     own = periods_of(body, document, place, work, date)
     return act, own, place

@@ -224,7 +224,8 @@ def described(modification):
     inner = writing.inner(modification)
     pos = inner.get("destination", {}).get("pos", "")
     where = "in" if "old" in inner else {"before": "before", "after": "after", "start": "at the start of", "end": "at the end of"}.get(pos, "of")
-    return f"{inner['type']} {where} {writing.target(inner)} by {inner['source']['href']}"
+    provision = inner["source"].get("provision", "")
+    return f"{inner['type']} {where} {writing.target(inner)} by {inner['source']['href']}{', ' + provision if provision else ''}"
 
 
 def trail_of(folder, work, language, day):

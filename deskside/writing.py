@@ -94,7 +94,8 @@ def amend(meta, modifications, dressed, answer):
         modification = inner(modifications[number])
         name = number.replace(".", "-")
         period = modification["force"]
-        source = dressed.dressing["sources"].get(number, {"work": modification["source"]["href"], "eId": ""})
+        named = {"work": modification["source"]["href"], "eId": modification["source"].get("provision", "")}
+        source = dressed.dressing["sources"].get(number, named)
         etree.SubElement(lifecycle, akn.tag("eventRef"), eId=f"desk_evn_{name}", date=period["from"], source=source["work"], type="amendment")
         if "until" in period:
             etree.SubElement(lifecycle, akn.tag("eventRef"), eId=f"desk_evn_{name}_end", date=period["until"], source=source["work"], type="amendment")

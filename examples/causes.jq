@@ -6,7 +6,7 @@ def plain: {
   "KindsDiffer": "the two provisions are of different kinds",
   "NumberTaken": "the number is taken by another provision",
   "TooDeep": "the text would be more than 12 levels deep",
-  "TooManyNodes": "the text would have more than 4,096 provisions",
+  "TooManyNodes": "the text would have more provisions than the act allows",
   "TextTooLong": "a heading or a content would have more than 16,384 bytes"
 }[.];
 .unapplied[] | "\(.id): \(.cause | plain)"

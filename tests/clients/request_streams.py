@@ -7,7 +7,7 @@ import tempfile
 import checks
 from checks import SAID, check, said_over_a_folder, said_to_a_full_device, to_a_full_device
 from clients.messages import at_most, batch, bytewise, check_written, closed, cut_at, drained
-from rows import histories, queries, refusals
+from rows import histories, queries, refusals, wide
 
 
 def short_streams():
@@ -26,10 +26,10 @@ def told(rows):
 
 def whole_histories():
     """Each in one piece, and byte by byte; of the longest so the heads and the ends of bodies."""
-    for name, rows in histories.HISTORIES.items():
+    for name, rows in [*histories.HISTORIES.items(), *wide.HISTORIES.items()]:
         given, wanted = told(rows)
         check_written(name, batch(given), (0, wanted))
-        by_bytes = cut_at(*near_ends(rows)) if rows is histories.LARGEST else bytewise
+        by_bytes = cut_at(*near_ends(rows)) if rows in (histories.LARGEST, wide.WIDEST) else bytewise
         check_written(f"{name}, byte by byte", batch(given, by_bytes), (0, wanted))
 
 

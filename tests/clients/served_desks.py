@@ -1,5 +1,6 @@
 """A desk that `serve` has at a port of this machine: its start, connections to it, and its end once all its connections were had."""
 import contextlib
+import errno
 import os
 import socket
 import struct
@@ -120,12 +121,21 @@ def holds(written, count):
     return True
 
 
+def half_closed(connection):
+    """Says that there is no more, where the peer has not closed or broken the connection before."""
+    try:
+        connection.shutdown(socket.SHUT_WR)
+    except OSError as wrong:
+        if wrong.errno not in (errno.ENOTCONN, errno.EPIPE, errno.ECONNRESET):
+            raise
+
+
 def said(connection, given, half_closes=True):
     """Sends what is given, says that there is no more, and gives what comes back."""
     with connection:
         connection.sendall(given)
         if half_closes:
-            connection.shutdown(socket.SHUT_WR)
+            half_closed(connection)
         return received(connection)
 
 

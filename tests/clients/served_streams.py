@@ -13,9 +13,9 @@ from checks import check
 from clients import http_clients
 from clients.messages import at_most, check_written, closed, command, compact, get, head
 from clients.request_streams import told
-from clients.served_desks import HOST, LATE, WORKERS, Desk, desk, free_port, received, reset, said
+from clients.served_desks import HOST, LATE, WORKERS, Desk, desk, free_port, half_closed, received, reset, said
 from devices.journal_file import EXAMPLE, JOURNAL, TWO, called, kept
-from rows import histories, mixed, queries, refusals
+from rows import histories, mixed, queries, refusals, wide
 from rows.register import ONE, TWO as OTHER_ACT, enact
 
 ANY_PORT_OF_THIS_MACHINE = {"0100007F"}
@@ -116,7 +116,7 @@ def streams():
     """Each stream of requests on a connection of its own: what comes back is what `batch` writes of it, and the connection then ends. Nothing of a
     stream that is closed touches another connection."""
     rows = [(name, given, wanted) for name, (given, wanted, _) in histories.SHORT.items()]
-    rows += [(name, *told(table)) for name, table in histories.HISTORIES.items() if table is not histories.LARGEST]
+    rows += [(name, *told(table)) for name, table in [*histories.HISTORIES.items(), ("limits and provisions", wide.NAMED)] if table is not histories.LARGEST]
     rows += [("requests of every kind", b"".join(row[0] for row in mixed.MIXED), b"".join(row[1] for row in mixed.MIXED))]
     for name, given, wanted in rows:
         with desk(1) as served:
@@ -132,7 +132,7 @@ def bytewise(connection, given):
         try:
             for place in range(len(given)):
                 connection.sendall(given[place:place + 1])
-            connection.shutdown(socket.SHUT_WR)
+            half_closed(connection)
         except ConnectionError:  # the stream was closed before its end
             pass
         return received(connection)

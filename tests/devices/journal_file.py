@@ -1,6 +1,7 @@
 """`batch` and `check` over a journal file in the working folder: what lasts from run to run, what a kill leaves, and each damage of a file.
 What is wanted is reckoned from docs/JOURNAL.md and docs/ENTRY.md."""
 import datetime
+import json
 import os
 import signal
 import subprocess
@@ -10,7 +11,7 @@ import checks
 from checks import check, to_a_full_device
 from clients.messages import at_most, check_written, response
 from models import entry_bytes, failing_keepers
-from rows import histories
+from rows import histories, wide
 
 JOURNAL = "lawdesk.jnl"
 MAGIC = b"AKNLAW01"
@@ -37,14 +38,20 @@ def journal(*payloads):
     return MAGIC + b"".join(b"\x01" + len(data).to_bytes(4, "big") + data for data in payloads) + b"\x00"
 
 
+def entries_of(rows):
+    """How many entries a history makes: its accepted commands, each counted once."""
+    bodies = (json.loads(given.split(b"\r\n\r\n", 1)[1]) for given, wanted in rows if wanted.startswith(b"HTTP/1.1 201 "))
+    return len({(body["drafter"], body["request"]) for body in bodies})
+
+
 def runs_of_one_request():
     """Each request of a history by a run of its own is answered as all of them by one, and the register is that of them all."""
-    for name, rows in histories.HISTORIES.items():
+    for name, rows in [*histories.HISTORIES.items(), *wide.HISTORIES.items()]:
         with checks.folder() as folder:
             for given, wanted in rows:
                 check_written(f"{name}, a run for each request", called(folder, "batch", given), (0, wanted))
             laws = max((k for k in range(1, 40) for _, wanted in rows if wanted == response(201, f'{{"law":{k}}}')), default=0)
-            check(f"{name}, checked", called(folder, "check"), (0, f"entries {laws} law {laws}\n".encode()))
+            check(f"{name}, checked", called(folder, "check"), (0, f"entries {entries_of(rows)} law {laws}\n".encode()))
             check(f"{name}, the files", os.listdir(folder), [JOURNAL])
 
 
@@ -64,9 +71,12 @@ def bytes_of_entries():
 EXAMPLE = journal(failing_keepers.EXAMPLE)
 CAPITAL = journal(failing_keepers.CAPITAL)
 TWO = journal(failing_keepers.ENACTED, failing_keepers.RECORDED)
+NEEDLESS = journal(b"\x02" + failing_keepers.EXAMPLE[1:])
+MIXED = journal(failing_keepers.ENACTED, failing_keepers.RECORDED, failing_keepers.BY_PROVISION)
 DAMAGED = '{"byte":%s,"damaged":"journal","place":%d}\n'
 ORDER = '{"damaged":"order","number":1,"rule":8}\n'
 ENTRY = '{"byte":65,"damaged":"entry","number":1,"place":2}\n'
+OF_NO_NEED = '{"byte":2,"damaged":"entry","number":1,"place":0}\n'
 
 
 def opened(entries_count, file):
@@ -97,6 +107,8 @@ FILES = [
     ("a length past the limit", MAGIC + b"\x01\x01\x00\x00\x01", (6, DAMAGED % (1, 9), MAGIC + b"\x01\x01\x00\x00\x01")),
     ("a capital in a name", CAPITAL, (6, ENTRY, CAPITAL)),
     ("a withdrawal of nothing", EXAMPLE, (6, ORDER, EXAMPLE)),
+    ("a withdrawal in the second format", NEEDLESS, (6, OF_NO_NEED, NEEDLESS)),
+    ("entries of both formats", MIXED, opened(3, MIXED)),
     ("a withdrawal of nothing, of which a byte is cut", EXAMPLE[:41], (6, DAMAGED % ("null", 41), EXAMPLE[:41])),
     ("bytes behind the closed gate", TWO + b"\xff" * 5, opened(2, TWO)),
     ("a record behind the closed gate", TWO + EXAMPLE[8:], opened(2, TWO)),

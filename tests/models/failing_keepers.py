@@ -32,15 +32,15 @@ def keep_line(failing=()):
     return "keep" + open_line(failing)[4:]
 
 
-def of_entry(parts, law_number, request, name="ada", day=1):
-    return entry_bytes.spelled(entry_bytes.entry(parts, law_number, request, name, day))
+def of_entry(parts, law_number, request, name="ada", day=1, format_=1):
+    return entry_bytes.spelled(entry_bytes.entry(parts, law_number, request, name, day, format_))
 
 
 ENACT = entry_bytes.command(1, entry_bytes.act(entry_bytes.THREE))
 
 
-def recorded(wid="sec_1", place=1):
-    return entry_bytes.command(2, entry_bytes.work("work"), entry_bytes.listed("modifications", [entry_bytes.repealed(wid, place)]))
+def recorded(wid="sec_1", place=1, names=None):
+    return entry_bytes.command(2, entry_bytes.work("work"), entry_bytes.listed("modifications", [entry_bytes.repealed(wid, place, names)]))
 
 
 def command_line(k, request=None):
@@ -99,6 +99,15 @@ CAPITAL = EXAMPLE[:2] + b"A" + EXAMPLE[3:]
 ENACTED = payload(1)
 RECORDED = of_entry(recorded("sec_3"), 2, 2)
 DRAFTED = entry_bytes.command(6, entry_bytes.work("work"), entry_bytes.repealed("sec_1"))
+WIDE = of_entry(entry_bytes.command(1, entry_bytes.act(entry_bytes.THREE, limit=8192)), 1, 1, format_=2)
+BY_PROVISION = of_entry(recorded("sec_1", names="sec_9"), 3, 3, format_=2)
+NEEDLESS = of_entry(recorded("sec_3", names=""), 2, 2, format_=2)
+
+
+def of_sections(count):
+    return entry_bytes.command(1, entry_bytes.act([entry_bytes.node(str(k)) for k in range(1, count + 1)], limit=8192))
+
+
 DAMAGES = [
     ("a capital in a name", [CAPITAL], '{"byte":65,"damaged":"entry","number":1,"place":2}'),
     ("a withdrawal of nothing", [EXAMPLE], '{"damaged":"order","number":1,"rule":8}'),
@@ -116,6 +125,14 @@ DAMAGES = [
      f'{{"byte":{RECORDED[-5]},"damaged":"entry","number":2,"place":{len(RECORDED) - 5}}}'),
     ("a byte left over", [ENACTED + b"\x07"], f'{{"byte":7,"damaged":"entry","number":1,"place":{len(ENACTED)}}}'),
     ("the first of two damages", [EXAMPLE, CAPITAL], '{"damaged":"order","number":1,"rule":8}'),
+    ("a wide act, and an entry of each format", [WIDE, RECORDED, BY_PROVISION], opened(3)),
+    ("the second format without need", [b"\x02" + EXAMPLE[1:]], '{"byte":2,"damaged":"entry","number":1,"place":0}'),
+    ("the second format without need, behind others", [ENACTED, NEEDLESS], '{"byte":2,"damaged":"entry","number":2,"place":0}'),
+    ("a front of an entry in the second format", [ENACTED, BY_PROVISION[:-1]],
+     f'{{"byte":{BY_PROVISION[-5]},"damaged":"entry","number":2,"place":{len(BY_PROVISION) - 5}}}'),
+    ("an act of 8,193 sections", [of_entry(of_sections(8193), 1, 1, format_=2)], '{"damaged":"order","number":1,"rule":5}'),
+    ("an act of 8,192 sections", [of_entry(of_sections(8192), 1, 1, format_=2)], opened(1)),
+    ("a third format", [b"\x03" + EXAMPLE[1:]], '{"byte":3,"damaged":"entry","number":1,"place":0}'),
 ]
 
 
@@ -141,11 +158,12 @@ CLOCK = ([
     ("bytes 2", entry_bytes.taken(FIFTH_DAY)),
 ], [kept(SECOND_DAY, FIFTH_DAY), opened(2)])
 
-# Each entry of a register, of all eight commands, is read from its bytes, and its command sent again: a repeat is one whose values are all equal.
+# Each entry of a register, of all eight commands and in both formats, is read from its bytes, and its command sent again: a repeat is one whose
+# values are all equal.
 SPELLED = [bytes.fromhex(want[6:]) for given, want in entry_bytes.SPELLED if given.startswith("bytes ") and want.startswith("entry ")]
-SENT = [(given, again(want)) for given, want in entry_bytes.SPELLED if given.startswith("{")]
-READ = [(open_line(payloads=SPELLED), opened(9, 6)), *SENT, *((f"bytes {k}", entry_bytes.taken(data)) for k, data in enumerate(SPELLED, 1)),
-        (record("ada", 1, dossiers.repeal("sec_1")), refused(1, 1)), front(6, 9)]
+SENT = [(given, again(want)) for given, want in entry_bytes.SPELLED if given.startswith("{") and want.startswith(('{"law"', '{"draft"'))]
+READ = [(open_line(payloads=SPELLED), opened(16, 11)), *SENT, *((f"bytes {k}", entry_bytes.taken(data)) for k, data in enumerate(SPELLED, 1)),
+        (record("ada", 1, dossiers.repeal("sec_1")), refused(1, 1)), front(11, 16)]
 
 SESSIONS = {
     "an append that fails": ([(open_line([FIRST_APPEND]), opened(0)), (command_line(1), FAULT), front(0, 0), (command_line(1), law(1)),
@@ -167,7 +185,7 @@ SESSIONS = {
         (open_line(payloads=[ENACTED]), opened(1)), (record("ada", 2, dossiers.repeal("sec_3")), law(2)),
         (add("ada", 3, dossiers.repeal("sec_1")), draft(1)), (withdraw("ada", 4, "9.9"), refused(8, "9.9"))],
         [kept(ENACTED, RECORDED, of_entry(DRAFTED, 0, 3)), opened(3, 2)]),
-    "entries that are read": (READ, [kept(*SPELLED), opened(9, 6)]),
+    "entries that are read": (READ, [kept(*SPELLED), opened(16, 11)]),
     "a walk": ([("walk - - " + ",".join(data.hex() for data in (ENACTED, CAPITAL)), "payloads 2")], []),
     "payloads that are entries": ([("read - - " + ",".join(data.hex() for data in (ENACTED, CAPITAL)), "entries 1")], []),
 }

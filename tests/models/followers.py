@@ -51,16 +51,16 @@ def dated(payload, day):
 LONG = [dated(payload, 734_138 + place) for place, payload in enumerate(ENTRIES)]
 
 
-def of(parts, law, request, name="ada", day=734_258):
-    return entry_bytes.spelled(entry_bytes.entry(parts, law, request, name, day))
+def of(parts, law, request, name="ada", day=734_258, format_=1):
+    return entry_bytes.spelled(entry_bytes.entry(parts, law, request, name, day, format_))
 
 
-def enacted(iri=entry_bytes.WORK, law=1, request=1, nodes=None, **rest):
-    return of(entry_bytes.command(1, entry_bytes.act(entry_bytes.THREE if nodes is None else nodes, iri)), law, request, **rest)
+def enacted(iri=entry_bytes.WORK, law=1, request=1, nodes=None, limit=None, **rest):
+    return of(entry_bytes.command(1, entry_bytes.act(entry_bytes.THREE if nodes is None else nodes, iri, limit=limit)), law, request, **rest)
 
 
-def recorded(wid="sec_3", law=2, request=2, place=1, iri=entry_bytes.WORK, **rest):
-    mods = entry_bytes.listed("modifications", [entry_bytes.repealed(wid, place)])
+def recorded(wid="sec_3", law=2, request=2, place=1, iri=entry_bytes.WORK, names=None, **rest):
+    mods = entry_bytes.listed("modifications", [entry_bytes.repealed(wid, place, names)])
     return of(entry_bytes.command(2, entry_bytes.work("work", iri), mods), law, request, **rest)
 
 
@@ -76,6 +76,7 @@ def filed(law, request, seen, **rest):
     return of(entry_bytes.command(8, entry_bytes.work("work"), entry_bytes.u32("seen", seen)), law, request, **rest)
 
 
-# Two short registers: an act, a repeal and its correction; and another act.
+# Short registers: an act, a repeal and its correction; another act; and a wide act, a repeal by a provision and its correction to one by none.
 ONE = [enacted(), recorded(), corrected()]
+BOTH = [enacted(limit=8192, format_=2), recorded(names="sec_9", format_=2), corrected()]
 OTHER = [enacted("/akn/gb/act/2010-05-01/8")]

@@ -26,11 +26,11 @@ class Stream:
     def __init__(self):
         self.rows, self.laws, self.used = [], 0, {}
 
-    def accepted(self, make, parts, drafter="ada", item=None):
+    def accepted(self, make, parts, drafter="ada", item=None, format_=1):
         """A command under the drafter's next number that becomes a law entry, or one of a draft with this reply."""
         request = self.used[drafter] = self.used.get(drafter, 0) + 1
         self.laws += item is None
-        payload = entry_bytes.spelled(entry_bytes.entry(parts, 0 if item else self.laws, request, drafter))
+        payload = entry_bytes.spelled(entry_bytes.entry(parts, 0 if item else self.laws, request, drafter, format_=format_))
         reply = draft(item) if item else law(self.laws)
         self.rows.append((*histories.accepted(make(drafter, request), reply), undated(payload)))
 
@@ -47,36 +47,39 @@ class Stream:
 
 
 def a_round(stream, drafter, place):
-    """A modification from its record to its restoring, and a draft of three items of which one is dropped."""
+    """A modification from its record to its restoring, which is corrected to one of a provision, and a draft of three items of which one is dropped,
+    one of a provision."""
     stream.accepted(lambda who, n: record(who, n, dossiers.repeal("sec_1", place=place)),
                     entry_bytes.command(2, entry_bytes.work("work"), entry_bytes.listed("modifications", [entry_bytes.repealed("sec_1", place)])))
     number = stream.laws
     by_id = entry_bytes.id_("id", number, 1)
-    stream.accepted(lambda who, n: correct(who, n, f"{number}.1", dossiers.repeal("sec_2", place=place)),
-                    entry_bytes.command(3, by_id, entry_bytes.repealed("sec_2", place)))
+    stream.accepted(lambda who, n: correct(who, n, f"{number}.1", dossiers.repeal("sec_2", place=place, provision="sec_9")),
+                    entry_bytes.command(3, by_id, entry_bytes.repealed("sec_2", place, "sec_9")), format_=2)
     stream.accepted(lambda who, n: withdraw(who, n, f"{number}.1"), entry_bytes.command(4, by_id))
     stream.again()
     stream.broken(withdraw("ada", 1000, f"{number}.1"), 9, stream.laws)
     stream.accepted(lambda who, n: restore(who, n, f"{number}.1"), entry_bytes.command(5, by_id))
     item = entry_bytes.command(6, entry_bytes.work("work"), entry_bytes.repealed("sec_3", place))
+    by_provision = entry_bytes.command(6, entry_bytes.work("work"), entry_bytes.repealed("sec_3", place, "sec_9"))
     stream.accepted(lambda who, n: add(who, n, dossiers.repeal("sec_3", place=place)), item, drafter, 1)
     stream.accepted(lambda who, n: drop(who, n, 1), entry_bytes.command(7, entry_bytes.u32("item", 1)), drafter, 1)
-    stream.accepted(lambda who, n: add(who, n, dossiers.repeal("sec_3", place=place)), item, drafter, 2)
+    stream.accepted(lambda who, n: add(who, n, dossiers.repeal("sec_3", place=place, provision="sec_9")), by_provision, drafter, 2, 2)
     stream.again()
     seen = stream.laws
     stream.accepted(lambda who, n: file(who, n, seen), entry_bytes.command(8, entry_bytes.work("work"), entry_bytes.u32("seen", seen)), drafter)
 
 
 def sixty():
-    """Sixty commands, of which 43 are accepted: one makes a record of more than 64 KiB."""
+    """Sixty commands, of which 43 are accepted, in both formats: one, of a wide act, makes a record of more than 64 KiB."""
     stream = Stream()
     stream.accepted(lambda who, n: enact(who, n, body=SECTIONS), entry_bytes.command(1, entry_bytes.act(entry_bytes.THREE)))
     stream.broken(withdraw("ada", 1, "9.9"), 1, 1)
     for place, drafter in enumerate(("bob", "cyd", "dan", "eve", "fay"), 1):
         a_round(stream, drafter, place)
     large = "c" * 16_000
-    stream.accepted(lambda who, n: enact(who, n, TWO, body=dossiers.sections(5, large)),
-                    entry_bytes.command(1, entry_bytes.act([entry_bytes.node(str(k), content=large) for k in range(1, 6)], TWO)))
+    nodes = [entry_bytes.node(str(k), content=large) for k in range(1, 6)]
+    stream.accepted(lambda who, n: enact(who, n, TWO, body=dossiers.sections(5, large), nodeLimit=8192),
+                    entry_bytes.command(1, entry_bytes.act(nodes, TWO, limit=8192)), format_=2)
     stream.broken(enact("ada", 1000, TWO), 4, stream.laws)
     stream.accepted(lambda who, n: record(who, n, dossiers.repeal("sec_1")),
                     entry_bytes.command(2, entry_bytes.work("work"), entry_bytes.listed("modifications", [entry_bytes.repealed("sec_1")])))

@@ -36,6 +36,13 @@ class State:
         return len(self.at)
 
 
+def named(modification, provision):
+    """The modification, made by this provision of its source, or by none that is named."""
+    if provision:
+        modification["textualMod"]["source"]["provision"] = provision
+    return modification
+
+
 def repeal(k, start, place):
     return dossiers.repeal(f"sec_{k}", start, place=place)
 
@@ -273,7 +280,8 @@ class Command:
 
     def payload(self):
         """The entry that it becomes, without its day and with the law number 0."""
-        return without_law(undated(entry_bytes.spelled(entry_bytes.entry(spelled(self.asked), 0, self.asked["request"], self.asked["drafter"]))))
+        parts = spelled(self.asked), 0, self.asked["request"], self.asked["drafter"]
+        return without_law(undated(entry_bytes.spelled(entry_bytes.entry(*parts, format_=1 + asks_second(self.asked)))))
 
 
 class Fixed:
@@ -301,28 +309,35 @@ def day_number(day):
     return datetime.date.fromisoformat(day).toordinal()
 
 
-def body_of(modification):
+def asks_second(asked):
+    """Whether a command asks for the second format: its act is wide, or one of its sources names a provision."""
+    bodies = [*asked.get("modifications", []), *([asked["modification"]] if "modification" in asked else [])]
+    return "nodeLimit" in asked.get("act", {}) or any("provision" in body["textualMod"]["source"] for body in bodies)
+
+
+def body_of(modification, second):
     mod = modification["textualMod"]
+    names = mod["source"].get("provision", "") if second else None
     wid = mod["destination"]["wId"]
     edit = entry_bytes.repeal(wid) if mod["type"] == "repeal" else entry_bytes.substituted_text(wid, mod["old"], mod["occurrence"], mod["new"])
-    return entry_bytes.textual(edit, day_number(mod["force"]["from"]), href=mod["source"]["href"], place=mod["source"]["place"])
+    return entry_bytes.textual(edit, day_number(mod["force"]["from"]), href=mod["source"]["href"], place=mod["source"]["place"], names=names)
 
 
 def spelled(asked):
     """The fields of a command in an entry."""
     word, work = asked["command"], entry_bytes.work("work", asked.get("work", WORKS[0]))
-    id = entry_bytes.id_("id", *numbers(asked.get("id", "0.0")))
+    id, second = entry_bytes.id_("id", *numbers(asked.get("id", "0.0"))), asks_second(asked)
     if word == "enact":
         nodes = [entry_bytes.node(node["num"], content=node["content"]) for node in asked["act"]["body"]]
-        return entry_bytes.command(1, entry_bytes.act(nodes, asked["act"]["FRBRuri"]))
+        return entry_bytes.command(1, entry_bytes.act(nodes, asked["act"]["FRBRuri"], limit=asked["act"].get("nodeLimit")))
     if word == "record":
-        return entry_bytes.command(2, work, entry_bytes.listed("modifications", [body_of(one) for one in asked["modifications"]]))
+        return entry_bytes.command(2, work, entry_bytes.listed("modifications", [body_of(one, second) for one in asked["modifications"]]))
     if word == "correct":
-        return entry_bytes.command(3, id, body_of(asked["modification"]))
+        return entry_bytes.command(3, id, body_of(asked["modification"], second))
     if word in ("withdraw", "restore"):
         return entry_bytes.command(4 + (word == "restore"), id)
     if word == "draftAdd":
-        return entry_bytes.command(6, work, body_of(asked["modification"]))
+        return entry_bytes.command(6, work, body_of(asked["modification"], second))
     if word == "draftDrop":
         return entry_bytes.command(7, entry_bytes.u32("item", asked["item"]))
     return entry_bytes.command(8, work, entry_bytes.u32("seen", asked["seen"]))
@@ -337,10 +352,10 @@ class Drafter:
 
     def modification(self):
         self.place = (self.place + 1) % 60_000
-        start = f"201{self.draw.randrange(1, 4)}-0{self.draw.randrange(1, 4)}-01"
+        start, provision = f"201{self.draw.randrange(1, 4)}-0{self.draw.randrange(1, 4)}-01", self.draw.choice(["", "", "sec_9", "m5-1__sec_4"])
         if self.draw.random() < 0.15:
-            return repeal(self.draw.randrange(1, 4), start, self.place)
-        return substituted(self.draw.randrange(1, 4), start, self.place, self.draw.choice(LETTERS), self.draw.choice(LETTERS))
+            return named(repeal(self.draw.randrange(1, 4), start, self.place), provision)
+        return named(substituted(self.draw.randrange(1, 4), start, self.place, self.draw.choice(LETTERS), self.draw.choice(LETTERS)), provision)
 
     def command(self):
         """A command of a kind that is drawn, under the next number; or under a number that is used, or one again as it was."""
@@ -353,7 +368,7 @@ class Drafter:
              lambda: {"command": "draftAdd", "work": work, "modification": self.modification()},
              lambda: {"command": "draftDrop", "item": self.draw.choice(self.items or [1])},
              lambda: {"command": "file", "work": work, "seen": self.seen},
-             lambda: {"command": "enact", "act": dossiers.act(FRBRuri=work, body=BODY)}],
+             lambda: {"command": "enact", "act": dossiers.act(FRBRuri=work, body=BODY, nodeLimit=self.draw.choice([None, 8192]))}],
             [6, 2, 3, 2, 4, 1, 3, 1])[0]
         if self.sent and self.draw.random() < 0.1:
             return self.draw.choice(self.sent)

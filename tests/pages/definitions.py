@@ -177,15 +177,7 @@ def walked():
 
 
 # What nothing cites and still stands: each goes with the next proof of its crate, and its name from here with it.
-LEFT = {
-    "law_http/proofs/Connected": "begins_with",
-    "law_office/proofs/Sends": "act_send textual_send command_send known_send changes_send",
-    "lawdesk/proofs/Runs": """no_text text_form no_check check_form no_report report_form no_batch batch_form no_generate generate_form
-        no_export export_form no_follow follow_form ran_words""",
-    "lawdesk/proofs/ServingGates": "may_attend",
-    "lawdesk/proofs/ServingWorks": "failed_worked",
-    "lawdesk/proofs/Tellings": "is_written told_whole told_in_part",
-}
+LEFT = {}
 
 
 def cited():

@@ -6,7 +6,7 @@ import subprocess
 import checks
 from checks import PROGRAM, SAID, TOP, check, over_a_folder, read, run, said_to_a_full_device
 from models import bearing
-from rows import dossiers
+from rows import dossiers, wide
 from rows import spellings as written_forms
 
 
@@ -48,15 +48,15 @@ def checked():
 
 def tables():
     """Each part of the form and each rule, kept and broken, and each limit at its number and one past it."""
-    for name, given in dossiers.FITS:
+    for name, given in dossiers.FITS + wide.FITS:
         check(name, run(["text", "2010-05-01"], given)[0], 0)
-    for table in (dossiers.BYTES, dossiers.NAMES, dossiers.LEVELS, dossiers.SHAPES):
+    for table in (dossiers.BYTES, dossiers.NAMES, dossiers.LEVELS, dossiers.SHAPES, wide.FORMS):
         for name, given, line in table:
             check(name, run(["text", "2010-05-01"], given), (10, line))
-    for name, given, line in dossiers.COMMANDS:
+    for name, given, line in dossiers.COMMANDS + wide.COMMANDS:
         # The day is before that of the act: the rules of the commands come before those of the question.
         check(name, run(["text", "2010-04-30"], given), (10 if b'"form"' in line else 9, line))
-    for name, given, applied, reasons in dossiers.REACHED:
+    for name, given, applied, reasons in dossiers.REACHED + wide.REACHED:
         status, written = run(["text", "2011-01-01"], given)
         answer = json.loads(written)
         check(name, (status, answer["applied"], [u["cause"] for u in answer["unapplied"]]), (0, applied, reasons))

@@ -53,9 +53,10 @@ def textual(**changes):
     return {"textualMod": {key: value for key, value in mod.items() if value is not None}}
 
 
-def repeal(wid="sec_1", start="2011-01-01", href=SOURCE, place=1, until=None):
+def repeal(wid="sec_1", start="2011-01-01", href=SOURCE, place=1, until=None, provision=None):
     force = {"from": start} if until is None else {"from": start, "until": until}
-    return textual(source={"href": href, "place": place}, force=force, destination={"wId": wid})
+    source = {"href": href, "place": place, **({"provision": provision} if provision is not None else {})}
+    return textual(source=source, force=force, destination={"wId": wid})
 
 
 def substituted(new, wid="sec_1", **rest):

@@ -7,7 +7,7 @@ import json
 
 from checks import check
 from clients.messages import batch, check_written, command, compact, get, response
-from rows.dossiers import (DATED_TYPES, FORCE_TYPES, efficacy, force, inapplied, inserted, joined, nested, node, refs, renumbered, repeal, split,
+from rows.dossiers import (DATED_TYPES, FORCE_TYPES, SOURCE, efficacy, force, inapplied, inserted, joined, nested, node, refs, renumbered, repeal, split,
                    substituted, textual, to)
 from rows.register import ONE, SECTIONS, add, draft, enact, law, record
 
@@ -98,7 +98,14 @@ BEARINGS = (
         ("an inapplication of a modification", inapplied(destination=to("2.1"))),
     ]
 )
-ROWS = REPEALS + SUBSTITUTIONS + INSERTIONS + OTHERS + BEARINGS
+BY_PROVISIONS = [
+    ("a repeal by a provision", repeal(provision="sec_9")),
+    ("a repeal by a provision of 512 letters", repeal(provision="B-_z" * 128, place=65535)),
+    ("a substitution by a provision", substituted([FULL_NODE], source={"href": SOURCE, "place": 0, "provision": "m5-1__sec_4__para_b"})),
+    ("a force modification by a provision", force(source={"href": SOURCE, "place": 1, "provision": "-"})),
+    ("an inapplication by a provision", inapplied(source={"href": SOURCE, "place": 1, "provision": "0"})),
+]
+ROWS = REPEALS + SUBSTITUTIONS + INSERTIONS + OTHERS + BEARINGS + BY_PROVISIONS
 
 BEGUN = [(enact("ada", 1, body=SECTIONS), law(1)), (record("ada", 2, repeal("sec_3", "2011-06-01")), law(2))]
 ASKED = get("/draft?drafter=ada")

@@ -5,7 +5,7 @@ A row is (name, the payloads held before, what is sent, (the status and what is 
 """
 from models import entry_bytes
 from models.failing_keepers import CAPITAL, EXAMPLE
-from models.followers import LARGEST, ONE, OTHER, corrected, counted, enacted, filed, frame, framed, recorded, refused, withdrawn
+from models.followers import BOTH, LARGEST, ONE, OTHER, corrected, counted, enacted, filed, frame, framed, recorded, refused, withdrawn
 
 FIRST = frame(1, ONE[0])
 
@@ -22,6 +22,10 @@ TAKEN = [
     ("numbers that are one and two past the next", ONE[:1], frame(3, ONE[1]) + frame(4, ONE[1]), counted(1, 0, 0, 2), ONE[:1]),
     ("a number whose low half is that of the next", ONE[:1], frame((1 << 32) + 2, ONE[1]), counted(1, 0, 0, 1), ONE[:1]),
     ("bytes that are no entry, past a gap", ONE[:1], frame(3, b"\x00") + frame(2, ONE[1]), counted(2, 1, 0, 1), ONE[:2]),
+    ("frames of both formats", [], framed(BOTH), counted(3, 3), BOTH),
+    ("frames of both formats again", BOTH, framed(BOTH), counted(3, 0, 3), BOTH),
+    ("frames of the second format behind those of the first", ONE, frame(4, recorded("sec_1", 4, 4, names="a", format_=2)), counted(4, 1),
+     [*ONE, recorded("sec_1", 4, 4, names="a", format_=2)]),
     ("a payload of the largest length, past a gap", [], frame(2, bytes(LARGEST)) + FIRST, counted(1, 1, 0, 1), ONE[:1]),
 ]
 
@@ -70,6 +74,8 @@ CONFLICTS = [
     ("the same command on another day", ONE, frame(1, enacted(day=734_259)), refused(2, 1), ONE),
     ("a front of a known entry", ONE, frame(2, ONE[1][:-1]), refused(2, 2), ONE),
     ("a known entry and a byte", ONE, frame(2, ONE[1] + b"\x00"), refused(2, 2), ONE),
+    ("the same act with another limit", ONE, frame(1, BOTH[0]), refused(2, 1), ONE),
+    ("the same repeal by a provision", ONE, frame(2, BOTH[1]), refused(2, 2), ONE),
     ("bytes that are no entry, under a known number", ONE, frame(3, b"\x00"), refused(2, 3), ONE),
     ("a known entry under the number of another", ONE, frame(2, ONE[0]), refused(2, 2), ONE),
     ("a frame that was added by the same run", [], FIRST + frame(1, OTHER[0]) + frame(2, ONE[1]), refused(2, 1), ONE[:1]),
@@ -80,6 +86,9 @@ NOT_ENTRIES = [
     ("an entry and a byte", ONE[1] + b"\x00"),
     ("an entry without its last byte", ONE[1][:-1]),
     ("another format", b"\x03" + ONE[1][1:]),
+    ("the byte of the second format", b"\x02" + ONE[1][1:]),
+    ("the second format without need", recorded(names="", format_=2)),
+    ("the second format without its byte", b"\x01" + BOTH[1][1:]),
     ("the largest length", bytes(LARGEST)),
 ]
 NOT_ACCEPTED = [
@@ -96,6 +105,7 @@ NOT_ACCEPTED = [
     ("an entry two past the last, as the next", ONE[:1], withdrawn(law=3), 2),
     ("a second withdrawal", ONE + [withdrawn(4, 4)], withdrawn(5, 5), 5),
     ("a filing of nothing", ONE[:1], filed(2, 2, 1), 2),
+    ("a wide act that is enacted as a plain one was", ONE[:1], enacted(law=2, request=2, limit=8192, format_=2), 2),
     ("a tree with two sections 1", [], enacted(nodes=[entry_bytes.node("1"), entry_bytes.node("1")]), 1),
 ]
 
@@ -111,7 +121,7 @@ def of_payloads():
 
 def of_broken_fields():
     """An entry of each command with a field of it broken, every third of all ways, as the first frame."""
-    for kind, fields in entry_bytes.ENTRIES.items():
+    for kind, fields in [*entry_bytes.ENTRIES.items(), *entry_bytes.SECOND.items()]:
         for name, line, _ in list(entry_bytes.broken(fields))[::3]:
             payload = bytes.fromhex(line.removeprefix("decode "))
             yield f"{kind}, {name}", [], frame(1, payload) + FIRST, refused(3, 1), []

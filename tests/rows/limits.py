@@ -27,8 +27,8 @@ def refused(name, given, rule, kept):
     return name, TEXT, given, 9, dossiers.refused(rule, kept)
 
 
-def no_dossier(name, given, rule=1):
-    return name, TEXT, given, 10, dossiers.form(rule)
+def no_dossier(name, given, rule=1, place=0):
+    return name, TEXT, given, 10, dossiers.form(rule, place)
 
 
 def stream(name, rows):
@@ -51,6 +51,12 @@ def dossier_rows():
     yield no_dossier("a million objects one in another", b'{"act":' * 1_000_000)
     yield answered("4,096 nodes", dossier(act(body=sections(4096))))
     yield refused("4,097 nodes", dossier(act(body=sections(4097))), 5, 3)
+    yield answered("8,192 nodes of a wide act", dossier(act(body=sections(8192), nodeLimit=8192)))
+    yield refused("8,193 nodes of a wide act", dossier(act(body=sections(8193), nodeLimit=8192)), 5, 3)
+    yield answered("4,096 nodes in a payload", dossier(act(nodeLimit=8192), [inserted([node("part", children=sections(4095))])]))
+    yield refused("4,097 nodes in a payload", dossier(act(nodeLimit=8192), [inserted([node("part", children=sections(4096))])]), 5, 3)
+    yield answered("a provision of 512 letters", dossier(mods=[repeal(provision="a" * 512)]))
+    yield no_dossier("a provision of 513 letters", dossier(mods=[repeal(provision="a" * 513)]), 3, 1)
     yield answered("a content of 16,384 bytes", dossier(act(body=sections(1, "c" * 16_384))))
     yield refused("a content of 16,385 bytes", dossier(act(body=sections(1, "c" * 16_385))), 5, 4)
     yield answered("a heading of 16,384 bytes", dossier(act(body=[node(heading="h" * 16_384)])))

@@ -16,7 +16,7 @@ many in JSON as in an entry. So rule 17 is broken here by all entries together a
 """
 import json
 
-from rows.dossiers import LIMIT, act, efficacy, force, inapplied, inserted, nested, node, refs, repeal, sections, substituted, textual, to
+from rows.dossiers import LIMIT, SOURCE, act, efficacy, force, inapplied, inserted, nested, node, refs, repeal, sections, substituted, textual, to
 
 ONE = "/akn/gb/act/2010-05-01/7"
 TWO = "/akn/gb/act/2010-05-01/8"
@@ -547,6 +547,8 @@ _MODS = [
 _ACTS = [
     ({"body": nested(12)}, {"body": nested(13)}, 5, 2),
     ({"body": sections(4096)}, {"body": sections(4097)}, 5, 3),
+    ({"body": sections(4096), "nodeLimit": 4096}, {"body": sections(4097), "nodeLimit": 4096}, 5, 3),
+    ({"body": sections(8192), "nodeLimit": 8192}, {"body": sections(8193), "nodeLimit": 8192}, 5, 3),
     ({"body": sections(1, "c" * 16384)}, {"body": sections(1, "c" * 16385)}, 5, 4),
     ({"body": refs(16)}, {"body": refs(17)}, 6, 0),
     ({"force": {"from": "2011-01-01", "until": "2011-01-02"}}, {"force": AT_ONCE}, 7, 0),
@@ -639,21 +641,23 @@ def act_size(uri, contents):
     return HEAD + 1 + (2 + len(uri)) + 3 + 4 + 2 + 8 + (2 + nodes)
 
 
-def insertion(contents, work):
-    """An insertion of sections of these contents at the end of the act, and the bytes that it takes as an item of a draft of a work."""
-    source = (2 + len("/akn/gb/act/2010-12-01/20")) + 2
+def insertion(contents, work, provision=None):
+    """An insertion of sections of these contents at the end of the act, by a provision or by none that is named, and the bytes that it takes as an item
+    of a draft of a work."""
+    named = {} if provision is None else {"source": {"href": SOURCE, "place": 1, "provision": provision}}
+    source = (2 + len(SOURCE)) + 2 + (2 + len(provision) if named else 0)
     nodes = sum(1 + (1 + len(str(k))) + 2 + (2 + len(content)) + 2 + 2 for k, content in enumerate(contents, 1))
     edit = 1 + (2 + len("body")) + 1 + (2 + nodes)
     new = [node(num=str(k), content=content) for k, content in enumerate(contents, 1)]
-    return inserted(new), HEAD + 1 + (2 + len(work)) + 1 + source + 8 + edit
+    return inserted(new, **named), HEAD + 1 + (2 + len(work)) + 1 + source + 8 + edit
 
 
-def filling(size, work):
+def filling(size, work, provision=None):
     """An insertion that takes exactly so many bytes as an item of a draft of a work, or in a record two more."""
     count = size // 16_000 + 1
-    mod, taken = insertion([""] * count, work)
+    mod, taken = insertion([""] * count, work, provision)
     each, more = divmod(size - taken, count)
-    return insertion(["c" * (each + (k < more)) for k in range(count)], work)
+    return insertion(["c" * (each + (k < more)) for k in range(count)], work, provision)
 
 
 def full():
@@ -714,7 +718,10 @@ def full():
     assert taken == MOST - size + 1, taken
     yield add("ada", request, more, first), refused(17, MOST)
     yield record("ada", request, more, work=first), refused(16, 65_535)  # 16, 17
-    rest, taken = filling(MOST - size, first)
+    more, taken = filling(MOST - size + 1, first, "sec_9")
+    assert taken == MOST - size + 1, taken
+    yield add("ada", request, more, first), refused(17, MOST)
+    rest, taken = filling(MOST - size, first, "sec_9")
     assert taken == MOST - size, taken
     yield add("ada", request, rest, first), draft(64)
     request += 1

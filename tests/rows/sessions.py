@@ -63,7 +63,7 @@ def lines_of(given):
 
 
 def entries_as_bytes():
-    """Each field of each command and each kind of edit broken once, and each front of three long entries."""
+    """Each field of each command and each kind of edit broken once, in both formats, each front of long entries, and formats without need."""
     rows = list(entry_bytes.table())
     status, got = lines_of(given for _, given, _ in rows)
     check("entries as bytes: the status, and how many lines", (status, len(got)), (0, len(rows)))
@@ -72,7 +72,8 @@ def entries_as_bytes():
 
 
 def random_entries():
-    """Random entries of all commands, and as many with one byte changed, cut or doubled: what is taken is its own spelling."""
+    """Random entries of all commands, and as many with one byte changed, cut or doubled: what is taken is its own spelling, and the rest has its
+    fault where the reader has it."""
     seed = time.time_ns() % 1_000_000_000
     trips = list(entry_bytes.trips(seed))
     status, got = lines_of(given for given, _ in trips)
@@ -80,7 +81,7 @@ def random_entries():
     check(f"random entries of seed {seed}", (status, len(got), wrong[:1]), (0, len(trips), []))
     mutants = list(entry_bytes.mutated(seed))
     status, got = lines_of(entry_bytes.line(data) for data in mutants)
-    wrong = [data.hex() for data, line_got in zip(mutants, got) if line_got != entry_bytes.taken(data) and not line_got.startswith("fault ")]
+    wrong = [data.hex() for data, line_got in zip(mutants, got) if line_got != entry_bytes.told(data)]
     check(f"random bytes of seed {seed}", (status, len(got), wrong[:1]), (0, len(mutants), []))
 
 

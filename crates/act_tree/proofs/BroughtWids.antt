@@ -10,6 +10,7 @@ use Rattle.eid_paths.specs.declared.element.Element.{Element}
 use Rattle.eid_paths.specs.declared.element.Element.TheVariants.{Article, Section, Chapter, Paragraph, Subparagraph, Subsection, Clause, Subclause, Alinea, Part, Title, Book, Point, Indent}
 use Rattle.eid_paths.specs.Elements.{is_throughout}
 use Rattle.eid_paths.specs.Levels.{level_text}
+use Rattle.act_tree.specs.declared.limits.NodeLimit.TheVariants.{Plain}
 use Rattle.act_tree.specs.declared.surveying.TheConstants.{NONE_THROUGHOUT}
 use Rattle.act_tree.specs.Branches.{Branch, Branches, branch, no_branches, more_branches}
 use Rattle.act_tree.specs.Brought.{bringer, brought, has_brought}
@@ -90,10 +91,10 @@ twice_behind name [] = refl
 twice_behind name (w ∷ ws) = ap (λ t. t || one_twice (map (behind_name name) ws)) (among_behind name w ws) ∙ ap (λ t. is_among w ws || t) (twice_behind name ws)
 
 -- the wIds of a faultless payload differ
-pub brought_differ : (by : Id) (bs : Branches Own) → first_fault NONE_THROUGHOUT bs ≡ None → one_twice (all_wids (brought by bs)) ≡ false
+pub brought_differ : (by : Id) (bs : Branches Own) → first_fault NONE_THROUGHOUT Plain bs ≡ None → one_twice (all_wids (brought by bs)) ≡ false
 brought_differ by bs none =
     ap one_twice (all_wids_behind (bringer by) None bs) ∙ twice_behind (bringer by) (all_eids NONE_THROUGHOUT None bs)
-    ∙ sym (ap one_twice (all_wids-enacted NONE_THROUGHOUT None bs)) ∙ faultless_differ NONE_THROUGHOUT bs none
+    ∙ sym (ap one_twice (all_wids-enacted NONE_THROUGHOUT None bs)) ∙ faultless_differ NONE_THROUGHOUT Plain bs none
 
 begins : (xs ys : List ℕ) → starts_with nat_eq (xs ++ ys) xs ≡ true
 begins [] ys = refl

@@ -2,6 +2,9 @@
 use Rattle.std.proofs.Common.{IfSome, is_some, ◌≡◌, ◌∙◌, sym, ap, refl, subst, ℕ, true, false, List, get_or, Option, Some, None, option_map, cond, nat_lt, inl, inr}
 use Rattle.std.proofs.lemmas.Bool.{cases_Bool}
 use Rattle.std.specs.List.{All}
+use Rattle.act_tree.specs.declared.limits.TheConstants.{MAX_DEPTH}
+use Rattle.act_tree.specs.declared.limits.NodeLimit.{NodeLimit}
+use Rattle.act_tree.specs.NodeLimits.{most_nodes}
 use Rattle.act_tree.specs.declared.build_fault.BuildFault.TheVariants.{EidTwice, TooDeep, TooManyNodes, TextTooLong}
 use Rattle.eid_paths.specs.declared.numbering.Numbering.{Numbering}
 use Rattle.act_tree.specs.declared.tree.Tree.{Tree}
@@ -56,11 +59,11 @@ node_among t i e node =
     (body_lower (at t.arena) (number t.arena) (size t.arena) t.whole t.numbering) held.1.0 held.1.1 (sym (eid_up_is t i node.0) ∙ node.1.1)
 
 -- in a tree with no fault, the eIds of the text differ
-faultless_once : (n : Numbering) (bs : Branches _) → option_map fault_cause (first_fault n bs) ≡ None → one_twice (all_eids n None bs) ≡ false
-faultless_once n bs none =
+faultless_once : (n : Numbering) (limit : NodeLimit) (bs : Branches _) → option_map fault_cause (first_fault n limit bs) ≡ None → one_twice (all_eids n None bs) ≡ false
+faultless_once n limit bs none =
     elim (cases_Bool (one_twice (all_eids n None bs))) [
-      | inl twice ↦ absurd (let told : option_map fault_cause (first_fault n bs) ≡ Some (fault_cause EidTwice) =
-          ap (λ t. option_map fault_cause (cond t (Some EidTwice) (cond (nat_lt 12 (heights bs)) (Some TooDeep) (cond (nat_lt 4096 (counts bs)) (Some TooManyNodes) (cond (have_long bs) (Some TextTooLong) None))))) twice in cc)
+      | inl twice ↦ absurd (let told : option_map fault_cause (first_fault n limit bs) ≡ Some (fault_cause EidTwice) =
+          ap (λ t. option_map fault_cause (cond t (Some EidTwice) (cond (nat_lt MAX_DEPTH (heights bs)) (Some TooDeep) (cond (nat_lt (most_nodes limit) (counts bs)) (Some TooManyNodes) (cond (have_long bs) (Some TextTooLong) None))))) twice in cc)
       | inr once ↦ once
     ]
 
@@ -73,7 +76,7 @@ one_has_eid t i j e none one other =
     let second : (w : List ℕ) × _ = node_held (at t.arena) (number t.arena) (size t.arena) t.whole t.numbering j other.0 other.1.0 in
     one_among (at t.arena) (number t.arena) (size t.arena) t.whole t.numbering body 0 i j first.0 second.0 e (below_in (at t.arena 0)) t.whole.stands.1.1
     (body_lower (at t.arena) (number t.arena) (size t.arena) t.whole t.numbering)
-    (ap (λ o. one_twice (all_eids t.numbering o (all_owns body))) (eid_root (size t.arena) t.numbering (at t.arena) 0 refl) ∙ faultless_once t.numbering (all_owns body) none)
+    (ap (λ o. one_twice (all_eids t.numbering o (all_owns body))) (eid_root (size t.arena) t.numbering (at t.arena) 0 refl) ∙ faultless_once t.numbering t.limit (all_owns body) none)
     first.1.0 first.1.1 (sym (eid_up_is t i one.0) ∙ one.1.1) second.1.0 second.1.1 (sym (eid_up_is t j other.0) ∙ other.1.1)
 
 -- the children of a node stand below the eId that it has

@@ -11,7 +11,10 @@ use Rattle.act_tree.specs.Provisions.{Own}
 use Rattle.act_tree.specs.Eids.{eid_below, enacted, all_enacted}
 use Rattle.act_tree.specs.Faults.{eids, all_eids, is_long, has_long, have_long, first_fault}
 use Rattle.act_tree.specs.Surveys.{Surveyed, most, next_to, nothing, with_eid, gathered, repeats, noted, surveyed, all_surveyed, fault_in}
-use Rattle.act_tree.specs.declared.limits.TheConstants.{MAX_DEPTH, MAX_NODES}
+use Rattle.act_tree.specs.declared.limits.TheConstants.{MAX_DEPTH}
+use Rattle.act_tree.specs.declared.limits.NodeLimit.TheVariants.{Plain, Wide}
+use Rattle.act_tree.specs.declared.limits.NodeLimit.{NodeLimit}
+use Rattle.act_tree.specs.NodeLimits.{most_nodes}
 use Rattle.act_tree.specs.Wids.{wids, all_wids, is_among, one_twice}
 use Rattle.act_tree.proofs.Texts.{bytes_eq_sym}
 
@@ -129,18 +132,22 @@ below_most k n m low is =
       | inr more ↦ le-ltb k m (omega arith) ∙ sym (le-ltb k n more)
     ]
 
-pub fault_in-surveyed : (numbering : Numbering) (bs : Branches Own) → fault_in (all_surveyed numbering None 0 bs nothing) ≡ first_fault numbering bs
-fault_in-surveyed numbering bs =
+countable : (limit : NodeLimit) → most_nodes limit < most
+countable Plain = omega arith
+countable Wide = omega arith
+
+pub fault_in-surveyed : (numbering : Numbering) (limit : NodeLimit) (bs : Branches Own) → fault_in limit (all_surveyed numbering None 0 bs nothing) ≡ first_fault numbering limit bs
+fault_in-surveyed numbering limit bs =
     let r : Surveyed = all_surveyed numbering None 0 bs nothing in
     let f : Found numbering (all_eids numbering None bs) (heights bs) (counts bs) 0 (have_long bs) nothing r = all_found numbering None 0 bs nothing (omega arith) (omega arith) (omega arith) in
     let twice : r.twice ≡ one_twice (all_eids numbering None bs) =
     f.twice_is ∙ repeats-is [] (all_eids numbering None bs) ∙ ap (λ b. b || one_twice (all_eids numbering None bs)) (untouched (all_eids numbering None bs)) in
     let deep : nat_lt MAX_DEPTH r.deepest ≡ nat_lt MAX_DEPTH (heights bs) = below_most MAX_DEPTH (heights bs) r.deepest (omega arith) (let e : r.deepest ≡ max 0 (min (0 + heights bs) most) = f.deepest_is in omega arith) in
-    let many : nat_lt MAX_NODES r.count ≡ nat_lt MAX_NODES (counts bs) = below_most MAX_NODES (counts bs) r.count (omega arith) (let e : r.count ≡ min (0 + counts bs) most = f.count_is in omega arith) in
-    ap (λ t. cond t (Some EidTwice) (cond (nat_lt MAX_DEPTH r.deepest) (Some TooDeep) (cond (nat_lt MAX_NODES r.count) (Some TooManyNodes) (cond r.long (Some TextTooLong) None)))) twice
-    ∙ ap (λ t. cond (one_twice (all_eids numbering None bs)) (Some EidTwice) (cond t (Some TooDeep) (cond (nat_lt MAX_NODES r.count) (Some TooManyNodes) (cond r.long (Some TextTooLong) None)))) deep
+    let many : nat_lt (most_nodes limit) r.count ≡ nat_lt (most_nodes limit) (counts bs) = below_most (most_nodes limit) (counts bs) r.count (countable limit) (let e : r.count ≡ min (0 + counts bs) most = f.count_is in omega arith) in
+    ap (λ t. cond t (Some EidTwice) (cond (nat_lt MAX_DEPTH r.deepest) (Some TooDeep) (cond (nat_lt (most_nodes limit) r.count) (Some TooManyNodes) (cond r.long (Some TextTooLong) None)))) twice
+    ∙ ap (λ t. cond (one_twice (all_eids numbering None bs)) (Some EidTwice) (cond t (Some TooDeep) (cond (nat_lt (most_nodes limit) r.count) (Some TooManyNodes) (cond r.long (Some TextTooLong) None)))) deep
     ∙ ap (λ t. cond (one_twice (all_eids numbering None bs)) (Some EidTwice) (cond (nat_lt MAX_DEPTH (heights bs)) (Some TooDeep) (cond t (Some TooManyNodes) (cond r.long (Some TextTooLong) None)))) many
-    ∙ ap (λ t. cond (one_twice (all_eids numbering None bs)) (Some EidTwice) (cond (nat_lt MAX_DEPTH (heights bs)) (Some TooDeep) (cond (nat_lt MAX_NODES (counts bs)) (Some TooManyNodes) (cond t (Some TextTooLong) None)))) f.long_is
+    ∙ ap (λ t. cond (one_twice (all_eids numbering None bs)) (Some EidTwice) (cond (nat_lt MAX_DEPTH (heights bs)) (Some TooDeep) (cond (nat_lt (most_nodes limit) (counts bs)) (Some TooManyNodes) (cond t (Some TextTooLong) None)))) f.long_is
 
 -- the eIds of an act as enacted are the wIds of its provisions
 mutual
@@ -154,11 +161,11 @@ mutual
       ap (λ ws. ws ++ all_wids (all_enacted numbering above bs)) (wids-enacted numbering above b) ∙ ap (λ ws. eids numbering above b ++ ws) (all_wids-enacted numbering above bs)
 
 -- where no fault holds, the wIds of the act as enacted differ
-pub faultless_differ : (numbering : Numbering) (bs : Branches Own) → first_fault numbering bs ≡ None → one_twice (all_wids (all_enacted numbering None bs)) ≡ false
-faultless_differ numbering bs none =
+pub faultless_differ : (numbering : Numbering) (limit : NodeLimit) (bs : Branches Own) → first_fault numbering limit bs ≡ None → one_twice (all_wids (all_enacted numbering None bs)) ≡ false
+faultless_differ numbering limit bs none =
     ap one_twice (all_wids-enacted numbering None bs)
     ∙ elim (cases_Bool (one_twice (all_eids numbering None bs))) [
-      | inl twice ↦ absurd (let told : first_fault numbering bs ≡ Some EidTwice =
-          ap (λ t. cond t (Some EidTwice) (cond (nat_lt MAX_DEPTH (heights bs)) (Some TooDeep) (cond (nat_lt MAX_NODES (counts bs)) (Some TooManyNodes) (cond (have_long bs) (Some TextTooLong) None)))) twice in cc)
+      | inl twice ↦ absurd (let told : first_fault numbering limit bs ≡ Some EidTwice =
+          ap (λ t. cond t (Some EidTwice) (cond (nat_lt MAX_DEPTH (heights bs)) (Some TooDeep) (cond (nat_lt (most_nodes limit) (counts bs)) (Some TooManyNodes) (cond (have_long bs) (Some TextTooLong) None)))) twice in cc)
       | inr once ↦ once
     ]

@@ -17,7 +17,7 @@ drop_none (pair ∷ pairs) = drop_none pairs
 
 pub given_none : (t : Tree) (pairs : List (ℕ × List ℕ)) → tree_view t ≡ record (tree_view t) { body = renumbered (map (by_wid t) (drop (length pairs) pairs)) (tree_view t).body }
 given_none t pairs =
-    ap {B = TreeValue} (λ bs. record { numbering = (tree_view t).numbering; body = bs; changes = (tree_view t).changes })
+    ap {B = TreeValue} (λ bs. record { numbering = (tree_view t).numbering; limit = (tree_view t).limit; body = bs; changes = (tree_view t).changes })
     (sym (ap (λ ps. renumbered (map (by_wid t) ps) (tree_view t).body) (drop_none pairs) ∙ none_renumbered (tree_view t).body))
 
 pub given_more : (start now next : Tree) (pairs : List (ℕ × List ℕ)) (place : ℕ) (pair : ℕ × List ℕ) (num : List ℕ) → 0 < place → place ≤ length pairs → pair ≡ get_or pairs (place - 1) pair → num ≡ pair.1
@@ -32,8 +32,8 @@ given_more start now next pairs place pair num some within it same so_far wids l
     let left : List (List ℕ × List ℕ) = map (by_wid start) (drop place pairs) in
     let one : ((provision_at now pair.0).wid, num) ≡ by_wid start pair = ap (λ w. (w, num)) (wids pair.0) ∙ ap (λ n. ((provision_at start pair.0).wid, n)) same in
     last
-    ∙ ap {B = TreeValue} (λ v. record { numbering = v.numbering; body = renumbered (((provision_at now pair.0).wid, num) ∷ []) v.body; changes = v.changes }) so_far
-    ∙ ap {B = TreeValue} (λ bs. record { numbering = (tree_view start).numbering; body = bs; changes = (tree_view start).changes })
+    ∙ ap {B = TreeValue} (λ v. record { numbering = v.numbering; limit = v.limit; body = renumbered (((provision_at now pair.0).wid, num) ∷ []) v.body; changes = v.changes }) so_far
+    ∙ ap {B = TreeValue} (λ bs. record { numbering = (tree_view start).numbering; limit = (tree_view start).limit; body = bs; changes = (tree_view start).changes })
     (ap (λ q. renumbered (q ∷ []) (renumbered left (tree_view start).body)) one
     ∙ sym (more_renumbered (by_wid start pair) left (tree_view start).body)
     ∙ sym (ap (λ ps. renumbered (map (by_wid start) ps) (tree_view start).body) rest))

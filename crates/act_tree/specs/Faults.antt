@@ -12,7 +12,9 @@ use Rattle.act_tree.specs.Provisions.{Own, Provision}
 use Rattle.act_tree.specs.Eids.{eid_below}
 use Rattle.act_tree.specs.Trees.{TreeValue}
 use Rattle.act_tree.specs.Wids.{one_twice}
-use Rattle.act_tree.specs.declared.limits.TheConstants.{MAX_DEPTH, MAX_NODES, MAX_TEXT_BYTES}
+use Rattle.act_tree.specs.declared.limits.TheConstants.{MAX_DEPTH, MAX_TEXT_BYTES}
+use Rattle.act_tree.specs.declared.limits.NodeLimit.{NodeLimit}
+use Rattle.act_tree.specs.NodeLimits.{most_nodes}
 
 -- the number of a fault
 abbrev pub fault_number : BuildFault → ℕ
@@ -69,12 +71,12 @@ abbrev mutual
   have_long (more_branches b bs) = has_long b || have_long bs
 
 -- the first of the four that holds of the text below a root: two provisions have one eId, the text is deeper than 12
--- levels, it has more than 4,096 provisions, a heading or content is too long
-abbrev pub first_fault : Numbering → Branches Own → Option BuildFault
-first_fault numbering body =
+-- levels, it has more provisions than its limit says, a heading or content is too long
+abbrev pub first_fault : Numbering → NodeLimit → Branches Own → Option BuildFault
+first_fault numbering limit body =
     if one_twice (all_eids numbering None body) then Some EidTwice
     else (if nat_lt MAX_DEPTH (heights body) then Some TooDeep
-    else (if nat_lt MAX_NODES (counts body) then Some TooManyNodes
+    else (if nat_lt (most_nodes limit) (counts body) then Some TooManyNodes
     else (if have_long body then Some TextTooLong else None)))
 
 -- it failed by this fault, or for want of memory
@@ -84,7 +86,7 @@ FailsBy fault fails.Memory = Unit {0}
 
 -- the first cause for which a tree is not well-formed
 abbrev pub first_cause : TreeValue → Option Cause
-first_cause t = option_map fault_cause (first_fault t.numbering (all_owns t.body))
+first_cause t = option_map fault_cause (first_fault t.numbering t.limit (all_owns t.body))
 
 -- the eIds of the provisions of a tree, in the order of the text
 abbrev pub eids_of : TreeValue → List (List ℕ)

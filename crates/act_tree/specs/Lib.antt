@@ -38,3 +38,4 @@ pub mod HashIndex
 pub mod LevelHashes
 pub mod WaysDown
 pub mod Limits
+pub mod NodeLimits

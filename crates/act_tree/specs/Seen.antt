@@ -8,10 +8,11 @@ use Rattle.act_tree.specs.Changes.{Step, changed, grafted, next_of, removed, sub
 use Rattle.act_tree.specs.Arena.{branches_below, branch_from, climbs, above_in, below_in, provision_in}
 use Rattle.act_tree.specs.Slots.{at, size}
 
--- the tree's value: its numbering, the text below its root, and its changes
+-- the tree's value: its numbering, its limit, the text below its root, and its changes
 unfoldable pub tree_view : Tree → TreeValue
 tree_view t = record {
   numbering = t.numbering;
+  limit = t.limit;
   body = branches_below (size t.arena) (at t.arena) (below_in (at t.arena 0));
   changes = t.changes;
 }

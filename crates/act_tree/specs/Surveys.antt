@@ -3,7 +3,9 @@ use Rattle.std.specs.Prelude.{ℕ, ◌+◌, ◌-◌, ◌^◌, ◌++◌, ◌||◌
 use Rattle.act_tree.specs.declared.build_fault.BuildFault.{BuildFault}
 use Rattle.act_tree.specs.declared.build_fault.BuildFault.TheVariants.{EidTwice, TooDeep, TooManyNodes, TextTooLong}
 use Rattle.eid_paths.specs.declared.numbering.Numbering.{Numbering}
-use Rattle.act_tree.specs.declared.limits.TheConstants.{MAX_DEPTH, MAX_NODES}
+use Rattle.act_tree.specs.declared.limits.TheConstants.{MAX_DEPTH}
+use Rattle.act_tree.specs.declared.limits.NodeLimit.{NodeLimit}
+use Rattle.act_tree.specs.NodeLimits.{most_nodes}
 use Rattle.act_tree.specs.declared.survey.Survey.{Survey}
 use Rattle.act_tree.specs.Branches.{Branch, Branches, branch, no_branches, more_branches}
 use Rattle.act_tree.specs.Provisions.{Own}
@@ -73,10 +75,10 @@ abbrev mutual
   all_surveyed numbering above levels (more_branches b bs) s =
       all_surveyed numbering above levels bs (surveyed numbering above levels b s)
 
--- the first fault that a survey found
-abbrev pub fault_in : Surveyed → Option BuildFault
-fault_in s =
+-- the first fault that a survey found, in a text of a limit
+abbrev pub fault_in : NodeLimit → Surveyed → Option BuildFault
+fault_in limit s =
     if s.twice then Some EidTwice
     else (if nat_lt MAX_DEPTH s.deepest then Some TooDeep
-    else (if nat_lt MAX_NODES s.count then Some TooManyNodes
+    else (if nat_lt (most_nodes limit) s.count then Some TooManyNodes
     else (if s.long then Some TextTooLong else None)))

@@ -13,7 +13,7 @@ pub enum BuildFault {
     EidTwice = 1,
     /// The text is deeper than 12 levels; a child of the root has depth 1.
     TooDeep,
-    /// There are more than 4,096 provisions.
+    /// There are more provisions than the limit of the text says.
     TooManyNodes,
     /// A heading or content has more than 16,384 bytes.
     TextTooLong,

@@ -18,7 +18,7 @@ pub enum Cause {
     KindsDiffer,
     /// The result nests deeper than 12 levels.
     TooDeep,
-    /// The result has more than 4,096 provisions.
+    /// The result has more provisions than its act allows.
     TooManyNodes,
     /// A heading or content of the result has more than 16,384 bytes.
     TextTooLong,

@@ -23,6 +23,7 @@ use crate::{NodeId, Nodes, Refs, Tree};
 pub fn limits_in_numbers()
     ensures depth { limit.MAX_DEPTH ≡ 12 }
     ensures nodes { limit.MAX_NODES ≡ 4096 }
+    ensures wide_nodes { limit.MAX_WIDE_NODES ≡ 8192 }
     ensures text_bytes { limit.MAX_TEXT_BYTES ≡ 16384 }
     ensures wid_bytes { limit.MAX_WID_BYTES ≡ 512 }
     ensures refs { limit.MAX_REFS ≡ 16 }

@@ -3,6 +3,7 @@
 ghost use Rattle.std.specs.Prelude.{◌≡◌};
 ghost use Rattle.act_tree.specs.Branches.{branches_of};
 ghost use Rattle.act_tree.specs.Limits as spec;
+ghost use Rattle.act_tree.specs.NodeLimits.{most_nodes};
 ghost use Rattle.act_tree.specs.Specs.{spec_view};
 
 use crate::{NodeSpec, Nodes};
@@ -10,8 +11,11 @@ use crate::{NodeSpec, Nodes};
 /// The most levels of a text; a child of the root has depth 1.
 pub const MAX_DEPTH: u32 = 12;
 
-/// The most provisions of a text.
+/// The most provisions of a plain act, and of what an edit brings.
 pub const MAX_NODES: u32 = 4_096;
+
+/// The most provisions of a wide act.
+pub const MAX_WIDE_NODES: u32 = 8_192;
 
 /// The most refs of a node.
 pub const MAX_REFS: usize = 16;
@@ -21,6 +25,27 @@ pub const MAX_WID_BYTES: usize = 512;
 
 /// The most bytes of a heading, a content, or a text that an edit brings or looks for.
 pub const MAX_TEXT_BYTES: usize = 16_384;
+
+/// How many provisions the text of an act may have, which the act says.
+#[derive(Clone, Copy, Debug, PartialEq, Eq)]
+pub enum NodeLimit {
+    /// At most `MAX_NODES`.
+    Plain,
+    /// At most `MAX_WIDE_NODES`.
+    Wide,
+}
+
+impl NodeLimit {
+    /// The most provisions of a text of this limit, the root not counted.
+    pub fn most(self) -> u32
+        ensures { result ≡ most_nodes self }
+    {
+        match self {
+            NodeLimit::Plain => MAX_NODES,
+            NodeLimit::Wide => MAX_WIDE_NODES,
+        }
+    }
+}
 
 /// Whether a text has as many bytes as a wId may have.
 pub fn is_wid(wid: &str) -> bool

@@ -3,7 +3,7 @@
 ghost use Rattle.std.specs.Prelude.{◌≡◌, ◌<◌, IfOk, OnOk, option_map, length, nat_lt, ◌||◌};
 ghost use Rattle.act_tree.specs.Branches.{branches_of};
 
-use crate::{BuildFault, MAX_DEPTH, MAX_NODES, MAX_TEXT_BYTES, Nodes, eid_below};
+use crate::{BuildFault, MAX_DEPTH, MAX_TEXT_BYTES, NodeLimit, Nodes, eid_below};
 use desk_base::{Memory, Text};
 use eid_paths::Numbering;
 use indexmap::IndexSet;
@@ -61,15 +61,15 @@ impl Survey {
         Ok(())
     }
 
-    /// The first fault that was found.
-    pub fn fault(&self) -> Option<BuildFault>
-        ensures { result ≡ fault_in (seen self.now) }
+    /// The first fault that was found, in a text of this limit.
+    pub fn fault(&self, limit: NodeLimit) -> Option<BuildFault>
+        ensures { result ≡ fault_in limit (seen self.now) }
     {
         if self.twice {
             Some(BuildFault::EidTwice)
         } else if self.deepest > MAX_DEPTH {
             Some(BuildFault::TooDeep)
-        } else if self.count > MAX_NODES {
+        } else if self.count > limit.most() {
             Some(BuildFault::TooManyNodes)
         } else if self.long {
             Some(BuildFault::TextTooLong)

@@ -3,10 +3,11 @@
 ghost use Rattle.std.specs.Prelude.{◌≡◌, None, IfOk, OnOk, IfErr, option_map};
 ghost use Rattle.act_tree.specs.Branches.{branches_of};
 ghost use Rattle.act_tree.specs.Faults.{first_fault, FailsBy};
+ghost use Rattle.act_tree.specs.declared.limits.NodeLimit.TheVariants.{Plain};
 ghost use Rattle.act_tree.specs.Surveys.{seen, all_surveyed};
 
 use crate::survey::Survey;
-use crate::{BuildFail, BuildFault, Nodes, eid_below};
+use crate::{BuildFail, BuildFault, NodeLimit, Nodes, eid_below};
 use desk_base::Memory;
 use eid_paths::Numbering;
 use std::alloc::Global;
@@ -44,25 +45,26 @@ fn survey(
     Ok(())
 }
 
-/// Why nodes right below a root make no tree, if they do not.
+/// Why nodes right below a root make no tree of this limit, if they do not.
 pub fn fault_of(
     alloc: Global,
     numbering: Numbering,
+    limit: NodeLimit,
     nodes: &Nodes,
 ) -> Result<Option<BuildFault>, Memory>
-    ensures { IfOk result (λ fault. fault ≡ first_fault numbering (branches_of nodes.now)) }
+    ensures { IfOk result (λ fault. fault ≡ first_fault numbering limit (branches_of nodes.now)) }
 {
     let mut found = Survey::new(alloc);
     survey(alloc, &mut found, numbering, None, 0, nodes)?;
-    Ok(found.fault())
+    Ok(found.fault(limit))
 }
 
-/// Whether nodes make a tree, as the children of a root in an act that numbers no element throughout.
+/// Whether nodes make a tree, as the children of a root in a plain act that numbers no element throughout.
 pub fn check_nodes(alloc: Global, nodes: &Nodes) -> Result<(), BuildFail>
-    ensures fits { OnOk result (first_fault NONE_THROUGHOUT (branches_of nodes.now) ≡ None) }
-    ensures fault { IfErr result (FailsBy (first_fault NONE_THROUGHOUT (branches_of nodes.now))) }
+    ensures fits { OnOk result (first_fault NONE_THROUGHOUT Plain (branches_of nodes.now) ≡ None) }
+    ensures fault { IfErr result (FailsBy (first_fault NONE_THROUGHOUT Plain (branches_of nodes.now))) }
 {
-    match fault_of(alloc, NONE_THROUGHOUT, nodes)? {
+    match fault_of(alloc, NONE_THROUGHOUT, NodeLimit::Plain, nodes)? {
         Some(fault) => Err(BuildFail::Fault(fault)),
         None => Ok(()),
     }

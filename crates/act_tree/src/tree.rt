@@ -1,4 +1,4 @@
-//! Tree: the text of an act. A clause sees one as its numbering, its provisions and the number of its changes.
+//! Tree: the text of an act. A clause sees one as its numbering, its limit, its provisions and the number of its changes.
 
 ghost use Rattle.std.specs.Prelude.{◌≡◌, None, Some, if◌then◌else◌};
 ghost use Rattle.act_tree.specs.Arena.{IsWhole, below_in, branches_below};
@@ -17,7 +17,7 @@ use crate::levels::{are_alike, goes_on};
 use crate::survey::Survey;
 use crate::surveying::fault_of;
 use crate::walks::{count, survey};
-use crate::{BuildFail, BuildFault, Cause, NONE_THROUGHOUT, NodeId, Nodes, Refs};
+use crate::{BuildFail, BuildFault, Cause, NONE_THROUGHOUT, NodeId, NodeLimit, Nodes, Refs};
 use desk_base::{Id, Memory, Steps, Text};
 use eid_paths::{Eid, Element, Level, Num, Numbering, parse_eid};
 use std::alloc::Global;
@@ -27,6 +27,7 @@ use std::sync::ledger::Ledger;
 #[derive(Debug, Drop)]
 pub struct Tree {
     numbering: Numbering,
+    limit: NodeLimit,
     changes: u64,
     arena: Arena,
     ghost whole: { IsWhole (at arena) (number arena) (size arena) } by { IsWhole-prop (at arena) (number arena) (size arena) },
@@ -101,6 +102,7 @@ impl Tree {
     ghost use Rattle.act_tree.specs.Brought.{brought, has_brought, second_part};
     ghost use Rattle.act_tree.specs.Changes.{after, before, changed, grafted, is_in, joined, merged, next_of, parted, removed, renumbered, substituted, with_content, without};
     ghost use Rattle.act_tree.specs.declared.surveying.TheConstants.{NONE_THROUGHOUT};
+    ghost use Rattle.act_tree.specs.declared.limits.NodeLimit.TheVariants.{Plain};
     ghost use Rattle.act_tree.specs.Eids.{all_enacted};
     ghost use Rattle.act_tree.specs.Depths.{depth_of};
     ghost use Rattle.act_tree.specs.EidLevels.{all_beginning, levels_begun, levels_on, own_level};
@@ -120,26 +122,37 @@ impl Tree {
 
     /// The tree of an act as enacted: the wId of each provision is the eId that it has there. `Err`: the first fault,
     /// or want of memory.
-    pub fn build(alloc: Global, body: &Nodes, numbering: Numbering) -> Result<Tree, BuildFail>
+    pub fn build(
+        alloc: Global,
+        body: &Nodes,
+        numbering: Numbering,
+        limit: NodeLimit,
+    ) -> Result<Tree, BuildFail>
         ensures tree { IfOk result (λ t. tree_view t
-            ≡ unchanged numbering (all_enacted numbering None (branches_of body.now))) }
-        ensures fits { OnOk result (first_fault numbering (branches_of body.now) ≡ None) }
-        ensures fault { IfErr result (FailsBy (first_fault numbering (branches_of body.now))) }
+            ≡ unchanged numbering limit (all_enacted numbering None (branches_of body.now))) }
+        ensures fits { OnOk result (first_fault numbering limit (branches_of body.now) ≡ None) }
+        ensures fault { IfErr result (FailsBy (first_fault numbering limit (branches_of body.now))) }
     {
-        match fault_of(alloc, numbering, body)? {
+        match fault_of(alloc, numbering, limit, body)? {
             Some(fault) => Err(BuildFail::Fault(fault)),
-            None => Ok(Tree::plant(alloc, body, numbering)?),
+            None => Ok(Tree::plant(alloc, body, numbering, limit)?),
         }
     }
 
     // The tree of an act as enacted, where no two of its provisions have one eId.
-    fn plant(alloc: Global, body: &Nodes, numbering: Numbering) -> Result<Tree, Memory>
+    fn plant(
+        alloc: Global,
+        body: &Nodes,
+        numbering: Numbering,
+        limit: NodeLimit,
+    ) -> Result<Tree, Memory>
         requires { one_twice (all_wids (all_enacted numbering None (branches_of body.now))) ≡ false }
         ensures { IfOk result (λ t. tree_view t
-            ≡ unchanged numbering (all_enacted numbering None (branches_of body.now))) }
+            ≡ unchanged numbering limit (all_enacted numbering None (branches_of body.now))) }
     {
         Ok(Tree {
             numbering,
+            limit,
             changes: 0,
             arena: plant(alloc, numbering, None, body)?,
         })
@@ -152,6 +165,7 @@ impl Tree {
     {
         Ok(Tree {
             numbering: self.numbering,
+            limit: self.limit,
             changes: self.changes,
             arena: self.copy_arena(alloc)?,
         })
@@ -175,6 +189,14 @@ impl Tree {
         ensures { result ≡ (tree_view self.now).numbering }
     {
         self.numbering
+    }
+
+    /// How many provisions it may have.
+    #[tactic(auto, unfolding(crate::specs::Seen::tree_view))]
+    pub fn limit(&self) -> NodeLimit
+        ensures { result ≡ (tree_view self.now).limit }
+    {
+        self.limit
     }
 
     /// The root, which stands for the act itself.
@@ -425,7 +447,7 @@ impl Tree {
     }
 
     /// The first cause for which the tree is not well-formed: two nodes have one eId, it is deeper than 12 levels, has
-    /// more than 4,096 nodes, or a heading or content of more than 16,384 bytes.
+    /// more nodes than its limit says, or a heading or content of more than 16,384 bytes.
     pub fn well_formed(&self, alloc: Global) -> Result<Option<Cause>, Memory>
         ensures { IfOk result (λ cause. cause ≡ first_cause (tree_view self.now)) }
     {
@@ -438,11 +460,11 @@ impl Tree {
     // The first fault of the tree.
     fn fault(&self, alloc: Global) -> Result<Option<BuildFault>, Memory>
         ensures { IfOk result (λ fault. fault
-            ≡ first_fault (tree_view self.now).numbering (all_owns (tree_view self.now).body)) }
+            ≡ first_fault (tree_view self.now).numbering (tree_view self.now).limit (all_owns (tree_view self.now).body)) }
     {
         let mut found = Survey::new(alloc);
         survey(alloc, &mut found, self, None, 0, self.children(self.root()))?;
-        Ok(found.fault())
+        Ok(found.fault(self.limit))
     }
 
     /// Takes a node away, with all that stands beneath it; of the root, all that stands beneath it. It is one change,
@@ -475,7 +497,7 @@ impl Tree {
         steps: &mut Steps<L>,
     ) -> Result<(), Memory>
         requires node { has_node self.old id ≡ true }
-        requires payload { first_fault NONE_THROUGHOUT (branches_of nodes.now) ≡ None }
+        requires payload { first_fault NONE_THROUGHOUT Plain (branches_of nodes.now) ≡ None }
         requires fresh { has_brought by (tree_view self.old).body ≡ false }
         ensures tree { OnOk result (tree_view self.new
             ≡ once_changed self.old (substituted_at self.old id (brought by (branches_of nodes.now)))) }
@@ -506,7 +528,7 @@ impl Tree {
     ) -> Result<(), Memory>
         requires node { has_node self.old parent ≡ true }
         requires place { place ≤ length (children_at self.old parent) }
-        requires payload { first_fault NONE_THROUGHOUT (branches_of nodes.now) ≡ None }
+        requires payload { first_fault NONE_THROUGHOUT Plain (branches_of nodes.now) ≡ None }
         requires fresh { has_brought by (tree_view self.old).body ≡ false }
         ensures tree { OnOk result (tree_view self.new
             ≡ once_changed self.old (grafted_at self.old parent place (brought by (branches_of nodes.now)))) }
@@ -688,7 +710,7 @@ impl Tree {
     ) -> Result<(), Memory>
         requires node { has_node self.old parent ≡ true }
         requires place { place ≤ length (children_at self.old parent) }
-        requires payload { first_fault NONE_THROUGHOUT (branches_of nodes.now) ≡ None }
+        requires payload { first_fault NONE_THROUGHOUT Plain (branches_of nodes.now) ≡ None }
         requires fresh { has_brought by (tree_view self.old).body ≡ false }
         ensures tree { OnOk result (tree_view self.new
             ≡ with_body self.old (grafted_at self.old parent place (brought by (branches_of nodes.now)))) }
@@ -727,7 +749,7 @@ impl Tree {
     ) -> Result<(), Memory>
         requires node { has_node self.old id ≡ true }
         requires provision { id ≡ 0 → ⊥ }
-        requires payload { first_fault NONE_THROUGHOUT (branches_of nodes.now) ≡ None }
+        requires payload { first_fault NONE_THROUGHOUT Plain (branches_of nodes.now) ≡ None }
         requires fresh { has_brought by (tree_view self.old).body ≡ false }
         ensures tree { OnOk result (tree_view self.new
             ≡ with_body self.old (substituted_at self.old id (brought by (branches_of nodes.now)))) }
@@ -742,7 +764,7 @@ impl Tree {
 
     // Puts nodes below the root, in the place of all provisions: of what there was no slot is left.
     fn put_all(&mut self, alloc: Global, nodes: &Nodes, by: Id) -> Result<(), Memory>
-        requires payload { first_fault NONE_THROUGHOUT (branches_of nodes.now) ≡ None }
+        requires payload { first_fault NONE_THROUGHOUT Plain (branches_of nodes.now) ≡ None }
         requires fresh { has_brought by (tree_view self.old).body ≡ false }
         ensures tree { OnOk result (tree_view self.new
             ≡ with_body self.old (substituted_at self.old 0 (brought by (branches_of nodes.now)))) }

@@ -20,7 +20,7 @@ use Rattle.akn_json.specs.Reading.Keys.{key_name}
 use Rattle.akn_json.specs.Reading.Fields.{members_in, field_in, items_in, text_in, number_in, day_in, end_in, period_in, optional_in}
 use Rattle.akn_json.specs.Reading.Names.{work_read, work_in, expression_in, id_in}
 use Rattle.akn_json.specs.Reading.Nodes.{element_in, num_in, refs_in, own_in, node_in, children_in, nodes_in, each_node}
-use Rattle.akn_json.specs.Reading.Acts.{act_day_in, language_in, numbering_in, act_in}
+use Rattle.akn_json.specs.Reading.Acts.{act_day_in, language_in, numbering_in, node_limit_in, act_in}
 use Rattle.akn_json.specs.Reading.Modifications.{modification_in, each_from, mods_in}
 use Rattle.akn_json.specs.Reading.Widths.{width}
 use Rattle.akn_json.specs.Reading.Bytes.{most_bytes, json_of, value_of}
@@ -142,10 +142,14 @@ numbering_within : (most : ℕ) (d : Data) → IsWithin most (numbering_in d)
 unfolding numbering_in
 numbering_within most d = search (placing, items_within, within_each, element_within) depth 40
 
+node_limit_within : (most : ℕ) (d : Data) → IsWithin most (node_limit_in d)
+unfolding node_limit_in
+node_limit_within most d = search (placing, number_within) depth 40
+
 act_within : (most : ℕ) (d : Data) → IsWithin most (act_in d)
 unfolding act_in
 act_within most d =
-    search (placing, members_within, field_within, work_within, act_day_within, language_within, optional_within, numbering_within, period_within, nodes_within) depth 80
+    search (placing, members_within, field_within, work_within, act_day_within, language_within, optional_within, numbering_within, node_limit_within, period_within, nodes_within) depth 80
 
 each_within : (most place : ℕ) (ds : Items) → place + items_len ds ≤ suc most → IsWithin most (each_from place ds)
 each_within most place no_items room = within_ok most _

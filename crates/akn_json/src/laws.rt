@@ -71,7 +71,7 @@ pub fn limit_is_this()
 /// The keys of the objects of which a dossier is made: those at which each has a member, and those at which it may have one.
 pub fn keys_of_acts()
     ensures dossier { HasKeys tables.DOSSIER (codes "act modifications") [] }
-    ensures act { HasKeys tables.ACT (codes "FRBRuri FRBRdate FRBRlanguage force body") (codes "numbering") }
+    ensures act { HasKeys tables.ACT (codes "FRBRuri FRBRdate FRBRlanguage force body") (codes "numbering nodeLimit") }
     ensures node { HasKeys tables.NODE (codes "element num") (codes "heading content refs children") }
     ensures period { HasKeys tables.PERIOD (codes "from") (codes "until") }
 {}
@@ -79,7 +79,7 @@ pub fn keys_of_acts()
 /// The same of a modification, which has exactly one of its keys, of its source, and of what it is directed at.
 pub fn keys_of_parts()
     ensures modification { HasKeys tables.MODIFICATION [] (codes "textualMod forceMod efficacyMod") }
-    ensures source { HasKeys tables.SOURCE (codes "href place") [] }
+    ensures source { HasKeys tables.SOURCE (codes "href place") (codes "provision") }
     ensures provision { HasKeys tables.PROVISION (codes "wId") [] }
     ensures anchor { HasKeys tables.ANCHOR (codes "wId pos") [] }
     ensures other_modification { HasKeys tables.OTHER_MODIFICATION (codes "modification") [] }

@@ -1,6 +1,8 @@
 mod outside;
 
-use crate::{BytesSink, BytesSource, Day, Failed, Id, Reading, Sink, Source, Text, Writing};
+use crate::{
+    BytesSink, BytesSource, Day, Failed, Id, ReaderSource, Sink, Source, Text, WriterSink,
+};
 use std::collections::HashMap;
 use std::test::Fail;
 
@@ -71,11 +73,14 @@ fn streams_fail_where_they_are_told_to(rt: HostRuntime) -> Result<(), Fail> {
 #[test]
 fn each_other_call_succeeds(rt: HostRuntime) -> Result<(), Fail> {
     let mut into = [0; 4];
-    assert_eq!(rt; next(&mut Reading::new(&b"abcde"[..]), &mut into), Ok(4));
+    assert_eq!(rt;
+        next(&mut ReaderSource::new(&b"abcde"[..]), &mut into),
+        Ok(4)
+    );
     assert_eq!(rt; &into, b"abcd");
 
     let mut room = [0; 4];
-    let mut sink = Writing::new(&mut room[..]);
+    let mut sink = WriterSink::new(&mut room[..]);
     assert_eq!(rt; put(&mut sink, b"abc"), Ok(()));
     assert_eq!(rt; put(&mut sink, b"de"), Err(Failed));
 

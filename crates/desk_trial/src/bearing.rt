@@ -116,7 +116,8 @@ fn flag_in(
     question: &Question,
     wid: &str,
 ) -> Result<Option<bool>, Memory> {
-    let tree = match Tree::build(alloc, &known.act.body, known.act.numbering) {
+    let act = &known.act;
+    let tree = match Tree::build(alloc, &act.body, act.numbering, act.limit) {
         Ok(tree) => tree,
         Err(BuildFail::Memory) => return Err(Memory),
         Err(BuildFail::Fault(_)) => return Ok(None),

@@ -1,6 +1,6 @@
 -- Each field of the format is exact.
-use Rattle.std.proofs.Common.{◌≡◌, ℕ, zero, suc, ◌≤◌, ◌==◌, Bool, true, ◌&&◌, ◌||◌, if◌then◌else◌, List, [], ◌∷◌, length, Option, Some, None, refl, sym, ap, ◌∙◌, arith}
-use Rattle.std.specs.Prelude.{nat_lt, unwrap_or}
+use Rattle.std.proofs.Common.{◌≡◌, ℕ, zero, suc, ◌≤◌, ◌==◌, Bool, true, false, not, ◌&&◌, ◌||◌, if◌then◌else◌, List, [], ◌∷◌, length, min, Option, Some, None, refl, sym, ap, subst, ◌∙◌, arith}
+use Rattle.std.specs.Prelude.{nat_lt, is_some, unwrap_or}
 use Rattle.std.specs.List.{list_all}
 use Rattle.std.specs.Int.{w32, w64}
 use Rattle.std.specs.Str.{is_utf8}
@@ -10,9 +10,12 @@ use Rattle.eid_paths.specs.declared.element.Element.{Element}
 use Rattle.eid_paths.specs.declared.numbering.Numbering.{Numbering}
 use Rattle.desk_base.specs.declared.period.Period.{Period}
 use Rattle.frbr_names.specs.Expressions.{is_expression, is_language}
+use Rattle.frbr_names.specs.Rules.{is_portion}
 use Rattle.frbr_names.specs.Works.{date_named}
 use Rattle.act_tree.specs.Branches.{Branch, branch, listed, listed-branches_of, branches_of-listed}
 use Rattle.act_tree.specs.Provisions.{Own}
+use Rattle.act_tree.specs.declared.limits.NodeLimit.{NodeLimit}
+use Rattle.act_tree.specs.declared.limits.NodeLimit.TheVariants.{Plain, Wide}
 use Rattle.bearing_mods.specs.declared.efficacy.EfficacyEffect.{EfficacyEffect}
 use Rattle.bearing_mods.specs.declared.efficacy.EfficacyEffect.TheVariants as efficacy
 use Rattle.bearing_mods.specs.declared.force.ForceEffect.{ForceEffect}
@@ -21,22 +24,25 @@ use Rattle.textual_mods.specs.declared.edit.Pos.TheVariants as places
 use Rattle.textual_mods.specs.declared.edit.SplitAt.TheVariants as cuts
 use Rattle.textual_mods.specs.declared.edit.TextPos.TheVariants as stands
 use Rattle.textual_mods.specs.declared.edit.TextualMod.TheVariants.{Repeal, SubstituteNodes, SubstituteText, InsertNodes, InsertText, Renumber, Split, Join}
-use Rattle.law_register.specs.Law.Spelling.{is_spelled_day}
+use Rattle.law_register.specs.Law.Formats.{is_wide}
+use Rattle.law_register.specs.Law.Spelling.{is_spelled_day, is_spelled_provision}
 use Rattle.law_register.specs.Register.Drafters.{is_drafter}
 use Rattle.law_register.specs.declared.law.act.Act.{Act}
 use Rattle.law_register.specs.declared.law.command.Command.{Command}
 use Rattle.law_register.specs.declared.law.command.Command.TheVariants.{Enact, Record, Correct, Withdraw, Restore, DraftAdd, DraftDrop, File}
+use Rattle.law_register.specs.declared.law.format.EntryFormat.{EntryFormat}
+use Rattle.law_register.specs.declared.law.format.EntryFormat.TheVariants as formats_of
 use Rattle.law_register.specs.declared.law.modification.Destination.TheVariants as to
 use Rattle.law_register.specs.declared.law.modification.Modification.TheVariants.{Textual, Force, Efficacy}
 use Rattle.law_register.specs.declared.register.entry.Entry.{Entry}
-use Rattle.entry_codec.specs.Fields.{Field, byte, chunk, tested, given, pair, made, kind_value, first, each}
-use Rattle.entry_codec.specs.Values.{number16, number32, number64, text_of, ruled_text, text, text_where, name_where, drafter, num, is_work, work, expression, list_of, refs, is_day, day, some_but_zero, or_none, day_or_none, law, period_from, period, id_from, id, language, act_day, numbering, source_from, source, destination_kinds, destination_parts, destination, spot_from, spot}
+use Rattle.entry_codec.specs.Fields.{Field, nothing, byte, chunk, tested, given, pair, made, kind_value, each}
+use Rattle.entry_codec.specs.Values.{number16, number32, number64, text_of, ruled_text, text, text_where, name_where, drafter, num, is_work, work, expression, list_of, refs, is_day, day, some_but_zero, or_none, day_or_none, law, period_from, period, id_from, id, language, act_day, numbering, destination_kinds, destination_parts, destination, spot_from, spot}
 use Rattle.entry_codec.specs.Nodes.{element, own_from, own, node_from, node_parts, nodes, node, payload}
 use Rattle.entry_codec.specs.Acts.{act_rest, act_from, act}
-use Rattle.entry_codec.specs.Formats.{Format, first_format}
-use Rattle.entry_codec.specs.Modifications.{pos_kinds, pos_parts, pos, text_pos_kinds, text_pos_parts, text_pos, split_at_kinds, split_at_parts, split_at, num_pair, num_pairs, edit_kinds, edit_parts, edit, dates, one_day, same_dates, force_kinds, force_parts, force_effect, efficacy_kinds, efficacy_parts, efficacy_effect, modification_kinds, modification_parts, modification, modifications}
+use Rattle.entry_codec.specs.Formats.{Format, unsaid, limit_number, limit_numbered, limit, some_but_empty, is_empty_or_portion, provision, format_in}
+use Rattle.entry_codec.specs.Modifications.{pos_kinds, pos_parts, pos, text_pos_kinds, text_pos_parts, text_pos, split_at_kinds, split_at_parts, split_at, num_pair, num_pairs, edit_kinds, edit_parts, edit, dates, one_day, same_dates, force_kinds, force_parts, force_effect, efficacy_kinds, efficacy_parts, efficacy_effect, source_from, source, modification_kinds, modification_parts, modification, modifications}
 use Rattle.entry_codec.specs.Commands.{command_kinds, command_parts, command}
-use Rattle.entry_codec.specs.Entries.{entry_from, fields, formats, entry}
+use Rattle.entry_codec.specs.Entries.{entry_from, fields, formats, format_parts, entry}
 use Rattle.entry_codec.proofs.Exact.{IsExact, is_byte, some_is, byte_exact, chunk_exact, tested_exact, given_exact, pair_exact, made_exact, number_exact, wide32, wide64, nothing_exact, one_of_exact, each_exact, counted_exact}
 use Rattle.entry_codec.proofs.Numberings.{element_exact, number16_exact, numbering_exact}
 
@@ -172,10 +178,6 @@ language_exact = tested_exact is_language (chunk 3) (chunk_exact 3)
 act_day_exact : (iri : List ℕ) → IsExact (act_day iri)
 unfolding act_day
 act_day_exact iri = tested_exact (is_spelled_day (date_named iri)) day day_exact
-
-source_exact : IsExact source
-unfolding source
-source_exact = iso_exact source_from (λ s. (s.href, s.place)) (pair work number16) (pair_exact work number16 work_exact number16_exact) (λ _. refl) (λ _. refl)
 
 spot_exact : IsExact spot
 unfolding spot
@@ -352,46 +354,132 @@ efficacy_effect_exact =
       ),
     )
 
--- acts
-act_rest_exact : (iri : List ℕ) → IsExact (act_rest iri)
-unfolding act_rest
-act_rest_exact iri =
-    pair_exact (act_day iri) (pair numbering (pair period payload)) (act_day_exact iri)
-    (pair_exact numbering (pair period payload) numbering_exact (pair_exact period payload period_exact payload_exact))
+-- what a format does not say
+unsaid_exact : {V : Type 0} (is_it : V → Bool) (value : V) → is_it value ≡ true → ((v : V) → is_it v ≡ true → value ≡ v) → IsExact (unsaid is_it value)
+unsaid_exact is_it value is only = made_exact is_it (λ _. value) (λ _. Some tt) nothing nothing_exact (record {
+  parted = λ a fits. refl;
+  ruled = λ a fits. is;
+  whole = λ v a rule apart. only v rule;
+})
 
-abbrev act_of : Act → List ℕ × (List ℕ × (ℕ × (Numbering × (Period × List (Branch Own)))))
-act_of a = (a.work, (a.language, (a.day, (a.numbering, (a.force, a.body)))))
+plain_alone : (l : NodeLimit) → not (is_wide l) ≡ true → Plain ≡ l
+plain_alone Plain plain = refl
+plain_alone Wide plain = absurd cc
 
-act_exact : IsExact act
-unfolding act
-act_exact =
-    iso_exact act_from act_of (given work (λ iri. pair language (act_rest iri)))
-    (given_exact work (λ iri. pair language (act_rest iri)) work_exact (λ iri. pair_exact language (act_rest iri) language_exact (act_rest_exact iri)))
-    (λ _. refl) (λ _. refl)
+none_alone : (p : Option (List ℕ)) → not (is_some p) ≡ true → None ≡ p
+none_alone None none = refl
+none_alone (Some p) none = absurd cc
+
+-- the limit of an act
+limit_there : (n : ℕ) → (n == 4096 || n == 8192) ≡ true → limit_number (limit_numbered n) ≡ n
+limit_there n is = by (n == 4096) refl is
+  where
+    as_is : (m : ℕ) → limit_number (limit_numbered m) ≡ m → n ≡ m → limit_number (limit_numbered n) ≡ n
+    as_is m there same = subst (λ k. limit_number (limit_numbered k) ≡ k) (sym same) there
+
+    by : (t : Bool) → (n == 4096) ≡ t → (t || n == 8192) ≡ true → limit_number (limit_numbered n) ≡ n
+    by true plain either = as_is 4096 refl (eqb-true n 4096 plain)
+    by false plain either = as_is 8192 refl (eqb-true n 8192 either)
+
+limit_back : (l : NodeLimit) → limit_numbered (limit_number l) ≡ l
+limit_back Plain = refl
+limit_back Wide = refl
+
+limit_exact : IsExact limit
+unfolding limit
+limit_exact = made_exact (λ _. true) limit_numbered (λ l. Some (limit_number l)) (tested (λ n. n == 4096 || n == 8192) number16) (tested_exact (λ n. n == 4096 || n == 8192) number16 number16_exact) (record {
+  parted = λ a fits. ap Some (limit_there a (and_parts (a == 4096 || a == 8192) (number16.fits a) fits).0);
+  ruled = λ a fits. refl;
+  whole = λ l a rule apart. ap limit_numbered (sym (some_is (limit_number l) a apart)) ∙ limit_back l;
+})
+
+-- the provision of a source
+not_empty : (b : ℕ) (t : List ℕ) → (length (b ∷ t) == 0) ≡ false
+not_empty b t = ne_eqb (length (b ∷ t)) 0 (λ e. omega (arith, e))
+
+abbrev some_if : List ℕ → Bool → Option (List ℕ)
+some_if t empty = if empty then None else Some t
+
+some_more : (b : ℕ) (t : List ℕ) → some_but_empty (b ∷ t) ≡ Some (b ∷ t)
+some_more b t = ap (some_if (b ∷ t)) (not_empty b t)
+
+text_there : (t : List ℕ) → unwrap_or (some_but_empty t) [] ≡ t
+text_there [] = refl
+text_there (b ∷ t) = ap (λ o. unwrap_or o []) (some_more b t)
+
+provision_ruled : (t : List ℕ) → is_empty_or_portion t ≡ true → is_spelled_provision (some_but_empty t) ≡ true
+provision_ruled [] rule = refl
+provision_ruled (b ∷ t) rule = ap is_spelled_provision (some_more b t) ∙ sym (ap (λ x. x || is_portion (b ∷ t)) (not_empty b t)) ∙ rule
+
+provision_whole : (v : Option (List ℕ)) (t : List ℕ) → is_spelled_provision v ≡ true → Some (unwrap_or v []) ≡ Some t → some_but_empty t ≡ v
+unfolding is_portion
+provision_whole None t rule apart = ap some_but_empty (sym (some_is [] t apart))
+provision_whole (Some []) t rule apart = absurd cc
+provision_whole (Some (b ∷ p)) t rule apart = ap some_but_empty (sym (some_is (b ∷ p) t apart)) ∙ some_more b p
+
+text_where_rule : (rule : List ℕ → Bool) (t : List ℕ) → (text_where rule).fits t ≡ true → rule t ≡ true
+text_where_rule rule t fits =
+    (and_parts (rule t) ((text_of (min (length t) 65535)).fits t) (and_parts (number16.fits (min (length t) 65535)) ((ruled_text rule (min (length t) 65535)).fits t) fits).1).0
+
+provision_exact : IsExact provision
+unfolding provision
+provision_exact = made_exact is_spelled_provision some_but_empty (λ p. Some (unwrap_or p [])) (text_where is_empty_or_portion) (text_where_exact is_empty_or_portion) (record {
+  parted = λ a fits. ap Some (text_there a);
+  ruled = λ a fits. provision_ruled a (text_where_rule is_empty_or_portion a fits);
+  whole = provision_whole;
+})
 
 -- a format is exact where what it spells in a way of its own is, and so is then all that is spelled around that
 record IsExactFormat (format : Format) : Type 0 where
-  act : IsExact format.act
-  source : IsExact format.source
+  limit : IsExact format.limit
+  provision : IsExact format.provision
 
-first_format_exact : IsExactFormat first_format
-first_format_exact = record { act = act_exact; source = source_exact }
+format_exact : (format : EntryFormat) → IsExactFormat (format_in format)
+format_exact formats_of.First = record {
+  limit = unsaid_exact (λ l. not (is_wide l)) Plain refl plain_alone;
+  provision = unsaid_exact (λ p. not (is_some p)) None refl none_alone;
+}
+format_exact formats_of.Second = record { limit = limit_exact; provision = provision_exact }
+
+abbrev act_of : Act → List ℕ × (List ℕ × (ℕ × (Numbering × (NodeLimit × (Period × List (Branch Own))))))
+act_of a = (a.work, (a.language, (a.day, (a.numbering, (a.limit, (a.force, a.body))))))
 
 abbrev entry_of : Entry → List ℕ × (ℕ × (ℕ × (Option ℕ × Command)))
 entry_of e = (e.drafter, (e.request, (e.day, (e.law, e.command))))
 
 module _ (format : Format) (exact : IsExactFormat format) where
+  act_rest_exact : (iri : List ℕ) → IsExact (act_rest format iri)
+  unfolding act_rest
+  act_rest_exact iri =
+      pair_exact (act_day iri) (pair numbering (pair format.limit (pair period payload))) (act_day_exact iri)
+      (pair_exact numbering (pair format.limit (pair period payload)) numbering_exact
+      (pair_exact format.limit (pair period payload) exact.limit (pair_exact period payload period_exact payload_exact)))
+
+  act_exact : IsExact (act format)
+  unfolding act
+  act_exact =
+      iso_exact act_from act_of (given work (λ iri. pair language (act_rest format iri)))
+      (given_exact work (λ iri. pair language (act_rest format iri)) work_exact (λ iri. pair_exact language (act_rest format iri) language_exact (act_rest_exact iri)))
+      (λ _. refl) (λ _. refl)
+
+  source_exact : IsExact (source format)
+  unfolding source
+  source_exact =
+      iso_exact source_from (λ s. (s.href, (s.place, s.provision))) (pair work (pair number16 format.provision))
+      (pair_exact work (pair number16 format.provision) work_exact (pair_exact number16 format.provision number16_exact exact.provision))
+      (λ _. refl) (λ _. refl)
+
   modification_exact : IsExact (modification format)
   unfolding modification
   modification_exact =
       one_of_exact (modification_kinds format) (modification_parts format) refl
       (elim [ Textual _ _ _ ↦ refl | Force _ _ _ _ ↦ refl | Efficacy _ _ _ _ ↦ refl ]) (
-        pair_exact format.source (pair period edit) exact.source (pair_exact period edit period_exact edit_exact),
+        pair_exact (source format) (pair period edit) source_exact (pair_exact period edit period_exact edit_exact),
         (λ _ _. refl),
         (
-          pair_exact format.source (pair destination force_effect) exact.source (pair_exact destination force_effect destination_exact force_effect_exact),
+          pair_exact (source format) (pair destination force_effect) source_exact (pair_exact destination force_effect destination_exact force_effect_exact),
           (λ _ _. refl),
-          (pair_exact format.source (pair destination efficacy_effect) exact.source (pair_exact destination efficacy_effect destination_exact efficacy_effect_exact), (λ _ _. refl), tt),
+          (pair_exact (source format) (pair destination efficacy_effect) source_exact (pair_exact destination efficacy_effect destination_exact efficacy_effect_exact), (λ _ _. refl), tt),
         ),
       )
 
@@ -404,7 +492,7 @@ module _ (format : Format) (exact : IsExactFormat format) where
   command_exact =
       one_of_exact (command_kinds format) (command_parts format) refl
       (elim [ Enact _ ↦ refl | Record _ _ ↦ refl | Correct _ _ ↦ refl | Withdraw _ ↦ refl | Restore _ ↦ refl | DraftAdd _ _ ↦ refl | DraftDrop _ ↦ refl | File _ _ ↦ refl ]) (
-        exact.act,
+        act_exact,
         (λ _ _. refl),
         (
           pair_exact work (modifications format) work_exact modifications_exact,
@@ -442,8 +530,15 @@ module _ (format : Format) (exact : IsExactFormat format) where
       (pair_exact day (pair law (command format)) day_exact (pair_exact law (command format) law_exact command_exact))))
       (λ _. refl) (λ _. refl)
 
+entry_whole : (format : EntryFormat) (e : Entry) → kind_value formats (format_parts format e) ≡ (format, e)
+entry_whole formats_of.First e = refl
+entry_whole formats_of.Second e = refl
+
 pub entry_exact : IsExact entry
 unfolding entry
 entry_exact =
-    one_of_exact formats (λ e. first e) refl (λ _. refl)
-    (fields_exact first_format first_format_exact, (λ _ _. refl), tt)
+    one_of_exact formats (λ x. format_parts x.0 x.1) refl (λ x. entry_whole x.0 x.1) (
+      fields_exact (format_in formats_of.First) (format_exact formats_of.First),
+      (λ _ _. refl),
+      (fields_exact (format_in formats_of.Second) (format_exact formats_of.Second), (λ _ _. refl), tt),
+    )

@@ -1,8 +1,8 @@
 -- An entry that can be spelled and is well spelled keeps the rules of the format, for what its types promise.
-use Rattle.std.proofs.Common.{◌≡◌, ℕ, zero, suc, ◌+◌, ◌≤◌, ◌<◌, ◌==◌, ◌^◌, ◌/◌, ◌%◌, Bool, true, false, ◌&&◌, ◌||◌, List, [], ◌∷◌, length, min, Option, Some, None, refl, sym, ap, ◌∙◌, arith}
-use Rattle.std.specs.Prelude.{All, IfSome, nat_lt, nat_le, slice_index, unwrap_or, if◌then◌else◌}
+use Rattle.std.proofs.Common.{◌≡◌, ℕ, zero, suc, ◌+◌, ◌≤◌, ◌<◌, ◌==◌, ◌^◌, ◌/◌, ◌%◌, Bool, true, false, not, ◌&&◌, ◌||◌, List, [], ◌∷◌, length, min, Option, Some, None, refl, sym, ap, ◌∙◌, arith}
+use Rattle.std.specs.Prelude.{All, IfSome, nat_lt, nat_le, slice_index, is_some, unwrap_or, if◌then◌else◌}
 use Rattle.std.specs.Int.{byte_at, bytes_high_first}
-use Rattle.std.specs.List.{list_all}
+use Rattle.std.specs.List.{list_all, list_any}
 use Rattle.std.proofs.lemmas.Bool.{and_parts, and_from, leb-true, le-leb, lt-ltb, eq-eqb}
 use Rattle.std.proofs.lemmas.Bool.Decides.{nat_tests}
 use Rattle.std.proofs.lemmas.List.Elements.{All-head, All-tail}
@@ -16,9 +16,12 @@ use Rattle.eid_paths.specs.declared.element.Element.TheVariants as element_is
 use Rattle.eid_paths.specs.Elements.{is_throughout}
 use Rattle.eid_paths.specs.declared.numbering.Numbering.{Numbering}
 use Rattle.frbr_names.specs.Expressions.{is_expression, is_language}
+use Rattle.frbr_names.specs.Rules.{is_portion, is_portion_byte}
 use Rattle.frbr_names.specs.Works.{date_named}
 use Rattle.act_tree.specs.Branches.{Branch, Branches, branch, no_branches, more_branches, branches_of, listed, heights, listed-branches_of}
 use Rattle.act_tree.specs.Provisions.{Own}
+use Rattle.act_tree.specs.declared.limits.NodeLimit.{NodeLimit}
+use Rattle.act_tree.specs.declared.limits.NodeLimit.TheVariants.{Plain, Wide}
 use Rattle.bearing_mods.specs.declared.efficacy.EfficacyEffect.{EfficacyEffect}
 use Rattle.bearing_mods.specs.declared.efficacy.EfficacyEffect.TheVariants as efficacy
 use Rattle.bearing_mods.specs.declared.force.ForceEffect.{ForceEffect}
@@ -35,25 +38,30 @@ use Rattle.textual_mods.specs.declared.edit.TextualMod.TheVariants.{Repeal, Subs
 use Rattle.law_register.specs.declared.law.act.Act.{Act}
 use Rattle.law_register.specs.declared.law.command.Command.{Command}
 use Rattle.law_register.specs.declared.law.command.Command.TheVariants.{Enact, Record, Correct, Withdraw, Restore, DraftAdd, DraftDrop, File}
+use Rattle.law_register.specs.declared.law.format.EntryFormat.{EntryFormat}
+use Rattle.law_register.specs.declared.law.format.EntryFormat.TheVariants as formats_of
 use Rattle.law_register.specs.declared.law.modification.Destination.{Destination}
 use Rattle.law_register.specs.declared.law.modification.Destination.TheVariants as to
 use Rattle.law_register.specs.declared.law.modification.ModSource.{ModSource}
 use Rattle.law_register.specs.declared.law.modification.Modification.{Modification}
 use Rattle.law_register.specs.declared.law.modification.Modification.TheVariants as mods
 use Rattle.law_register.specs.declared.register.entry.Entry.{Entry}
+use Rattle.law_register.specs.Law.Formats.{is_wide, asks_second, format_of}
+use Rattle.law_register.specs.Law.Sources.{names_provision}
 use Rattle.law_register.specs.Law.Spellable.{is_counted, can_spell_own, can_spell_nodes, can_spell_payload, can_spell_text_pos, can_spell_split_at, can_spell_edit, can_spell_destination, can_spell_modification, can_spell_command, can_be_spelled}
-use Rattle.law_register.specs.Law.Spelling.{are_spelled_nodes, is_spelled_payload, is_spelled_edit, is_spelled_effect, is_spelled_modification, are_spelled_modifications, is_spelled_day, is_spelled_act, is_well_spelled}
+use Rattle.law_register.specs.Law.Spelling.{are_spelled_nodes, is_spelled_payload, is_spelled_edit, is_spelled_effect, is_spelled_provision, is_spelled_source, is_spelled_modification, are_spelled_modifications, is_spelled_day, is_spelled_act, is_well_spelled}
 use Rattle.law_register.specs.Register.Drafters.{is_drafter_byte}
 use Rattle.entry_codec.specs.Fields.{Field}
-use Rattle.entry_codec.specs.Values.{number16, number32, number64, text_of, text, num, drafter, work, expression, list_of, refs, is_day, day, day_or_none, law, period, id, language, act_day, bit_of, numbering_number, numbering, source, destination, spot}
+use Rattle.entry_codec.specs.Values.{number16, number32, number64, text_of, text, text_where, num, drafter, work, expression, list_of, refs, is_day, day, day_or_none, law, period, id, language, act_day, bit_of, numbering_number, numbering, destination, spot}
 use Rattle.entry_codec.specs.Nodes.{element, own, nodes, node, payload}
 use Rattle.entry_codec.specs.Acts.{act, act_rest}
-use Rattle.entry_codec.specs.Formats.{Format, first_format}
-use Rattle.entry_codec.specs.Modifications.{pos, text_pos, split_at, num_pair, num_pairs, edit, force_effect, efficacy_effect, modification, modifications}
+use Rattle.entry_codec.specs.Formats.{limit, is_empty_or_portion, provision, format_in}
+use Rattle.entry_codec.specs.Modifications.{pos, text_pos, split_at, num_pair, num_pairs, edit, force_effect, efficacy_effect, source, modification, modifications}
 use Rattle.entry_codec.specs.Commands.{command}
-use Rattle.entry_codec.specs.Entries.{entry, fields, keeps_rules}
+use Rattle.entry_codec.specs.Entries.{fields, keeps_rules}
 use Rattle.entry_codec.specs.Typed.{IsNumber16, IsNumber32, IsNumber64, IsText, IsDrafterName, IsNumText, IsWorkText, IsLanguageBytes, IsPeriod, IsId, IsNumbering, IsSource, IsDestination, IsSpot, IsOwn, AreNodes, IsPayload, IsTextPos, IsSplitAt, IsNumPair, IsEdit, IsForceEffect, IsEfficacyEffect, IsModification, IsAct, IsCommand, IsTyped}
 use Rattle.entry_codec.proofs.Exact.{AreBytes}
+use Rattle.entry_codec.proofs.Standing.{standing_fits}
 
 -- the parts of what holds
 first : (x y : Bool) → (x && y) ≡ true → x ≡ true
@@ -112,11 +120,14 @@ work_kept t typed =
     and_from _ _ (count_kept t)
     (and_from _ _ typed.rule (text_of_kept _ t (counted_is t 65535 (omega (arith, short))) typed.text))
 
+text_where_kept : (rule : List ℕ → Bool) (t : List ℕ) → IsText t → is_counted t ≡ true → rule t ≡ true → (text_where rule).fits t ≡ true
+text_where_kept rule t typed counted kept =
+    and_from _ _ (count_kept t)
+    (and_from _ _ kept (text_of_kept _ t (counted_is t 65535 (few_of t counted)) typed))
+
 expression_kept : (t : List ℕ) → IsText t → is_counted t ≡ true → is_expression t ≡ true → expression.fits t ≡ true
 unfolding expression
-expression_kept t typed counted rule =
-    and_from _ _ (count_kept t)
-    (and_from _ _ rule (text_of_kept _ t (counted_is t 65535 (few_of t counted)) typed))
+expression_kept t typed counted rule = text_where_kept is_expression t typed counted rule
 
 -- names and nums have ASCII alone
 ascii_text : (t : List ℕ) (p : ℕ → Bool) → ((b : ℕ) → p b ≡ true → b < 128) → list_all p t ≡ true → IsText t
@@ -272,11 +283,45 @@ numbering_kept n typed =
     let small = numbering_small n in
     and_from _ _ (eq-eqb _ _ typed) (and_from _ _ (lt-ltb (numbering_number n) 16384 small) (number16_kept (numbering_number n) (omega (arith, small))))
 
--- where a modification comes from, what it is directed at, and occurrences
-source_kept : (s : ModSource) → IsSource s → source.fits s ≡ true
-unfolding source
-source_kept s typed = and_from _ _ (work_kept s.href typed.0) (number16_kept s.place typed.1)
+-- a format says what asks for no other: the first neither that an act is wide nor a provision, the second all
+abbrev says : EntryFormat → Bool → Bool
+says formats_of.First asks = not asks
+says formats_of.Second asks = true
 
+limit_kept : (f : EntryFormat) (l : NodeLimit) → says f (is_wide l) ≡ true → (format_in f).limit.fits l ≡ true
+unfolding limit
+limit_kept formats_of.First l said = and_from _ _ said refl
+limit_kept formats_of.Second Plain said = number16_kept 4096 (omega arith)
+limit_kept formats_of.Second Wide said = number16_kept 8192 (omega arith)
+
+portion_short : (t : List ℕ) → is_portion t ≡ true → is_counted t ≡ true
+unfolding is_portion
+portion_short t rule =
+    let sizes = first (nat_le 1 (length t) && nat_le (length t) 512) (list_all is_portion_byte t) rule in
+    let short = leb-true (length t) 512 (second (nat_le 1 (length t)) (nat_le (length t) 512) sizes) in
+    le-leb (length t) 65535 (omega (arith, short))
+
+provision_kept : (f : EntryFormat) (p : Option (List ℕ)) → IfSome p IsText → is_spelled_provision p ≡ true → says f (is_some p) ≡ true
+    → (format_in f).provision.fits p ≡ true
+unfolding provision
+provision_kept formats_of.First p typed well said = and_from _ _ said refl
+provision_kept formats_of.Second None typed well said = text_where_kept is_empty_or_portion [] (ascii_text [] is_num_byte num_low refl) refl refl
+provision_kept formats_of.Second (Some t) typed well said =
+    and_from _ _ well (text_where_kept is_empty_or_portion t typed (portion_short t well) (or_right (length t == 0) (is_portion t) well))
+
+said_both : (f : EntryFormat) (x y : Bool) → says f (x || y) ≡ true → (says f x ≡ true) × (says f y ≡ true)
+said_both formats_of.First true y said = absurd cc
+said_both formats_of.First false y said = (refl, said)
+said_both formats_of.Second x y said = (refl, refl)
+
+source_kept : (f : EntryFormat) (s : ModSource) → IsSource s → is_spelled_source s ≡ true → says f (is_some s.provision) ≡ true
+    → (source (format_in f)).fits s ≡ true
+unfolding source
+source_kept f s typed well said =
+    and_from _ _ (work_kept s.href typed.0)
+    (and_from _ _ (number16_kept s.place typed.1) (provision_kept f s.provision typed.2 well said))
+
+-- what a modification is directed at, and occurrences
 destination_kept : (d : Destination) → IsDestination d → can_spell_destination d ≡ true → destination.fits d ≡ true
 unfolding destination
 destination_kept (to.Modification i) typed able = id_kept i typed
@@ -431,61 +476,95 @@ efficacy_kept on (efficacy.Prorogued date) typed well = dates_kept on date typed
 efficacy_kept on efficacy.Extra typed well = day_kept on typed
 efficacy_kept on (efficacy.Inapplied days) typed well = and_from _ _ (day_kept on typed.0) (period_kept days typed.1)
 
--- acts
-act_kept : (a : Act) → IsAct a → can_spell_payload a.body ≡ true → is_spelled_act a ≡ true → act.fits a ≡ true
-unfolding act act_rest is_spelled_act
-act_kept a typed able well =
-    let front = first (is_language a.language && is_spelled_day (date_named a.work) a.day) (is_spelled_payload a.body) well in
-    and_from _ _ (work_kept a.work typed.0)
-    (and_from _ _ (language_kept a.language typed.1 (first (is_language a.language) _ front))
-    (and_from _ _ (act_day_kept a.work a.day typed.2 (second (is_language a.language) _ front))
-    (and_from _ _ (numbering_kept a.numbering typed.3)
-    (and_from _ _ (period_kept a.force typed.4)
-    (payload_kept a.body typed.5 able (second (is_language a.language && is_spelled_day (date_named a.work) a.day) _ well))))))
+-- seven that hold
+all_seven : (a b c d e f g : Bool) → a ≡ true → b ≡ true → c ≡ true → d ≡ true → e ≡ true → f ≡ true → g ≡ true
+    → (a && (b && (c && (d && (e && (f && g)))))) ≡ true
+all_seven a b c d e f g ha hb hc hd he hf hg =
+    and_from a _ ha (and_from b _ hb (and_from c _ hc (and_from d _ hd (and_from e _ he (and_from f g hf hg)))))
 
--- modifications and commands, in a format in which acts and sources keep their rules
-record IsKeptFormat (format : Format) : Type 0 where
-  act : (a : Act) → IsAct a → can_spell_payload a.body ≡ true → is_spelled_act a ≡ true → format.act.fits a ≡ true
-  source : (s : ModSource) → IsSource s → format.source.fits s ≡ true
+-- acts, modifications and commands, in a format that says what they ask for
+module _ (f : EntryFormat) where
+  act_kept : (a : Act) → IsAct a → can_spell_payload a.body ≡ true → is_spelled_act a ≡ true → says f (is_wide a.limit) ≡ true
+      → (act (format_in f)).fits a ≡ true
+  unfolding act act_rest is_spelled_act
+  act_kept a typed able well said =
+      let dated : Bool = is_language a.language && is_spelled_day (date_named a.work) a.day in
+      let front : dated ≡ true = first dated (is_spelled_payload a.body) well in
+      all_seven (work.fits a.work) (language.fits a.language) ((act_day a.work).fits a.day) (numbering.fits a.numbering) ((format_in f).limit.fits a.limit)
+      (period.fits a.force) (payload.fits a.body)
+      (work_kept a.work typed.0)
+      (language_kept a.language typed.1 (first (is_language a.language) (is_spelled_day (date_named a.work) a.day) front))
+      (act_day_kept a.work a.day typed.2 (second (is_language a.language) (is_spelled_day (date_named a.work) a.day) front))
+      (numbering_kept a.numbering typed.3)
+      (limit_kept f a.limit said)
+      (period_kept a.force typed.4)
+      (payload_kept a.body typed.5 able (second dated (is_spelled_payload a.body) well))
 
-module _ (format : Format) (kept : IsKeptFormat format) where
-  modification_kept : (m : Modification) → IsModification m → can_spell_modification m ≡ true → is_spelled_modification m ≡ true → (modification format).fits m ≡ true
+  modification_kept : (m : Modification) → IsModification m → can_spell_modification m ≡ true → is_spelled_modification m ≡ true
+      → says f (names_provision m) ≡ true → (modification (format_in f)).fits m ≡ true
   unfolding modification
-  modification_kept (mods.Textual s p e) typed able well =
-      and_from _ _ (kept.source s typed.0) (and_from _ _ (period_kept p typed.1) (edit_kept e typed.2 able well))
-  modification_kept (mods.Force s t on e) typed able well =
-      and_from _ _ (kept.source s typed.0) (and_from _ _ (destination_kept t typed.1 able) (force_kept on e typed.2))
-  modification_kept (mods.Efficacy s t on e) typed able well =
-      and_from _ _ (kept.source s typed.0) (and_from _ _ (destination_kept t typed.1 able) (efficacy_kept on e typed.2 well))
+  modification_kept (mods.Textual s p e) typed able well said =
+      and_from _ _ (source_kept f s typed.0 (first (is_spelled_source s) (is_spelled_edit e) well) said)
+      (and_from _ _ (period_kept p typed.1) (edit_kept e typed.2 able (second (is_spelled_source s) (is_spelled_edit e) well)))
+  modification_kept (mods.Force s t on e) typed able well said =
+      and_from _ _ (source_kept f s typed.0 well said) (and_from _ _ (destination_kept t typed.1 able) (force_kept on e typed.2))
+  modification_kept (mods.Efficacy s t on e) typed able well said =
+      and_from _ _ (source_kept f s typed.0 (first (is_spelled_source s) (is_spelled_effect on e) well) said)
+      (and_from _ _ (destination_kept t typed.1 able) (efficacy_kept on e typed.2 (second (is_spelled_source s) (is_spelled_effect on e) well)))
+
+  -- each of some modifications is well spelled, and the format says what it asks for
+  abbrev is_said : Modification → Bool
+  is_said m = is_spelled_modification m && says f (names_provision m)
+
+  all_said : (ms : List Modification) → list_all is_spelled_modification ms ≡ true → says f (list_any names_provision ms) ≡ true → list_all is_said ms ≡ true
+  all_said [] well said = refl
+  all_said (m ∷ ms) well said =
+      let parts = and_parts (is_spelled_modification m) (list_all is_spelled_modification ms) well in
+      let both = said_both f (names_provision m) (list_any names_provision ms) said in
+      and_from _ _ (and_from _ _ parts.0 both.0) (all_said ms parts.1 both.1)
+
+  each_kept : (m : Modification) → IsModification m → can_spell_modification m ≡ true → is_said m ≡ true → (modification (format_in f)).fits m ≡ true
+  each_kept m typed able said =
+      let parts = and_parts (is_spelled_modification m) (says f (names_provision m)) said in
+      modification_kept m typed able parts.0 parts.1
 
   modifications_kept : (ms : List Modification) → All IsModification ms → (is_counted ms && list_all can_spell_modification ms) ≡ true
-      → are_spelled_modifications ms ≡ true → (modifications format).fits ms ≡ true
+      → are_spelled_modifications ms ≡ true → says f (list_any names_provision ms) ≡ true → (modifications (format_in f)).fits ms ≡ true
   unfolding modifications are_spelled_modifications
-  modifications_kept ms typed able well =
-      list_kept (modification format) ms (first (is_counted ms) _ able)
-      (all_kept IsModification can_spell_modification is_spelled_modification (modification format).fits modification_kept ms typed
-      (second (is_counted ms) (list_all can_spell_modification ms) able) well)
+  modifications_kept ms typed able well said =
+      list_kept (modification (format_in f)) ms (first (is_counted ms) _ able)
+      (all_kept IsModification can_spell_modification is_said (modification (format_in f)).fits each_kept ms typed
+      (second (is_counted ms) (list_all can_spell_modification ms) able) (all_said ms well said))
 
-  command_kept : (c : Command) → IsCommand c → can_spell_command c ≡ true → is_well_spelled c ≡ true → (command format).fits c ≡ true
-  unfolding command is_well_spelled
-  command_kept (Enact a) typed able well = kept.act a typed able well
-  command_kept (Record iri ms) typed able well = and_from _ _ (work_kept iri typed.0) (modifications_kept ms typed.1 able well)
-  command_kept (Correct i body) typed able well = and_from _ _ (id_kept i typed.0) (modification_kept body typed.1 able well)
-  command_kept (Withdraw i) typed able well = id_kept i typed
-  command_kept (Restore i) typed able well = id_kept i typed
-  command_kept (DraftAdd iri body) typed able well = and_from _ _ (work_kept iri typed.0) (modification_kept body typed.1 able well)
-  command_kept (DraftDrop item) typed able well = number32_kept item typed
-  command_kept (File iri seen) typed able well = and_from _ _ (work_kept iri typed.0) (number32_kept seen typed.1)
+  command_kept : (c : Command) → IsCommand c → can_spell_command c ≡ true → is_well_spelled c ≡ true → says f (asks_second c) ≡ true
+      → (command (format_in f)).fits c ≡ true
+  unfolding command is_well_spelled asks_second
+  command_kept (Enact a) typed able well said = act_kept a typed able well said
+  command_kept (Record iri ms) typed able well said = and_from _ _ (work_kept iri typed.0) (modifications_kept ms typed.1 able well said)
+  command_kept (Correct i body) typed able well said = and_from _ _ (id_kept i typed.0) (modification_kept body typed.1 able well said)
+  command_kept (Withdraw i) typed able well said = id_kept i typed
+  command_kept (Restore i) typed able well said = id_kept i typed
+  command_kept (DraftAdd iri body) typed able well said = and_from _ _ (work_kept iri typed.0) (modification_kept body typed.1 able well said)
+  command_kept (DraftDrop item) typed able well said = number32_kept item typed
+  command_kept (File iri seen) typed able well said = and_from _ _ (work_kept iri typed.0) (number32_kept seen typed.1)
 
--- entries
-first_format_kept : IsKeptFormat first_format
-first_format_kept = record { act = act_kept; source = source_kept }
+  -- entries
+  fields_kept : (e : Entry) → IsTyped e → can_be_spelled e ≡ true → is_well_spelled e.command ≡ true → says f (asks_second e.command) ≡ true
+      → (fields (format_in f)).fits e ≡ true
+  unfolding fields can_be_spelled
+  fields_kept e typed able well said =
+      and_from _ _ (drafter_kept e.drafter typed.0)
+      (and_from _ _ (number64_kept e.request typed.1)
+      (and_from _ _ (day_kept e.day typed.2)
+      (and_from _ _ (law_kept e.law typed.3 (first (nat_lt 0 (unwrap_or e.law 1)) (can_spell_command e.command) able))
+      (command_kept e.command typed.4 (second (nat_lt 0 (unwrap_or e.law 1)) (can_spell_command e.command) able) well said))))
+
+-- the format that is asked for says what is asked for
+asked_says : (asks : Bool) → says (if asks then formats_of.Second else formats_of.First) asks ≡ true
+asked_says true = refl
+asked_says false = refl
 
 pub entry_kept : (e : Entry) → IsTyped e → can_be_spelled e ≡ true → is_well_spelled e.command ≡ true → keeps_rules e ≡ true
-unfolding keeps_rules entry fields can_be_spelled
+unfolding keeps_rules
 entry_kept e typed able well =
-    and_from _ _ (drafter_kept e.drafter typed.0)
-    (and_from _ _ (number64_kept e.request typed.1)
-    (and_from _ _ (day_kept e.day typed.2)
-    (and_from _ _ (law_kept e.law typed.3 (first (nat_lt 0 (unwrap_or e.law 1)) (can_spell_command e.command) able))
-    (command_kept first_format first_format_kept e.command typed.4 (second (nat_lt 0 (unwrap_or e.law 1)) (can_spell_command e.command) able) well))))
+    standing_fits (format_of e.command) e ∙ fields_kept (format_of e.command) e typed able well (asked_says (asks_second e.command))

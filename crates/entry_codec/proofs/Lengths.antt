@@ -1,12 +1,13 @@
 -- How long the spelling of an entry is: as long as its size says, where its nodes nest at most 12 deep.
 use Rattle.std.proofs.Common.{◌≡◌, ℕ, zero, suc, ◌+◌, ◌≤◌, Bool, true, false, ◌&&◌, ◌==◌, List, [], ◌∷◌, ◌++◌, length, min, Option, refl, sym, ap, ◌∙◌, arith, length-append}
 use Rattle.std.specs.List.{flat_map, list_all}
-use Rattle.std.specs.Prelude.{nat_le}
+use Rattle.std.specs.Prelude.{nat_le, unwrap_or}
 use Rattle.std.proofs.lemmas.Bool.{and_parts, eqb-true, leb-true}
 use Rattle.desk_base.specs.Sizes.{name_size, text_size}
 use Rattle.act_tree.specs.Branches.{Branch, Branches, branch, no_branches, more_branches, branches_of, listed, heights, listed-branches_of}
 use Rattle.act_tree.specs.NodeSizes.{texts_size, nodes_size, payload_size}
 use Rattle.act_tree.specs.Provisions.{Own}
+use Rattle.act_tree.specs.declared.limits.NodeLimit.{NodeLimit}
 use Rattle.bearing_mods.specs.Sizes.{force_size, efficacy_size}
 use Rattle.bearing_mods.specs.declared.efficacy.EfficacyEffect.{EfficacyEffect}
 use Rattle.bearing_mods.specs.declared.efficacy.EfficacyEffect.TheVariants as efficacy
@@ -22,11 +23,14 @@ use Rattle.textual_mods.specs.declared.edit.TextPos.{TextPos}
 use Rattle.textual_mods.specs.declared.edit.TextPos.TheVariants as stands
 use Rattle.textual_mods.specs.declared.edit.TextualMod.{TextualMod}
 use Rattle.textual_mods.specs.declared.edit.TextualMod.TheVariants.{Repeal, SubstituteNodes, SubstituteText, InsertNodes, InsertText, Renumber, Split, Join}
-use Rattle.law_register.specs.Law.Sizes.{act_size, source_size, destination_size, modification_size, modifications_size, command_size, entry_size}
+use Rattle.law_register.specs.Law.Formats.{format_number, format_of}
+use Rattle.law_register.specs.Law.Sizes.{limit_size, act_size, provision_size, source_size, destination_size, modification_size, modifications_size, command_size, entry_size}
 use Rattle.law_register.specs.Law.Spellable.{is_counted, can_spell_payload, can_spell_nodes, can_spell_edit, can_spell_modification, can_spell_command, can_be_spelled}
 use Rattle.law_register.specs.declared.law.act.Act.{Act}
 use Rattle.law_register.specs.declared.law.command.Command.{Command}
 use Rattle.law_register.specs.declared.law.command.Command.TheVariants.{Enact, Record, Correct, Withdraw, Restore, DraftAdd, DraftDrop, File}
+use Rattle.law_register.specs.declared.law.format.EntryFormat.{EntryFormat}
+use Rattle.law_register.specs.declared.law.format.EntryFormat.TheVariants.{First, Second}
 use Rattle.law_register.specs.declared.law.modification.Destination.{Destination}
 use Rattle.law_register.specs.declared.law.modification.Destination.TheVariants as to
 use Rattle.law_register.specs.declared.law.modification.ModSource.{ModSource}
@@ -45,10 +49,11 @@ use Rattle.entry_codec.specs.Values as values
 use Rattle.entry_codec.specs.Values.{number16, number32, number64, text_of}
 use Rattle.entry_codec.specs.Nodes.{element, own, nodes, node, payload}
 use Rattle.entry_codec.specs.Acts as acts
-use Rattle.entry_codec.specs.Formats.{Format, first_format}
+use Rattle.entry_codec.specs.Formats.{limit_number, limit, provision, format_in}
 use Rattle.entry_codec.specs.Modifications as changes
 use Rattle.entry_codec.specs.Commands as commands
-use Rattle.entry_codec.specs.Entries.{spelling, entry, fields}
+use Rattle.entry_codec.specs.Entries.{spelling, fields}
+use Rattle.entry_codec.proofs.Standing.{standing_spelled}
 
 -- the length of two parts, and of a part behind a byte
 both : (a b : List ℕ) (m n : ℕ) → length a ≡ m → length b ≡ n → length (a ++ b) ≡ m + n
@@ -157,10 +162,6 @@ law_long o = long32 _
 numbering_long : (n : Numbering) → length (values.numbering.spell n) ≡ 2
 unfolding values.numbering
 numbering_long n = long16 _
-
-source_long : (s : ModSource) → length (values.source.spell s) ≡ source_size s
-unfolding values.source
-source_long s = both (values.work.spell s.href) (number16.spell s.place) _ 2 (work_long s.href) (long16 s.place)
 
 destination_long : (d : Destination) → length (values.destination.spell d) ≡ destination_size d
 unfolding values.destination
@@ -272,25 +273,16 @@ edit_long (Join wid second separator) able =
     (both (values.text.spell second) (values.text.spell separator) _ _ (text_long second) (text_long separator)))
     ∙ three (text_size wid) (text_size second) (text_size separator)
 
--- acts. A language has three letters
-act_rest_long : (iri : List ℕ) (d : ℕ) (n : Numbering) (p : Period) (ns : List (Branch Own)) → can_spell_payload ns ≡ true
-    → length ((acts.act_rest iri).spell (d, (n, (p, ns)))) ≡ 4 + (2 + (8 + payload_size ns))
-unfolding acts.act_rest values.act_day
-act_rest_long iri d n p ns able =
-    both (values.day.spell d) (values.numbering.spell n ++ (values.period.spell p ++ payload.spell ns)) 4 _ (day_long d)
-    (both (values.numbering.spell n) (values.period.spell p ++ payload.spell ns) 2 _ (numbering_long n)
-    (both (values.period.spell p) (payload.spell ns) 8 _ (period_long p) (payload_long ns able)))
+-- what the formats spell in ways of their own
+limit_long : (f : EntryFormat) (l : NodeLimit) → length ((format_in f).limit.spell l) ≡ limit_size f
+unfolding limit
+limit_long First l = refl
+limit_long Second l = long16 (limit_number l)
 
-seven : (a b : ℕ) → a + (3 + (4 + (2 + (8 + b)))) ≡ a + 3 + 4 + 2 + 8 + b
-seven a b = omega arith
-
-act_long : (a : Act) → length a.language ≡ 3 → can_spell_payload a.body ≡ true → length (acts.act.spell a) ≡ act_size a
-unfolding acts.act values.language
-act_long a letters able =
-    let rest : List ℕ = (acts.act_rest a.work).spell (a.day, (a.numbering, (a.force, a.body))) in
-    both (values.work.spell a.work) (a.language ++ rest) _ _ (work_long a.work)
-    (both a.language rest 3 _ letters (act_rest_long a.work a.day a.numbering a.force a.body able))
-    ∙ seven (text_size a.work) (payload_size a.body)
+provision_long : (f : EntryFormat) (p : Option (List ℕ)) → length ((format_in f).provision.spell p) ≡ provision_size f p
+unfolding provision text_of
+provision_long First p = refl
+provision_long Second p = let t = unwrap_or p [] in both (number16.spell (min (length t) 65535)) t 2 (length t) (long16 _) refl
 
 -- the language of the act that a command enacts has three letters
 abbrev HasLetters : Command → Type 0
@@ -316,83 +308,115 @@ letters_of (DraftAdd _ _) well = tt
 letters_of (DraftDrop _) well = tt
 letters_of (File _ _) well = tt
 
--- modifications and commands, in a format in which acts and sources are as long as their sizes say
-record IsLongFormat (format : Format) : Type 0 where
-  act : (a : Act) → length a.language ≡ 3 → can_spell_payload a.body ≡ true → length (format.act.spell a) ≡ act_size a
-  source : (s : ModSource) → length (format.source.spell s) ≡ source_size s
+-- acts, sources, modifications and commands. A language has three letters
+more : (a b c : ℕ) → a + (b + c) ≡ a + b + c
+more a b c = omega arith
 
-module _ (format : Format) (long : IsLongFormat format) where
-  modification_long : (m : Modification) → can_spell_modification m ≡ true → length ((changes.modification format).spell m) ≡ modification_size m
+seven : (a l b : ℕ) → a + (3 + (4 + (2 + (l + (8 + b))))) ≡ a + 3 + 4 + 2 + l + 8 + b
+seven a l b = omega arith
+
+module _ (f : EntryFormat) where
+  act_rest_long : (iri : List ℕ) (d : ℕ) (n : Numbering) (l : NodeLimit) (p : Period) (ns : List (Branch Own)) → can_spell_payload ns ≡ true
+      → length ((acts.act_rest (format_in f) iri).spell (d, (n, (l, (p, ns))))) ≡ 4 + (2 + (limit_size f + (8 + payload_size ns)))
+  unfolding acts.act_rest values.act_day
+  act_rest_long iri d n l p ns able =
+      let said : List ℕ = (format_in f).limit.spell l in
+      both (values.day.spell d) (values.numbering.spell n ++ (said ++ (values.period.spell p ++ payload.spell ns))) 4 _ (day_long d)
+      (both (values.numbering.spell n) (said ++ (values.period.spell p ++ payload.spell ns)) 2 _ (numbering_long n)
+      (both said (values.period.spell p ++ payload.spell ns) (limit_size f) _ (limit_long f l)
+      (both (values.period.spell p) (payload.spell ns) 8 _ (period_long p) (payload_long ns able))))
+
+  act_long : (a : Act) → length a.language ≡ 3 → can_spell_payload a.body ≡ true → length ((acts.act (format_in f)).spell a) ≡ act_size f a
+  unfolding acts.act values.language
+  act_long a letters able =
+      let rest : List ℕ = (acts.act_rest (format_in f) a.work).spell (a.day, (a.numbering, (a.limit, (a.force, a.body)))) in
+      both (values.work.spell a.work) (a.language ++ rest) _ _ (work_long a.work)
+      (both a.language rest 3 _ letters (act_rest_long a.work a.day a.numbering a.limit a.force a.body able))
+      ∙ seven (text_size a.work) (limit_size f) (payload_size a.body)
+
+  source_long : (s : ModSource) → length ((changes.source (format_in f)).spell s) ≡ source_size f s
+  unfolding changes.source
+  source_long s =
+      let named : List ℕ = (format_in f).provision.spell s.provision in
+      both (values.work.spell s.href) (number16.spell s.place ++ named) _ _ (work_long s.href)
+      (both (number16.spell s.place) named 2 _ (long16 s.place) (provision_long f s.provision))
+      ∙ more (text_size s.href) 2 (provision_size f s.provision)
+
+  modification_long : (m : Modification) → can_spell_modification m ≡ true → length ((changes.modification (format_in f)).spell m) ≡ modification_size f m
   unfolding changes.modification
   modification_long (mods.Textual source period edit) able =
-      behind 1 (format.source.spell source ++ (values.period.spell period ++ changes.edit.spell edit)) _
-      (both (format.source.spell source) (values.period.spell period ++ changes.edit.spell edit) _ _ (long.source source)
+      behind 1 ((changes.source (format_in f)).spell source ++ (values.period.spell period ++ changes.edit.spell edit)) _
+      (both ((changes.source (format_in f)).spell source) (values.period.spell period ++ changes.edit.spell edit) _ _ (source_long source)
       (both (values.period.spell period) (changes.edit.spell edit) _ _ (period_long period) (edit_long edit able)))
-      ∙ three (source_size source) 8 (edit_size edit)
+      ∙ three (source_size f source) 8 (edit_size edit)
   modification_long (mods.Force source target on effect) able =
-      behind 2 (format.source.spell source ++ (values.destination.spell target ++ changes.force_effect.spell (on, effect))) _
-      (both (format.source.spell source) (values.destination.spell target ++ changes.force_effect.spell (on, effect)) _ _ (long.source source)
+      behind 2 ((changes.source (format_in f)).spell source ++ (values.destination.spell target ++ changes.force_effect.spell (on, effect))) _
+      (both ((changes.source (format_in f)).spell source) (values.destination.spell target ++ changes.force_effect.spell (on, effect)) _ _ (source_long source)
       (both (values.destination.spell target) (changes.force_effect.spell (on, effect)) _ _ (destination_long target) (force_long on effect)))
-      ∙ three (source_size source) (destination_size target) (4 + force_size effect)
+      ∙ three (source_size f source) (destination_size target) (4 + force_size effect)
   modification_long (mods.Efficacy source target on effect) able =
-      behind 3 (format.source.spell source ++ (values.destination.spell target ++ changes.efficacy_effect.spell (on, effect))) _
-      (both (format.source.spell source) (values.destination.spell target ++ changes.efficacy_effect.spell (on, effect)) _ _ (long.source source)
+      behind 3 ((changes.source (format_in f)).spell source ++ (values.destination.spell target ++ changes.efficacy_effect.spell (on, effect))) _
+      (both ((changes.source (format_in f)).spell source) (values.destination.spell target ++ changes.efficacy_effect.spell (on, effect)) _ _ (source_long source)
       (both (values.destination.spell target) (changes.efficacy_effect.spell (on, effect)) _ _ (destination_long target) (efficacy_long on effect)))
-      ∙ three (source_size source) (destination_size target) (4 + efficacy_size effect)
+      ∙ three (source_size f source) (destination_size target) (4 + efficacy_size effect)
 
   each_modification_long : (ms : List Modification) → list_all can_spell_modification ms ≡ true
-      → length (flat_map (changes.modification format).spell ms) ≡ modifications_size ms
+      → length (flat_map (changes.modification (format_in f)).spell ms) ≡ modifications_size f ms
   each_modification_long [] able = refl
   each_modification_long (m ∷ ms) able =
       let parts = and_parts (can_spell_modification m) (list_all can_spell_modification ms) able in
-      both ((changes.modification format).spell m) (flat_map (changes.modification format).spell ms) _ _
+      both ((changes.modification (format_in f)).spell m) (flat_map (changes.modification (format_in f)).spell ms) _ _
       (modification_long m parts.0) (each_modification_long ms parts.1)
 
   modifications_long : (ms : List Modification) → list_all can_spell_modification ms ≡ true
-      → length ((changes.modifications format).spell ms) ≡ 2 + modifications_size ms
+      → length ((changes.modifications (format_in f)).spell ms) ≡ 2 + modifications_size f ms
   unfolding changes.modifications
   modifications_long ms able =
-      both (number16.spell (min (length ms) 65535)) (flat_map (changes.modification format).spell ms) 2 (modifications_size ms) (long16 _)
+      both (number16.spell (min (length ms) 65535)) (flat_map (changes.modification (format_in f)).spell ms) 2 (modifications_size f ms) (long16 _)
       (each_modification_long ms able)
 
-  command_long : (c : Command) → HasLetters c → can_spell_command c ≡ true → length ((commands.command format).spell c) ≡ command_size c
+  command_long : (c : Command) → HasLetters c → can_spell_command c ≡ true → length ((commands.command (format_in f)).spell c) ≡ command_size f c
   unfolding commands.command
-  command_long (Enact a) letters able = behind 1 (format.act.spell a) _ (long.act a letters able)
+  command_long (Enact a) letters able = behind 1 ((acts.act (format_in f)).spell a) _ (act_long a letters able)
   command_long (Record iri ms) letters able =
       let parts = and_parts (is_counted ms) (list_all can_spell_modification ms) able in
-      behind 2 (values.work.spell iri ++ (changes.modifications format).spell ms) _
-      (both (values.work.spell iri) ((changes.modifications format).spell ms) _ _ (work_long iri) (modifications_long ms parts.1))
-      ∙ two (text_size iri) (2 + modifications_size ms)
+      behind 2 (values.work.spell iri ++ (changes.modifications (format_in f)).spell ms) _
+      (both (values.work.spell iri) ((changes.modifications (format_in f)).spell ms) _ _ (work_long iri) (modifications_long ms parts.1))
+      ∙ two (text_size iri) (2 + modifications_size f ms)
   command_long (Correct i body) letters able =
-      behind 3 (values.id.spell i ++ (changes.modification format).spell body) _
-      (both (values.id.spell i) ((changes.modification format).spell body) _ _ (id_long i) (modification_long body able))
-      ∙ two 6 (modification_size body)
+      behind 3 (values.id.spell i ++ (changes.modification (format_in f)).spell body) _
+      (both (values.id.spell i) ((changes.modification (format_in f)).spell body) _ _ (id_long i) (modification_long body able))
+      ∙ two 6 (modification_size f body)
   command_long (Withdraw i) letters able = behind 4 (values.id.spell i) _ (id_long i)
   command_long (Restore i) letters able = behind 5 (values.id.spell i) _ (id_long i)
   command_long (DraftAdd iri body) letters able =
-      behind 6 (values.work.spell iri ++ (changes.modification format).spell body) _
-      (both (values.work.spell iri) ((changes.modification format).spell body) _ _ (work_long iri) (modification_long body able))
-      ∙ two (text_size iri) (modification_size body)
+      behind 6 (values.work.spell iri ++ (changes.modification (format_in f)).spell body) _
+      (both (values.work.spell iri) ((changes.modification (format_in f)).spell body) _ _ (work_long iri) (modification_long body able))
+      ∙ two (text_size iri) (modification_size f body)
   command_long (DraftDrop item) letters able = behind 7 (number32.spell item) _ (long32 item)
   command_long (File iri seen) letters able =
       behind 8 (values.work.spell iri ++ number32.spell seen) _
       (both (values.work.spell iri) (number32.spell seen) _ _ (work_long iri) (long32 seen))
       ∙ two (text_size iri) 4
 
-first_format_long : IsLongFormat first_format
-first_format_long = record { act = act_long; source = source_long }
+  fields_long : (e : Entry) → is_well_spelled e.command ≡ true → can_be_spelled e ≡ true
+      → length ((fields (format_in f)).spell e) ≡ name_size e.drafter + (8 + (4 + (4 + command_size f e.command)))
+  unfolding fields can_be_spelled
+  fields_long e well able =
+      let parts = and_parts _ (can_spell_command e.command) able in
+      let end : List ℕ = (commands.command (format_in f)).spell e.command in
+      both (values.drafter.spell e.drafter) (number64.spell e.request ++ (values.day.spell e.day ++ (values.law.spell e.law ++ end))) _ _ (drafter_long e.drafter)
+      (both (number64.spell e.request) (values.day.spell e.day ++ (values.law.spell e.law ++ end)) 8 _ (long64 e.request)
+      (both (values.day.spell e.day) (values.law.spell e.law ++ end) 4 _ (day_long e.day)
+      (both (values.law.spell e.law) end 4 _ (law_long e.law) (command_long e.command (letters_of e.command well) parts.1))))
 
 six : (a b : ℕ) → 1 + (a + (8 + (4 + (4 + b)))) ≡ 1 + a + 8 + 4 + 4 + b
 six a b = omega arith
 
 pub entry_long : (e : Entry) → is_well_spelled e.command ≡ true → can_be_spelled e ≡ true → length (spelling e) ≡ entry_size e
-unfolding spelling entry fields can_be_spelled
+unfolding spelling
 entry_long e well able =
-    let letters = letters_of e.command well in
-    let parts = and_parts _ (can_spell_command e.command) able in
-    behind 1 (values.drafter.spell e.drafter ++ (number64.spell e.request ++ (values.day.spell e.day ++ (values.law.spell e.law ++ (commands.command first_format).spell e.command)))) _
-    (both (values.drafter.spell e.drafter) (number64.spell e.request ++ (values.day.spell e.day ++ (values.law.spell e.law ++ (commands.command first_format).spell e.command))) _ _ (drafter_long e.drafter)
-    (both (number64.spell e.request) (values.day.spell e.day ++ (values.law.spell e.law ++ (commands.command first_format).spell e.command)) 8 _ (long64 e.request)
-    (both (values.day.spell e.day) (values.law.spell e.law ++ (commands.command first_format).spell e.command) 4 _ (day_long e.day)
-    (both (values.law.spell e.law) ((commands.command first_format).spell e.command) 4 _ (law_long e.law) (command_long first_format first_format_long e.command letters parts.1)))))
-    ∙ six (name_size e.drafter) (command_size e.command)
+    let f = format_of e.command in
+    ap length (standing_spelled f e)
+    ∙ behind (format_number f) ((fields (format_in f)).spell e) _ (fields_long f e well able)
+    ∙ six (name_size e.drafter) (command_size f e.command)

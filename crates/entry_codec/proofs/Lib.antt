@@ -5,6 +5,7 @@ pub mod Lengths
 pub mod Exact
 pub mod Numberings
 pub mod Formats
+pub mod Standing
 pub mod Decoding
 pub mod Rules
 pub mod TypedParts

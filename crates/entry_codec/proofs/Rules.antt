@@ -1,5 +1,5 @@
 -- What keeps the rules of the format can be spelled, and is well spelled.
-use Rattle.std.proofs.Common.{◌≡◌, ℕ, zero, suc, ◌+◌, ◌≤◌, ◌==◌, Bool, true, ◌&&◌, List, [], ◌∷◌, length, min, Option, Result, Ok, Err, get_or, ◌<◌, refl, sym, ap, subst, ◌∙◌, arith}
+use Rattle.std.proofs.Common.{◌≡◌, ℕ, zero, suc, ◌+◌, ◌≤◌, ◌==◌, Bool, true, ◌&&◌, List, [], ◌∷◌, length, min, Option, Some, None, Result, Ok, Err, get_or, ◌<◌, refl, sym, ap, subst, ◌∙◌, arith}
 use Rattle.std.specs.Prelude.{nat_lt, unwrap_or}
 use Rattle.std.specs.List.{list_all}
 use Rattle.std.specs.Str.{is_utf8}
@@ -18,27 +18,32 @@ use Rattle.textual_mods.specs.declared.edit.TextPos.{TextPos}
 use Rattle.textual_mods.specs.declared.edit.TextPos.TheVariants as stands
 use Rattle.textual_mods.specs.declared.edit.TextualMod.{TextualMod}
 use Rattle.textual_mods.specs.declared.edit.TextualMod.TheVariants.{Repeal, SubstituteNodes, SubstituteText, InsertNodes, InsertText, Renumber, Split, Join}
+use Rattle.law_register.specs.Law.Formats.{format_of}
 use Rattle.law_register.specs.Law.Spellable.{is_counted, can_spell_own, can_spell_nodes, can_spell_payload, can_spell_text_pos, can_spell_split_at, can_spell_edit, can_spell_destination, can_spell_modification, can_spell_command, can_be_spelled}
-use Rattle.law_register.specs.Law.Spelling.{are_spelled_nodes, is_spelled_payload, is_spelled_edit, is_spelled_effect, is_spelled_modification, are_spelled_modifications, is_spelled_day, is_spelled_act, is_well_spelled}
+use Rattle.law_register.specs.Law.Spelling.{are_spelled_nodes, is_spelled_payload, is_spelled_edit, is_spelled_effect, is_spelled_provision, is_spelled_source, is_spelled_modification, are_spelled_modifications, is_spelled_day, is_spelled_act, is_well_spelled}
 use Rattle.law_register.specs.declared.law.act.Act.{Act}
 use Rattle.law_register.specs.declared.law.command.Command.{Command}
 use Rattle.law_register.specs.declared.law.command.Command.TheVariants.{Enact, Record, Correct, Withdraw, Restore, DraftAdd, DraftDrop, File}
+use Rattle.law_register.specs.declared.law.format.EntryFormat.{EntryFormat}
+use Rattle.law_register.specs.declared.law.format.EntryFormat.TheVariants as formats_of
 use Rattle.law_register.specs.declared.law.modification.Destination.{Destination}
 use Rattle.law_register.specs.declared.law.modification.Destination.TheVariants as to
+use Rattle.law_register.specs.declared.law.modification.ModSource.{ModSource}
 use Rattle.law_register.specs.declared.law.modification.Modification.{Modification}
 use Rattle.law_register.specs.declared.law.modification.Modification.TheVariants as mods
 use Rattle.law_register.specs.declared.register.entry.Entry.{Entry}
 use Rattle.entry_codec.specs.Fields.{Field, each}
-use Rattle.entry_codec.specs.Values.{number16, text_of, text, num, drafter, work, expression, list_of, refs, day, law, period, id, language, act_day, numbering, source, destination, spot}
+use Rattle.entry_codec.specs.Values.{number16, number64, text_of, text, num, drafter, work, expression, list_of, refs, day, law, period, id, language, act_day, numbering, destination, spot}
 use Rattle.entry_codec.specs.Nodes.{element, own, nodes, node, payload}
 use Rattle.entry_codec.specs.Acts.{act, act_rest}
-use Rattle.entry_codec.specs.Formats.{Format, first_format}
-use Rattle.entry_codec.specs.Modifications.{pos, text_pos, split_at, num_pair, num_pairs, edit, efficacy_effect, modification, modifications}
+use Rattle.entry_codec.specs.Formats.{Format, provision, format_in}
+use Rattle.entry_codec.specs.Modifications.{pos, text_pos, split_at, num_pair, num_pairs, edit, efficacy_effect, source, modification, modifications}
 use Rattle.entry_codec.specs.Commands.{command}
-use Rattle.entry_codec.specs.Entries.{entry, fields, keeps_rules, decoding}
+use Rattle.entry_codec.specs.Entries.{fields, keeps_rules, decoding}
 use Rattle.entry_codec.specs.Reads.{Gives}
 use Rattle.entry_codec.specs.declared.fault.DecodeFail.{DecodeFail}
 use Rattle.entry_codec.proofs.Decoding.{decoded_keeps}
+use Rattle.entry_codec.proofs.Standing.{standing_fits}
 use Rattle.std.specs.Prelude.{IfOk}
 
 -- a first and a second part of what holds
@@ -248,35 +253,48 @@ day_well : (iri : List ℕ) (d : ℕ) → (act_day iri).fits d ≡ true → is_s
 unfolding act_day
 day_well iri d fits = first (is_spelled_day (date_named iri) d) (day.fits d) fits
 
+-- provisions that fit are well spelled, in every format
+provision_well : (f : EntryFormat) (p : Option (List ℕ)) → (format_in f).provision.fits p ≡ true → is_spelled_provision p ≡ true
+unfolding provision
+provision_well formats_of.First None fits = refl
+provision_well formats_of.First (Some p) fits = absurd cc
+provision_well formats_of.Second p fits = first (is_spelled_provision p) _ fits
+
 record ActKept (a : Act) : Type 0 where
   able : can_spell_payload a.body ≡ true
   well : is_spelled_act a ≡ true
 
-act_kept : (a : Act) → act.fits a ≡ true → ActKept a
-unfolding act act_rest is_spelled_act
-act_kept a fits =
-    let b = second (work.fits a.work) _ fits in
-    let c = second (language.fits a.language) _ b in
-    let d = second (period.fits a.force) (payload.fits a.body) (second (numbering.fits a.numbering) _ (second ((act_day a.work).fits a.day) _ c)) in
-    let k = payload_kept a.body d in
-    record {
-      able = k.able;
-      well = and_from _ _ (and_from _ _ (language_well a.language (first _ _ b)) (day_well a.work a.day (first _ _ c))) k.well;
-    }
+-- acts, modifications and commands, in a format in which provisions that fit are well spelled
+module _ (format : Format) (names : (p : Option (List ℕ)) → format.provision.fits p ≡ true → is_spelled_provision p ≡ true) where
+  act_kept : (a : Act) → (act format).fits a ≡ true → ActKept a
+  unfolding act act_rest is_spelled_act
+  act_kept a fits =
+      let b = second (work.fits a.work) _ fits in
+      let c = second (language.fits a.language) _ b in
+      let d = second (numbering.fits a.numbering) _ (second ((act_day a.work).fits a.day) _ c) in
+      let k = payload_kept a.body (second (period.fits a.force) (payload.fits a.body) (second (format.limit.fits a.limit) _ d)) in
+      record {
+        able = k.able;
+        well = and_from _ _ (and_from _ _ (language_well a.language (first _ _ b)) (day_well a.work a.day (first _ _ c))) k.well;
+      }
 
--- modifications and commands, in a format in which acts that fit can be spelled, and are well spelled
-module _ (format : Format) (acts : (a : Act) → format.act.fits a ≡ true → ActKept a) where
+  source_well : (s : ModSource) → (source format).fits s ≡ true → is_spelled_source s ≡ true
+  unfolding source
+  source_well s fits = names s.provision (second (number16.fits s.place) (format.provision.fits s.provision) (second (work.fits s.href) _ fits))
+
   modification_able : (m : Modification) → (modification format).fits m ≡ true → can_spell_modification m ≡ true
   unfolding modification
-  modification_able (mods.Textual s p e) fits = (edit_kept e (second (period.fits p) (edit.fits e) (second (format.source.fits s) _ fits))).able
-  modification_able (mods.Force s t on e) fits = destination_able t (first (destination.fits t) _ (second (format.source.fits s) _ fits))
-  modification_able (mods.Efficacy s t on e) fits = destination_able t (first (destination.fits t) _ (second (format.source.fits s) _ fits))
+  modification_able (mods.Textual s p e) fits = (edit_kept e (second (period.fits p) (edit.fits e) (second ((source format).fits s) _ fits))).able
+  modification_able (mods.Force s t on e) fits = destination_able t (first (destination.fits t) _ (second ((source format).fits s) _ fits))
+  modification_able (mods.Efficacy s t on e) fits = destination_able t (first (destination.fits t) _ (second ((source format).fits s) _ fits))
 
   modification_well : (m : Modification) → (modification format).fits m ≡ true → is_spelled_modification m ≡ true
   unfolding modification
-  modification_well (mods.Textual s p e) fits = (edit_kept e (second (period.fits p) (edit.fits e) (second (format.source.fits s) _ fits))).well
-  modification_well (mods.Force s t on e) fits = refl
-  modification_well (mods.Efficacy s t on e) fits = effect_well on e (second (destination.fits t) _ (second (format.source.fits s) _ fits))
+  modification_well (mods.Textual s p e) fits =
+      and_from _ _ (source_well s (first ((source format).fits s) _ fits)) (edit_kept e (second (period.fits p) (edit.fits e) (second ((source format).fits s) _ fits))).well
+  modification_well (mods.Force s t on e) fits = source_well s (first ((source format).fits s) _ fits)
+  modification_well (mods.Efficacy s t on e) fits =
+      and_from _ _ (source_well s (first ((source format).fits s) _ fits)) (effect_well on e (second (destination.fits t) _ (second ((source format).fits s) _ fits)))
 
   modifications_able : (ms : List Modification) → (modifications format).fits ms ≡ true → (is_counted ms && list_all can_spell_modification ms) ≡ true
   unfolding modifications
@@ -288,7 +306,7 @@ module _ (format : Format) (acts : (a : Act) → format.act.fits a ≡ true → 
 
   command_able : (c : Command) → (command format).fits c ≡ true → can_spell_command c ≡ true
   unfolding command
-  command_able (Enact a) fits = (acts a fits).able
+  command_able (Enact a) fits = (act_kept a fits).able
   command_able (Record iri ms) fits = modifications_able ms (second (work.fits iri) ((modifications format).fits ms) fits)
   command_able (Correct i body) fits = modification_able body (second (id.fits i) ((modification format).fits body) fits)
   command_able (Withdraw i) fits = refl
@@ -299,7 +317,7 @@ module _ (format : Format) (acts : (a : Act) → format.act.fits a ≡ true → 
 
   command_well : (c : Command) → (command format).fits c ≡ true → is_well_spelled c ≡ true
   unfolding command is_well_spelled
-  command_well (Enact a) fits = (acts a fits).well
+  command_well (Enact a) fits = (act_kept a fits).well
   command_well (Record iri ms) fits = modifications_well ms (second (work.fits iri) ((modifications format).fits ms) fits)
   command_well (Correct i body) fits = modification_well body (second (id.fits i) ((modification format).fits body) fits)
   command_well (Withdraw i) fits = refl
@@ -313,18 +331,26 @@ law_able : (o : Option ℕ) → law.fits o ≡ true → nat_lt 0 (unwrap_or o 1)
 unfolding law
 law_able o fits = first (nat_lt 0 (unwrap_or o 1)) _ fits
 
-command_of : (e : Entry) → keeps_rules e ≡ true → (law.fits e.law && (command first_format).fits e.command) ≡ true
-unfolding keeps_rules entry fields
-command_of e kept = second (day.fits e.day) _ (second _ _ (second (drafter.fits e.drafter) _ kept))
+command_of : (format : Format) (e : Entry) → (fields format).fits e ≡ true → (law.fits e.law && (command format).fits e.command) ≡ true
+unfolding fields
+command_of format e fits = second (day.fits e.day) _ (second (number64.fits e.request) _ (second (drafter.fits e.drafter) _ fits))
+
+-- the law number and the command of an entry that keeps the rules fit, in the format that its command asks for
+kept_command : (e : Entry) → keeps_rules e ≡ true → (law.fits e.law && (command (format_in (format_of e.command))).fits e.command) ≡ true
+unfolding keeps_rules
+kept_command e kept = command_of (format_in (format_of e.command)) e (sym (standing_fits (format_of e.command) e) ∙ kept)
 
 pub entry_able : (e : Entry) → keeps_rules e ≡ true → can_be_spelled e ≡ true
 unfolding can_be_spelled
 entry_able e kept =
-    let parts = and_parts (law.fits e.law) ((command first_format).fits e.command) (command_of e kept) in
-    and_from _ _ (law_able e.law parts.0) (command_able first_format act_kept e.command parts.1)
+    let f = format_of e.command in
+    let parts = and_parts (law.fits e.law) ((command (format_in f)).fits e.command) (kept_command e kept) in
+    and_from _ _ (law_able e.law parts.0) (command_able (format_in f) (provision_well f) e.command parts.1)
 
 pub entry_well : (e : Entry) → keeps_rules e ≡ true → is_well_spelled e.command ≡ true
-entry_well e kept = command_well first_format act_kept e.command (second (law.fits e.law) ((command first_format).fits e.command) (command_of e kept))
+entry_well e kept =
+    let f = format_of e.command in
+    command_well (format_in f) (provision_well f) e.command (second (law.fits e.law) ((command (format_in f)).fits e.command) (kept_command e kept))
 
 -- what a call gives that gives what is decoded
 pub given_well : (bytes : List ℕ) → ((i : ℕ) → get_or bytes i 0 < 256) → (result : Result Entry DecodeFail) → Gives (λ e. e) result (decoding bytes)

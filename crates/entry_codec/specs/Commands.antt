@@ -5,12 +5,26 @@ use Rattle.law_register.specs.declared.law.command.Command.TheVariants.{Enact, R
 use Rattle.entry_codec.specs.Fields.{Field, Kind, HeldBy, pair, kind, first, second, third, fourth, fifth, sixth, seventh, eighth, one_of}
 use Rattle.entry_codec.specs.Values.{number32, work, id}
 use Rattle.entry_codec.specs.Formats.{Format}
+use Rattle.entry_codec.specs.Acts.{act}
 use Rattle.entry_codec.specs.Modifications.{modification, modifications}
 
+-- the kinds of a command that are spelled alike in every format
+abbrev pub withdraw : Kind Command
+withdraw = kind 4 (λ i. Withdraw i) id
+
+abbrev pub restore : Kind Command
+restore = kind 5 (λ i. Restore i) id
+
+abbrev pub draft_drop : Kind Command
+draft_drop = kind 7 (λ n. DraftDrop n) number32
+
+abbrev pub file : Kind Command
+file = kind 8 (λ p. File p.0 p.1) (pair work number32)
+
 module _ (format : Format) where
-  -- the kinds of a command
+  -- the others
   abbrev pub enact : Kind Command
-  enact = kind 1 (λ a. Enact a) format.act
+  enact = kind 1 (λ a. Enact a) (act format)
 
   abbrev pub recorded : Kind Command
   recorded = kind 2 (λ p. Record p.0 p.1) (pair work (modifications format))
@@ -18,20 +32,8 @@ module _ (format : Format) where
   abbrev pub correct : Kind Command
   correct = kind 3 (λ p. Correct p.0 p.1) (pair id (modification format))
 
-  abbrev pub withdraw : Kind Command
-  withdraw = kind 4 (λ i. Withdraw i) id
-
-  abbrev pub restore : Kind Command
-  restore = kind 5 (λ i. Restore i) id
-
   abbrev pub draft_add : Kind Command
   draft_add = kind 6 (λ p. DraftAdd p.0 p.1) (pair work (modification format))
-
-  abbrev pub draft_drop : Kind Command
-  draft_drop = kind 7 (λ n. DraftDrop n) number32
-
-  abbrev pub file : Kind Command
-  file = kind 8 (λ p. File p.0 p.1) (pair work number32)
 
   abbrev pub command_kinds : List (Kind Command)
   command_kinds = enact ∷ recorded ∷ correct ∷ withdraw ∷ restore ∷ draft_add ∷ draft_drop ∷ file ∷ []

@@ -3,8 +3,8 @@ pub mod Fields
 pub mod Typed
 pub mod Values
 pub mod Nodes
-pub mod Acts
 pub mod Formats
+pub mod Acts
 pub mod Modifications
 pub mod Commands
 pub mod Entries

@@ -1,5 +1,5 @@
--- The fields of edits, of effects and, in any format, of modifications.
-use Rattle.std.specs.Prelude.{ℕ, ◌==◌, List, [], ◌∷◌, Some}
+-- The fields of edits, of effects and, in any format, of sources and of modifications.
+use Rattle.std.specs.Prelude.{ℕ, ◌==◌, List, [], ◌∷◌, Option, Some}
 use Rattle.desk_base.specs.declared.period.Period.{Period}
 use Rattle.act_tree.specs.Branches.{Branch}
 use Rattle.act_tree.specs.Provisions.{Own}
@@ -16,10 +16,11 @@ use Rattle.textual_mods.specs.declared.edit.TextPos.{TextPos}
 use Rattle.textual_mods.specs.declared.edit.TextPos.TheVariants as stands
 use Rattle.textual_mods.specs.declared.edit.TextualMod.{TextualMod}
 use Rattle.textual_mods.specs.declared.edit.TextualMod.TheVariants.{Repeal, SubstituteNodes, SubstituteText, InsertNodes, InsertText, Renumber, Split, Join}
+use Rattle.law_register.specs.declared.law.modification.ModSource.{ModSource}
 use Rattle.law_register.specs.declared.law.modification.Modification.{Modification}
 use Rattle.law_register.specs.declared.law.modification.Modification.TheVariants.{Textual, Force, Efficacy}
-use Rattle.entry_codec.specs.Fields.{Field, Kind, HeldBy, nothing, pair, made_where, kind, first, second, third, fourth, fifth, sixth, seventh, eighth, one_of}
-use Rattle.entry_codec.specs.Values.{text, num, day, period, destination, spot, list_of}
+use Rattle.entry_codec.specs.Fields.{Field, Kind, HeldBy, nothing, pair, made, made_where, kind, first, second, third, fourth, fifth, sixth, seventh, eighth, one_of}
+use Rattle.entry_codec.specs.Values.{number16, text, num, work, day, period, destination, spot, list_of}
 use Rattle.entry_codec.specs.Nodes.{payload}
 use Rattle.entry_codec.specs.Formats.{Format}
 
@@ -188,16 +189,25 @@ efficacy_parts on (efficacy.Inapplied days) = seventh (on, days)
 unfoldable pub efficacy_effect : Field (ℕ × EfficacyEffect)
 efficacy_effect = one_of efficacy_kinds (λ p. efficacy_parts p.0 p.1)
 
+-- where a modification comes from: the IRI of a work, a place in it, and perhaps a provision of it
+abbrev pub source_from : List ℕ × (ℕ × Option (List ℕ)) → ModSource
+source_from p = record { href = p.0; place = p.1.0; provision = p.1.1 }
+
 module _ (format : Format) where
+  unfoldable pub source : Field ModSource
+  source =
+      made source_from (λ s. Some (s.href, (s.place, s.provision)))
+      (pair work (pair number16 format.provision))
+
   -- the kinds of a modification
   abbrev pub textual : Kind Modification
-  textual = kind 1 (λ p. Textual p.0 p.1.0 p.1.1) (pair format.source (pair period edit))
+  textual = kind 1 (λ p. Textual p.0 p.1.0 p.1.1) (pair source (pair period edit))
 
   abbrev pub forced : Kind Modification
-  forced = kind 2 (λ p. Force p.0 p.1.0 p.1.1.0 p.1.1.1) (pair format.source (pair destination force_effect))
+  forced = kind 2 (λ p. Force p.0 p.1.0 p.1.1.0 p.1.1.1) (pair source (pair destination force_effect))
 
   abbrev pub effective : Kind Modification
-  effective = kind 3 (λ p. Efficacy p.0 p.1.0 p.1.1.0 p.1.1.1) (pair format.source (pair destination efficacy_effect))
+  effective = kind 3 (λ p. Efficacy p.0 p.1.0 p.1.1.0 p.1.1.1) (pair source (pair destination efficacy_effect))
 
   abbrev pub modification_kinds : List (Kind Modification)
   modification_kinds = textual ∷ forced ∷ effective ∷ []

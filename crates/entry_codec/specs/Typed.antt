@@ -77,7 +77,7 @@ IsNumbering n = length n.throughout ≡ 14
 
 -- where a modification comes from, and what it is directed at
 abbrev pub IsSource : ModSource → Type 0
-IsSource s = IsWorkText s.href × IsNumber16 s.place
+IsSource s = IsWorkText s.href × IsNumber16 s.place × IfSome s.provision IsText
 
 abbrev pub IsDestination : Destination → Type 0
 IsDestination (to.Modification i) = IsId i

@@ -15,7 +15,6 @@ use Rattle.law_register.specs.Law.Spelling.{is_spelled_day}
 use Rattle.law_register.specs.Register.Drafters.{is_drafter}
 use Rattle.law_register.specs.declared.law.modification.Destination.{Destination}
 use Rattle.law_register.specs.declared.law.modification.Destination.TheVariants as to
-use Rattle.law_register.specs.declared.law.modification.ModSource.{ModSource}
 use Rattle.textual_mods.specs.declared.edit.Spot.{Spot}
 use Rattle.entry_codec.specs.Fields.{Field, Kind, HeldBy, byte, number, chunk, tested, pair, made, made_where, kind, first, second, one_of, counted, each}
 
@@ -146,13 +145,6 @@ unfoldable pub numbering : Field Numbering
 numbering =
     made_where (λ n. length n.throughout == 14) numbering_from (λ n. Some (numbering_number n))
     (tested (λ n. nat_lt n 16384) number16)
-
--- where a modification comes from: the IRI of a work, and a place in it
-abbrev pub source_from : List ℕ × ℕ → ModSource
-source_from p = record { href = p.0; place = p.1 }
-
-unfoldable pub source : Field ModSource
-source = made source_from (λ s. Some (s.href, s.place)) (pair work number16)
 
 -- what a modification is directed at: a modification by its id, or a provision by its wId
 abbrev pub destination_kinds : List (Kind Destination)

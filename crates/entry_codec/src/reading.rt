@@ -10,6 +10,7 @@ mod commands;
 mod edits;
 mod effects;
 mod entries;
+mod formats;
 mod known;
 mod modifications;
 mod nodes;
@@ -20,7 +21,7 @@ mod values;
 
 use crate::{CodecFault, DecodeFail};
 use frbr_names::WorkName;
-use law_register::{Drafter, Entry};
+use law_register::{Drafter, Entry, EntryFormat};
 use reader::{Reader, Stop};
 use std::alloc::Global;
 
@@ -31,6 +32,24 @@ fn fault_at(bytes: &[u8], left: usize) -> CodecFault
     CodecFault {
         place: place as u64,
         byte: bytes.get(place).copied(),
+    }
+}
+
+fn is_asked(format: EntryFormat, entry: &Entry) -> bool
+    ensures { result ≡ spec.is_asked (format, entry.now) }
+{
+    format.number() == entry.command.format().number()
+}
+
+// The entry that was read in a format, unless its command asks for the other.
+fn if_asked(bytes: &[u8], read: (EntryFormat, Entry)) -> Result<Entry, DecodeFail>
+    ensures { Gives (λ e. e) result (spec.if_asked bytes.now read) }
+{
+    let (format, entry) = read;
+    if is_asked(format, &entry) {
+        Ok(entry)
+    } else {
+        Err(DecodeFail::Fault(fault_at(bytes, bytes.len())))
     }
 }
 
@@ -49,7 +68,7 @@ fn decoded<'a>(
         known_work: work,
     };
     match reader.entry(alloc) {
-        Ok(entry) if reader.left.is_empty() => Ok(entry),
+        Ok(read) if reader.left.is_empty() => if_asked(bytes, read),
         Ok(_) => Err(DecodeFail::Fault(fault_at(bytes, reader.left.len()))),
         Err(Stop::Broken(left)) => Err(DecodeFail::Fault(fault_at(bytes, left))),
         Err(Stop::Memory) => Err(DecodeFail::Memory),
@@ -60,7 +79,8 @@ fn decoded<'a>(
 ///
 /// The fault is that of the first field, from the left, that breaks its rule or that the bytes do not hold whole. A length has no
 /// rule of its own: a text whose length its rule forbids breaks that rule where its bytes begin. Bytes left over are a fault at
-/// the first of them. What is decoded is well spelled, and can be spelled.
+/// the first of them. An entry in format 2 whose command does not ask for it is a fault at its first byte, judged after all
+/// others. What is decoded is well spelled, and can be spelled.
 pub fn decode(alloc: Global, bytes: &[u8]) -> Result<Entry, DecodeFail>
     ensures value { Gives (λ e. e) result (spec.decoding bytes.now) }
     ensures well { IfOk result (λ e. is_well_spelled e.command ≡ true) }

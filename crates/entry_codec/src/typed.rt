@@ -109,11 +109,21 @@ pub fn numbering_is_typed(numbering: &Numbering)
     places_are_all(&numbering.throughout);
 }
 
+/// The provision that a source names. The writer of sources calls it too.
+pub fn provision_is_typed(provision: &Option<Text>)
+    ensures { IfSome provision.now spec.IsText }
+{
+    if let Some(provision) = provision {
+        text_is_typed(provision.as_str());
+    }
+}
+
 fn source_is_typed(source: &ModSource)
     ensures { spec.IsSource source.now }
 {
     work_is_typed(&source.href);
     number16_is_typed(source.place);
+    provision_is_typed(&source.provision);
 }
 
 fn destination_is_typed(destination: &Destination)

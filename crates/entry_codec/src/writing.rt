@@ -10,6 +10,7 @@ mod commands;
 mod edits;
 mod effects;
 mod entries;
+mod formats;
 mod modifications;
 mod nodes;
 mod numbers;

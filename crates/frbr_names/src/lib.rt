@@ -20,6 +20,7 @@ pub use expression_iri::ExpressionIri;
 pub use expression_reading::{is_expression, parse_expression};
 pub use expression_spelling::{spelled_expression, spelled_language};
 pub use fault::{NameFault, NameRule};
+pub use rules::is_portion;
 pub use work_iri::WorkIri;
 pub use work_name::WorkName;
 pub use work_reading::parse_work;

@@ -92,9 +92,9 @@ pub(crate) fn is_number(part: &[u8]) -> bool
     part.len() >= 1 && part.len() <= 64 && are_name_bytes(part)
 }
 
-// Whether bytes are a portion.
+/// Whether bytes are a portion, as it stands behind `~` in the IRI of an expression: 1 to 512 ASCII letters, digits, `-` and `_`.
 #[tactic(auto, unfolding(crate::specs::Rules::is_portion))]
-pub(crate) fn is_portion(part: &[u8]) -> bool
+pub fn is_portion(part: &[u8]) -> bool
     ensures { result ≡ spec.is_portion part.now }
 {
     part.len() >= 1 && part.len() <= 512 && are_portion_bytes(part)

@@ -2,6 +2,7 @@
 use Rattle.std.specs.Prelude.{ℕ, zero, suc, List, [], ◌∷◌, ◌++◌, codes, None}
 use Rattle.std.specs.Fmt.{decimal}
 use Rattle.eid_paths.specs.declared.element.Element.TheVariants.{Section}
+use Rattle.act_tree.specs.declared.limits.NodeLimit.TheVariants.{Plain}
 use Rattle.act_tree.specs.Branches.{Branch, branch, no_branches}
 use Rattle.act_tree.specs.Provisions.{Own}
 use Rattle.eid_paths.specs.declared.numbering.TheConstants.Numbering.{DEFAULT}
@@ -51,6 +52,7 @@ act = record {
   language = codes "eng";
   day = first_day;
   numbering = DEFAULT;
+  limit = Plain;
   force = record { start = first_day; end = None };
   body = sections 64;
 }

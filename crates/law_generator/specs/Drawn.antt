@@ -39,7 +39,7 @@ unfoldable pub source_work : List ℕ
 source_work = codes "/akn/gb/act/1999/1"
 
 abbrev pub source : ModSource
-source = record { href = source_work; place = 0 }
+source = record { href = source_work; place = 0; provision = None }
 
 -- the wId of a section
 abbrev pub section_wid : ℕ → List ℕ

@@ -20,6 +20,7 @@ fn source(alloc: Global) -> Result<ModSource, Memory>
     Ok(ModSource {
         href: source_work(alloc)?,
         place: 0,
+        provision: None,
     })
 }
 

@@ -6,7 +6,7 @@ ghost use Rattle.law_generator.specs.Acts as spec;
 
 use crate::days::first_day;
 use crate::names::{section_num, work};
-use act_tree::{NodeSpec, Nodes, Refs, SharedNodes};
+use act_tree::{NodeLimit, NodeSpec, Nodes, Refs, SharedNodes};
 use desk_base::{Memory, Period, Text};
 use eid_paths::{Element, Numbering};
 use law_register::{Act, Command};
@@ -65,6 +65,7 @@ pub fn enactment(alloc: Global) -> Result<Command, Memory>
             language: *b"eng",
             day: first_day(),
             numbering: Numbering::DEFAULT,
+            limit: NodeLimit::Plain,
             force: Period {
                 start: first_day(),
                 end: None,

@@ -17,7 +17,7 @@ use Rattle.law_http.specs.Connections.{AnswersSeen, AreMarked, AreOnce, FitAll, 
 use Rattle.law_http.specs.Exchanges.{AreAnswered, IsServed}
 use Rattle.law_http.specs.Faultless.{reply_on}
 use Rattle.law_http.specs.Hearing.{AreHeard}
-use Rattle.law_http.specs.Lasting.{AreAcknowledged, BeginWith, HoldsAsked, is_created}
+use Rattle.law_http.specs.Lasting.{AreAcknowledged, HoldsAsked, is_created}
 use Rattle.law_http.specs.Responses.{reply_bytes}
 use Rattle.law_http.specs.Streaming.{AreHeardFirst, BreaksOff, EndsAs, Exchange, requests_of}
 use Rattle.law_http.specs.declared.heard.Heard.{Heard}
@@ -32,9 +32,6 @@ use Rattle.law_http.proofs.Answered.{asked_more}
 use Rattle.law_http.proofs.Determined.{all_same, one_first}
 use Rattle.law_http.proofs.Histories.{entries_begin, none_before, prefix_length, prefix_on, prefix_self}
 use Rattle.law_http.proofs.Said.{not_both}
-
-begins_with : (a b : List Entry) → IsPrefix a b → BeginWith a b
-begins_with a b p = (p.0, sym p.1)
 
 -- what is beyond a beginning
 beyond : {A : Type 0} (a b : List A) (p : IsPrefix a b) → drop (length a) b ≡ p.0

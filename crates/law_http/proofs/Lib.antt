@@ -15,6 +15,7 @@ pub mod InTurn
 pub mod Kept
 pub mod LastHeard
 pub mod Lengths
+pub mod Literals
 pub mod Members
 pub mod Pieces
 pub mod PutResponses

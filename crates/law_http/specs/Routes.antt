@@ -1,6 +1,10 @@
 -- Which part of the desk a request asks: by the path of its target, and then by its method.
-use Rattle.std.specs.Prelude.{ℕ, Bool, true, ◌==◌, ◌&&◌, bytes_eq, List, [], ◌∷◌, codes, is_some, Option, None, Some, Result, Ok, Err, if◌then◌else◌}
+use Rattle.std.specs.Prelude.{ℕ, zero, suc, Bool, true, ◌≡◌, refl, ◌==◌, ◌&&◌, bytes_eq, List, [], ◌∷◌, codes, is_some, Option, None, Some, option_map, Result, Ok, Err, if◌then◌else◌}
+use Rattle.std.specs.Coded.{Coded, Coded-set, code_by, coded_ℕ, coded_option, Π_prop}
 use Rattle.std.specs.List.{before_first, after_first}
+use Rattle.matchit.specs.Router.{RouteOf}
+use Rattle.matchit.specs.Rows.{RowsOf}
+use Rattle.matchit.specs.Seek.{first}
 use Rattle.law_http.specs.Queries.{has_keys, query_pairs, value_of}
 use Rattle.law_http.specs.declared.route.Route.{Route}
 use Rattle.law_http.specs.declared.route.Route.TheVariants as route
@@ -24,11 +28,44 @@ query_of target = after_first is_question_mark target
 -- the paths, byte for byte
 abbrev pub route_at : List ℕ → Option Route
 route_at path =
-    if bytes_eq path (codes "/front") then Some route.Front
-    else (if bytes_eq path (codes "/text") then Some route.Text
-    else (if bytes_eq path (codes "/preview") then Some route.Preview
-    else (if bytes_eq path (codes "/draft") then Some route.Draft
-    else (if bytes_eq path (codes "/commands") then Some route.Commands else None))))
+    if bytes_eq (codes "/commands") path then Some route.Commands
+    else (if bytes_eq (codes "/draft") path then Some route.Draft
+    else (if bytes_eq (codes "/front") path then Some route.Front
+    else (if bytes_eq (codes "/preview") path then Some route.Preview
+    else (if bytes_eq (codes "/text") path then Some route.Text else None))))
+
+-- a router leads from each path to what it stands for, and from any other text nowhere
+abbrev pub LeadsFromPaths : RowsOf (RouteOf Route) → Type 0
+LeadsFromPaths rows = (path : List ℕ) → option_map (λ found. found.value) (first rows path) ≡ route_at path
+
+-- routes are told apart by a number, so a router leads from the paths in one way
+abbrev pub route_number : Route → ℕ
+route_number route.Front = 0
+route_number route.Text = 1
+route_number route.Preview = 2
+route_number route.Draft = 3
+route_number route.Commands = 4
+
+abbrev pub route_numbered : ℕ → Route
+route_numbered zero = route.Front
+route_numbered (suc zero) = route.Text
+route_numbered (suc (suc zero)) = route.Preview
+route_numbered (suc (suc (suc zero))) = route.Draft
+route_numbered (suc (suc (suc (suc _)))) = route.Commands
+
+pub numbered_again : (r : Route) → route_numbered (route_number r) ≡ r
+numbered_again route.Front = refl
+numbered_again route.Text = refl
+numbered_again route.Preview = refl
+numbered_again route.Draft = refl
+numbered_again route.Commands = refl
+
+abbrev pub route_code : Coded Route
+route_code = code_by ℕ coded_ℕ route_number route_numbered numbered_again
+
+pub LeadsFromPaths-prop : (rows : RowsOf (RouteOf Route)) → IsProp (LeadsFromPaths rows)
+LeadsFromPaths-prop rows =
+    Π_prop (λ path. Coded-set (coded_option route_code) (option_map (λ found. found.value) (first rows path)) (route_at path))
 
 -- the one method of a path
 abbrev pub method_of : Route → Allow

@@ -10,8 +10,8 @@ ghost use Rattle.law_register.specs.Law.Spelling.{is_well_spelled};
 ghost use Rattle.law_http.specs.declared.asking.AskFail.TheVariants as fails;
 
 use crate::drafts::{PreviewAsked, drafter_in, preview_in};
-use crate::route::{judged, route_at, split_target, with_method};
-use crate::{Bytes, Query, Request, RequestRefusal, Route};
+use crate::route::{judged, split_target, with_method};
+use crate::{Bytes, Query, Request, RequestRefusal, Route, Routes};
 use akn_json::{Asked, FormFault, FormRule, ReadFail, read_command};
 use desk_base::{Day, Memory, Text, decimal_number};
 use frbr_names::{ExpressionIri, WorkName, parse_expression};
@@ -186,12 +186,12 @@ impl TextAsked {
 
 impl Request {
     #[tactic(auto, unfolding(crate::specs::Asking::asking_of))]
-    fn read_asking(&self, alloc: Global) -> Result<Asking, AskFail>
+    fn read_asking(&self, alloc: Global, routes: &Routes) -> Result<Asking, AskFail>
         ensures value { spec.Gives result (spec.asking_of self.now) }
         ensures spelled { IfOk result spec.IsSpelled }
     {
         let (path, query) = split_target(self.target.as_str());
-        let route = with_method(self.method.as_str(), route_at(path))?;
+        let route = with_method(self.method.as_str(), routes.at(path))?;
         let query = judged(Query::from_text(alloc, query)?, route)?;
         match route {
             Route::Front => Ok(Asking::Front),
@@ -205,11 +205,15 @@ impl Request {
     /// What the request asks, or why it gets no answer. Its route is judged first, then the keys of its query, then
     /// their values in the order drafter, expression, viewpoint, reading, and then its body. A command that is asked for is
     /// well spelled.
-    pub fn asking(&self, alloc: Global) -> Result<Result<Asking, RequestRefusal>, Memory>
+    pub fn asking(
+        &self,
+        alloc: Global,
+        routes: &Routes,
+    ) -> Result<Result<Asking, RequestRefusal>, Memory>
         ensures value { IfOk result (λ asked. asked ≡ spec.asking_of self.now) }
         ensures spelled { IfOk result spec.IfSpelled }
     {
-        match self.read_asking(alloc) {
+        match self.read_asking(alloc, routes) {
             Ok(asking) => Ok(Ok(asking)),
             Err(AskFail::Refused(refusal)) => Ok(Err(refusal)),
             Err(AskFail::Memory) => Err(Memory),

@@ -16,7 +16,8 @@ ghost use Rattle.law_http.specs.Turns as turning;
 ghost use Rattle.law_http.specs.declared.heard.Heard.{Heard as Member};
 
 use crate::putting::{Turn, either, end_where, is_fault, leave, put_before, refuse};
-use crate::{Heard, Request, Response, Rest, Served, StreamEnd, read_request, respond};
+use crate::responding::respond_by;
+use crate::{Heard, Request, Response, Rest, Routes, Served, StreamEnd, read_request};
 use desk_base::{Link, Steps};
 use law_register::Desk;
 use law_register::laws::entries_are_legal;
@@ -36,6 +37,7 @@ fn is_known<D: Desk>(desk: &D)
 // The response of a desk that is found in a turn, and will be found again.
 fn respond_at<D: Desk, L: Ledger>(
     alloc: Global,
+    routes: Option<&Routes>,
     desk: &mut D,
     request: &Request,
     steps: &mut Steps<L>,
@@ -47,7 +49,7 @@ fn respond_at<D: Desk, L: Ledger>(
     ensures origin { D.origin desk.new ≡ D.origin desk.old }
 {
     is_known(desk);
-    let response = respond(alloc, desk, request, steps);
+    let response = respond_by(alloc, routes, desk, request, steps);
     is_known(desk);
     response
 }
@@ -56,6 +58,7 @@ fn respond_at<D: Desk, L: Ledger>(
 fn answer_in_turn<R: Wait, D: Desk, L: Ledger>(
     rt: &R,
     alloc: Global,
+    routes: Option<&Routes>,
     turns: &Turns<D>,
     pass: &mut Pass<D>,
     request: &Request,
@@ -66,12 +69,17 @@ fn answer_in_turn<R: Wait, D: Desk, L: Ledger>(
         (spec.view_of pass.old) (spec.view_of pass.new) result }
     ensures pass { spec.StaysPass turns.now pass.old pass.new }
 {
-    turns.with_turn(rt, pass, |desk| respond_at(alloc, desk, request, steps))
+    turns.with_turn(
+        rt,
+        pass,
+        |desk| respond_at(alloc, routes, desk, request, steps),
+    )
 }
 
 fn answer<R: Wait, K: Link, D: Desk, L: Ledger>(
     rt: &R,
     alloc: Global,
+    routes: Option<&Routes>,
     link: &mut K,
     turns: &Turns<D>,
     pass: &mut Pass<D>,
@@ -91,7 +99,7 @@ fn answer<R: Wait, K: Link, D: Desk, L: Ledger>(
     ensures origin { K.origin link.new ≡ K.origin link.old }
     ensures pass { spec.StaysPass turns.now pass.old pass.new }
 {
-    let response = answer_in_turn(rt, alloc, turns, pass, request, steps);
+    let response = answer_in_turn(rt, alloc, routes, turns, pass, request, steps);
     let end = put_before(link, &response, end_where(request.last));
     let faulted = is_fault(&response);
     Turn { end, faulted }
@@ -101,6 +109,7 @@ fn answer<R: Wait, K: Link, D: Desk, L: Ledger>(
 fn act_on<R: Wait, K: Link, D: Desk, L: Ledger>(
     rt: &R,
     alloc: Global,
+    routes: Option<&Routes>,
     link: &mut K,
     turns: &Turns<D>,
     pass: &mut Pass<D>,
@@ -122,7 +131,7 @@ fn act_on<R: Wait, K: Link, D: Desk, L: Ledger>(
     ensures pass { spec.StaysPass turns.now pass.old pass.new }
 {
     match heard {
-        Heard::Request(request) => answer(rt, alloc, link, turns, pass, request, steps),
+        Heard::Request(request) => answer(rt, alloc, routes, link, turns, pass, request, steps),
         Heard::End => Turn {
             end: Some(StreamEnd::End),
             faulted: false,
@@ -137,6 +146,7 @@ fn act_on<R: Wait, K: Link, D: Desk, L: Ledger>(
 fn take_turn<R: Wait, K: Link, D: Desk, L: Ledger>(
     rt: &R,
     alloc: Global,
+    routes: Option<&Routes>,
     link: &mut K,
     rest: &mut Rest,
     turns: &Turns<D>,
@@ -157,7 +167,7 @@ fn take_turn<R: Wait, K: Link, D: Desk, L: Ledger>(
     ensures pass { spec.StaysPass turns.now pass.old pass.new }
 {
     match read_request(alloc, link, rest) {
-        Ok(heard) => act_on(rt, alloc, link, turns, pass, &heard, steps),
+        Ok(heard) => act_on(rt, alloc, routes, link, turns, pass, &heard, steps),
         Err(fault) => Turn {
             end: leave(link, fault),
             faulted: false,
@@ -190,10 +200,20 @@ pub fn serve_connection<R: Wait, K: Link, D: Desk, L: Ledger>(
     ensures origin { K.origin link.new ≡ K.origin link.old }
     ensures pass { spec.StaysPass turns.now pass.old pass.new }
 {
+    let routes = Routes::new(alloc).ok();
     let mut rest = Rest::new();
     let mut faulted = false;
     'turns: loop {
-        let turn = take_turn(rt, alloc, link, &mut rest, turns, pass, steps);
+        let turn = take_turn(
+            rt,
+            alloc,
+            routes.as_ref(),
+            link,
+            &mut rest,
+            turns,
+            pass,
+            steps,
+        );
         faulted = either(faulted, turn.faulted);
         match turn.end {
             Some(end) => return Served { end, faulted },

@@ -36,7 +36,7 @@ pub use refusal::{MessageRefusal, RequestRefusal};
 pub use responding::respond;
 pub use response::{Response, put_response, refused_message, refused_request};
 pub use rest::Rest;
-pub use route::Route;
+pub use route::{Route, Routes};
 pub use status::{Allow, Status};
 pub use streaming::{Served, StreamEnd, serve_stream};
 pub use target::Target;

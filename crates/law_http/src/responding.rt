@@ -20,7 +20,7 @@ ghost use Rattle.law_http.specs.declared.response.Response.TheVariants.{MemoryFa
 ghost use Rattle.law_http.specs.declared.status.Status.TheVariants as status;
 
 use crate::acknowledging::{acknowledged, begun, numbered};
-use crate::{Asking, PreviewAsked, Request, Response, Status, TextAsked, refused_request};
+use crate::{Asking, PreviewAsked, Request, Response, Routes, Status, TextAsked, refused_request};
 use akn_json::{Asked, put_answer, put_draft, put_query_rule, put_rule};
 use desk_base::Steps;
 use law_register::{
@@ -237,6 +237,28 @@ fn answered<D: Desk, L: Ledger>(
     }
 }
 
+/// The response of a desk to a request, as `respond` gives it, by paths that were made before. `None`: there was not enough
+/// memory for them, which the fixed 500 says.
+pub(crate) fn respond_by<D: Desk, L: Ledger>(
+    alloc: Global,
+    routes: Option<&Routes>,
+    desk: &mut D,
+    request: &Request,
+    steps: &mut Steps<L>,
+) -> Response
+    ensures { spec.ServesWithin D.state D.crashes D.past request.now.last (asking_of request.now) desk.old desk.new result
+        steps.old steps.new }
+{
+    let Some(routes) = routes else {
+        return Response::MemoryFault;
+    };
+    match request.asking(alloc, routes) {
+        Ok(Ok(asking)) => answered(alloc, desk, asking, request.last, steps),
+        Ok(Err(refusal)) => refused_request(alloc, refusal, request.last),
+        Err(_) => Response::MemoryFault,
+    }
+}
+
 /// The response of a desk to a request. The room for the response to a command that is accepted is made before the
 /// desk is asked, so that what was entered is acknowledged; where there is not enough memory it is the fixed 500.
 pub fn respond<D: Desk, L: Ledger>(
@@ -248,9 +270,6 @@ pub fn respond<D: Desk, L: Ledger>(
     ensures { spec.ServesWithin D.state D.crashes D.past request.now.last (asking_of request.now) desk.old desk.new result
         steps.old steps.new }
 {
-    match request.asking(alloc) {
-        Ok(Ok(asking)) => answered(alloc, desk, asking, request.last, steps),
-        Ok(Err(refusal)) => refused_request(alloc, refusal, request.last),
-        Err(_) => Response::MemoryFault,
-    }
+    let routes = Routes::new(alloc).ok();
+    respond_by(alloc, routes.as_ref(), desk, request, steps)
 }

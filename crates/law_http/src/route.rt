@@ -6,6 +6,7 @@ ghost use Rattle.law_http.specs.Routes as spec;
 use crate::status::Allow;
 use crate::{Query, Request, RequestRefusal};
 use desk_base::Memory;
+use matchit::{InsertError, Router};
 use std::alloc::Global;
 
 /// What a path stands for.
@@ -46,16 +47,42 @@ pub(crate) fn split_target(target: &str) -> (&str, &str)
     }
 }
 
-pub(crate) fn route_at(path: &str) -> Option<Route>
-    ensures { result ≡ spec.route_at path.now }
+/// The paths of the desk, in a router. Whoever reads requests has them made once, and lends them to each.
+#[derive(Drop)]
+pub struct Routes {
+    router: Router<Route>,
+    ghost leads: { spec.LeadsFromPaths router } by { spec.LeadsFromPaths-prop router },
+}
+
+fn all_paths(alloc: Global) -> Result<Router<Route>, InsertError>
+    ensures { IfOk result spec.LeadsFromPaths }
 {
-    match path {
-        "/front" => Some(Route::Front),
-        "/text" => Some(Route::Text),
-        "/preview" => Some(Route::Preview),
-        "/draft" => Some(Route::Draft),
-        "/commands" => Some(Route::Commands),
-        _ => None,
+    let mut router = Router::new(alloc);
+    router.insert("/commands", Route::Commands)?;
+    router.insert("/draft", Route::Draft)?;
+    router.insert("/front", Route::Front)?;
+    router.insert("/preview", Route::Preview)?;
+    router.insert("/text", Route::Text)?;
+    Ok(router)
+}
+
+impl Routes {
+    /// The paths of the desk.
+    pub fn new(alloc: Global) -> Result<Routes, Memory> {
+        match all_paths(alloc) {
+            Ok(router) => Ok(Routes { router }),
+            Err(_) => Err(Memory),
+        }
+    }
+
+    /// What a path stands for. Paths are compared as they were sent, byte for byte.
+    pub fn at(&self, path: &str) -> Option<Route>
+        ensures { result ≡ spec.route_at path.now }
+    {
+        match self.router.at(path) {
+            Ok(found) => Some(*found.value),
+            Err(_) => None,
+        }
     }
 }
 
@@ -109,13 +136,12 @@ pub(crate) fn judged(query: Query, route: Route) -> Result<Query, RequestRefusal
 }
 
 impl Request {
-    /// What the request asks, by the path of its target and then by its method. Paths are compared as they were sent,
-    /// byte for byte.
-    pub fn route(&self) -> Result<Route, RequestRefusal>
+    /// What the request asks, by the path of its target and then by its method.
+    pub fn route(&self, routes: &Routes) -> Result<Route, RequestRefusal>
         ensures { result ≡ spec.route_of self.now.method self.now.target }
     {
         let (path, _) = split_target(self.target.as_str());
-        with_method(self.method.as_str(), route_at(path))
+        with_method(self.method.as_str(), routes.at(path))
     }
 
     /// The query: what stands behind the first `?` of the target, or nothing.

@@ -7,7 +7,8 @@ ghost use Rattle.law_http.specs.Streaming as stream;
 ghost use Rattle.law_http.specs.Turns as spec;
 
 use crate::putting::{Turn, either, end_where, is_fault, leave, put_before, refuse};
-use crate::{Heard, MessageRefusal, Request, Rest, read_request, respond};
+use crate::responding::respond_by;
+use crate::{Heard, MessageRefusal, Request, Rest, Routes, read_request};
 use desk_base::{Link, Steps};
 use law_register::Desk;
 use std::alloc::Global;
@@ -39,6 +40,7 @@ pub struct Served {
 
 fn answer<K: Link, D: Desk, L: Ledger>(
     alloc: Global,
+    routes: Option<&Routes>,
     link: &mut K,
     desk: &mut D,
     request: &Request,
@@ -55,7 +57,7 @@ fn answer<K: Link, D: Desk, L: Ledger>(
     ensures room { K.room link.new ≡ K.room link.old }
     ensures origin { K.origin link.new ≡ K.origin link.old }
 {
-    let response = respond(alloc, desk, request, steps);
+    let response = respond_by(alloc, routes, desk, request, steps);
     let end = put_before(link, &response, end_where(request.last));
     let faulted = is_fault(&response);
     Turn { end, faulted }
@@ -64,6 +66,7 @@ fn answer<K: Link, D: Desk, L: Ledger>(
 // What comes of a member of the stream.
 fn act_on<K: Link, D: Desk, L: Ledger>(
     alloc: Global,
+    routes: Option<&Routes>,
     link: &mut K,
     desk: &mut D,
     heard: &Heard,
@@ -82,7 +85,7 @@ fn act_on<K: Link, D: Desk, L: Ledger>(
     ensures origin { K.origin link.new ≡ K.origin link.old }
 {
     match heard {
-        Heard::Request(request) => answer(alloc, link, desk, request, steps),
+        Heard::Request(request) => answer(alloc, routes, link, desk, request, steps),
         Heard::End => Turn {
             end: Some(StreamEnd::End),
             faulted: false,
@@ -96,6 +99,7 @@ fn act_on<K: Link, D: Desk, L: Ledger>(
 
 fn take_turn<K: Link, D: Desk, L: Ledger>(
     alloc: Global,
+    routes: Option<&Routes>,
     link: &mut K,
     rest: &mut Rest,
     desk: &mut D,
@@ -113,7 +117,7 @@ fn take_turn<K: Link, D: Desk, L: Ledger>(
     ensures origin { K.origin link.new ≡ K.origin link.old }
 {
     match read_request(alloc, link, rest) {
-        Ok(heard) => act_on(alloc, link, desk, &heard, steps),
+        Ok(heard) => act_on(alloc, routes, link, desk, &heard, steps),
         Err(fault) => Turn {
             end: leave(link, fault),
             faulted: false,
@@ -138,10 +142,11 @@ pub fn serve_stream<K: Link, D: Desk, L: Ledger>(
     ensures origin { K.origin link.new ≡ K.origin link.old }
     ensures desk_origin { (D.state desk.new).origin ≡ (D.state desk.old).origin }
 {
+    let routes = Routes::new(alloc).ok();
     let mut rest = Rest::new();
     let mut faulted = false;
     'turns: loop {
-        let turn = take_turn(alloc, link, &mut rest, desk, steps);
+        let turn = take_turn(alloc, routes.as_ref(), link, &mut rest, desk, steps);
         faulted = either(faulted, turn.faulted);
         match turn.end {
             Some(end) => return Served { end, faulted },

@@ -61,14 +61,8 @@ shared_send = search (knot.both_send-Nodes, knot.both_sync-Nodes, sendable, cros
 pub act_field_send : IsSend (act.the_field).row
 act_field_send = search (shared_send, work.the_send, day.the_send, numbering.the_field_send, period.the_field_send, sendable, crosses) depth 30 fits 30000
 
-pub act_send : IsSend act.the_row
-act_send = search (act_field_send, sendable) depth 10
-
 pub textual_field_send : IsSend (textual.the_field).row
 textual_field_send = search (shared_send, text.the_send, num.the_send, pairs.the_send, pos.the_field_send, split_at.the_field_send, spot.the_field_send, text_pos.the_field_send, sendable, crosses) depth 30 fits 30000
-
-pub textual_send : IsSend textual.the_row
-textual_send = search (textual_field_send, sendable) depth 10
 
 pub modification_field_send : IsSend (modification.the_field).row
 modification_field_send = search (textual_field_send, source.the_field_send, destination.the_field_send, period.the_field_send, day.the_send, force.the_field_send, efficacy.the_field_send, sendable, crosses) depth 30 fits 30000
@@ -78,9 +72,6 @@ modification_send = search (modification_field_send, sendable) depth 10
 
 pub command_field_send : IsSend (command.the_field).row
 command_field_send = search (act_field_send, modification_field_send, modification_send, series.the_send, work.the_send, id.the_field_send, sendable, crosses) depth 30 fits 30000
-
-pub command_send : IsSend command.the_row
-command_send = search (command_field_send, sendable) depth 10
 
 pub entry_field_send : IsSend (entry.the_field).row
 entry_field_send = search (command_field_send, drafter.the_send, day.the_send, sendable, crosses) depth 30 fits 30000
@@ -96,9 +87,6 @@ known_mod_send = search (known_mod_field_send, sendable) depth 10
 
 pub known_field_send : IsSend (known.the_field).row
 known_field_send = search (act_field_send, known_mod_send, series.the_send, sendable, crosses) depth 30 fits 30000
-
-pub known_send : IsSend known.the_row
-known_send = search (known_field_send, sendable) depth 10
 
 pub register_send : IsSend register.the_row
 register_send = search (entry_send, indexes.the_field_send, sendable, crosses) depth 30 fits 30000
@@ -117,9 +105,6 @@ work_revision_send = search (work_revision_field_send, sendable) depth 10
 
 pub changes_field_send : IsSend (changes.the_field).row
 changes_field_send = search (work_tables_send, work_revision_send, work.the_send, sendable, crosses) depth 30 fits 30000
-
-pub changes_send : IsSend changes.the_row
-changes_send = search (changes_field_send, sendable) depth 10
 
 pub pending_field_send : IsSend (pending.the_field).row
 pending_field_send = search (entry_field_send, changes_field_send, sendable, crosses) depth 30 fits 30000

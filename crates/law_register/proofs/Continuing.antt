@@ -17,9 +17,9 @@ use Rattle.law_register.specs.Answer.Soundness.{IsReplayed, IsSoundBody, id_twic
 use Rattle.law_register.proofs.ApartIds.{one_less}
 
 -- the act as enacted is as replay makes a version
-pub enacted_replayed : (act : Act) → first_fault act.numbering (branches_of act.body) ≡ None → (v : VersionValue) → v ≡ as_enacted act → IsReplayed v
+pub enacted_replayed : (act : Act) → first_fault act.numbering act.limit (branches_of act.body) ≡ None → (v : VersionValue) → v ≡ as_enacted act → IsReplayed v
 enacted_replayed act sound v is = subst IsReplayed (sym is) (record {
-  fits = enacted_fits act.numbering (branches_of act.body) sound;
+  fits = enacted_fits act.numbering act.limit (branches_of act.body) sound;
   fresh = λ other law item none. enacted_brings_none act.numbering (branches_of act.body) other;
   changes = refl;
 })

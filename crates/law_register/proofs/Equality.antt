@@ -10,6 +10,8 @@ use Rattle.desk_base.specs.declared.id.Id.{Id}
 use Rattle.desk_base.specs.declared.period.Period.{Period}
 use Rattle.eid_paths.proofs.Equality.{numberings_decide}
 use Rattle.act_tree.specs.SameNodes.{nodes_decide}
+use Rattle.act_tree.specs.contracts.limits.NodeLimitPartialEq.TheImpl as limits
+use Rattle.act_tree.specs.declared.limits.NodeLimit.{NodeLimit}
 use Rattle.bearing_mods.specs.contracts.efficacy.EfficacyEffectPartialEq.TheImpl as efficacies
 use Rattle.bearing_mods.specs.contracts.force.ForceEffectPartialEq.TheImpl as forces
 use Rattle.bearing_mods.specs.declared.efficacy.EfficacyEffect.{EfficacyEffect}
@@ -35,6 +37,9 @@ ids_decide a b = search rules
 
 periods_decide : (a b : Period) → Decides (periods.ghosts.eq a b) (a ≡ b)
 periods_decide a b = search rules
+
+limits_decide : (a b : NodeLimit) → Decides (limits.ghosts.eq a b) (a ≡ b)
+limits_decide a b = search rules
 
 forces_decide : (a b : ForceEffect) → Decides (forces.ghosts.eq a b) (a ≡ b)
 forces_decide a b = search rules
@@ -76,8 +81,9 @@ acts_decide a b =
       language = h.1.0 i;
       day = h.1.1.0 i;
       numbering = h.1.1.1.0 i;
-      force = h.1.1.1.1.0 i;
-      body = h.1.1.1.1.1 i;
+      limit = h.1.1.1.1.0 i;
+      force = h.1.1.1.1.1.0 i;
+      body = h.1.1.1.1.1.1 i;
     })
     (λ e. (
       ap (λ (x : Act). x.work) e,
@@ -85,13 +91,16 @@ acts_decide a b =
         ap (λ (x : Act). x.language) e,
         (
           ap (λ (x : Act). x.day) e,
-          (ap (λ (x : Act). x.numbering) e, (ap (λ (x : Act). x.force) e, ap (λ (x : Act). x.body) e)),
+          (
+            ap (λ (x : Act). x.numbering) e,
+            (ap (λ (x : Act). x.limit) e, (ap (λ (x : Act). x.force) e, ap (λ (x : Act). x.body) e)),
+          ),
         ),
       ),
     ))
     (Decides-and _ _ (bytes_decides a.work b.work) (Decides-and _ _ (bytes_decides a.language b.language)
     (Decides-and _ _ (unsigned_Decides a.day b.day) (Decides-and _ _ (numberings_decide a.numbering b.numbering)
-    (Decides-and _ _ (periods_decide a.force b.force) (nodes_decide a.body b.body))))))
+    (Decides-and _ _ (limits_decide a.limit b.limit) (Decides-and _ _ (periods_decide a.force b.force) (nodes_decide a.body b.body)))))))
 
 told_command : (a b : Command) → commands.ghosts.eq a b ≡ true → a ≡ b
 told_command (Enact a) (Enact b) h = ap Enact ((acts_decide a b).0 h)

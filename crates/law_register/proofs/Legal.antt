@@ -14,6 +14,7 @@ use Rattle.law_register.specs.declared.register.verdict.Reply.{Reply}
 use Rattle.law_register.specs.declared.register.verdict.Verdict.TheVariants.{Accepted, Repeat, Refused}
 use Rattle.law_register.specs.Register.Drafts.{additions, added, is_by, draft_of}
 use Rattle.law_register.specs.Register.LawList.{law_command, law_of, laws, front}
+use Rattle.law_register.specs.Law.Formats.{format_of}
 use Rattle.law_register.specs.Law.Same.{same_number}
 use Rattle.desk_base.specs.Sizes.{name_size}
 use Rattle.law_register.specs.Law.Sizes.{command_size, size_of, entry_size, entries_size}
@@ -171,7 +172,7 @@ one_addition true (Restore id) = omega arith
 one_addition true (File work seen) = omega arith
 
 pub some_size : (d : List ℕ) (c : Command) → 1 ≤ size_of d c
-some_size d c = more (name_size d) (command_size c)
+some_size d c = more (name_size d) (command_size (format_of c) c)
   where
     more : (n k : ℕ) → 1 ≤ 1 + n + 8 + 4 + 4 + k
     more n k = omega arith

@@ -6,6 +6,7 @@ pub mod ShortNames
 pub mod Lookups
 pub mod Empty
 pub mod Equality
+pub mod Formats
 pub mod Legal
 pub mod Steps
 pub mod Marking

@@ -148,7 +148,7 @@ law_sound id ls draft (File w seen) kept items h =
 -- the act of a work
 abbrev ActSound : Option (ℕ × Act) → Type 0
 ActSound None = Unit {0}
-ActSound (Some found) = first_fault found.1.numbering (branches_of found.1.body) ≡ None
+ActSound (Some found) = first_fault found.1.numbering found.1.limit (branches_of found.1.body) ≡ None
 
 first_sound : (a b : Option (ℕ × Act)) → ActSound a → ActSound b → ActSound (first_act a b)
 first_sound None b h i = i

@@ -16,6 +16,9 @@ use Rattle.act_tree.specs.Branches.{Branch, Branches, branch, no_branches, more_
 use Rattle.act_tree.specs.Faults.{all_eids, first_fault, is_long, has_long, have_long}
 use Rattle.act_tree.specs.Provisions.{Own}
 use Rattle.act_tree.specs.Wids.{one_twice}
+use Rattle.act_tree.specs.NodeLimits.{most_nodes}
+use Rattle.act_tree.specs.declared.limits.NodeLimit.{NodeLimit}
+use Rattle.act_tree.specs.declared.limits.NodeLimit.TheVariants.{Plain, Wide}
 use Rattle.act_tree.specs.declared.build_fault.BuildFault.{BuildFault}
 use Rattle.act_tree.specs.declared.build_fault.BuildFault.TheVariants.{EidTwice, TooDeep, TooManyNodes, TextTooLong}
 use Rattle.textual_mods.specs.declared.edit.Spot.{Spot}
@@ -36,7 +39,7 @@ use Rattle.act_tree.specs.Limits.{has_few_refs, have_few_refs, is_wid}
 use Rattle.textual_mods.specs.EditLimits.{text_fits, spot_fits, payload_fits, text_pos_fits, split_at_fits, edit_fits, payload_fault}
 use Rattle.law_register.specs.Law.Bounds.{destination_fits, modification_fits, brought_fault}
 use Rattle.law_register.specs.Law.Same.{same_number}
-use Rattle.law_register.specs.Law.Spelling.{is_spelled_node, are_spelled_nodes, is_spelled_day, is_spelled_edit, is_spelled_modification, are_spelled_modifications, is_spelled_act, is_well_spelled}
+use Rattle.law_register.specs.Law.Spelling.{is_spelled_node, is_spelled_source, are_spelled_nodes, is_spelled_day, is_spelled_edit, is_spelled_modification, are_spelled_modifications, is_spelled_act, is_well_spelled}
 use Rattle.law_register.specs.Law.Spellable.{is_counted, can_spell_own, can_spell_node, can_spell_nodes, can_spell_payload, can_spell_text_pos, can_spell_split_at, can_spell_edit, can_spell_destination, can_spell_modification, can_spell_command, can_be_spelled, can_all_be_spelled}
 use Rattle.law_register.specs.Register.LawList.{front}
 use Rattle.law_register.specs.Register.Registers.{are_well_spelled}
@@ -143,7 +146,7 @@ own_can own long few spelled =
     (and_true (is_counted own.refs) (list_all is_counted own.refs) (counted (length own.refs) (omega (arith, at_most (length own.refs) 16 few))) (refs_counted own.refs spelled)))
 
 mutual
-  node_can : (b : Branch Own) → count b ≤ 4096 → has_long b ≡ false → has_few_refs b ≡ true → is_spelled_node b ≡ true → can_spell_node b ≡ true
+  node_can : (b : Branch Own) → count b ≤ 8192 → has_long b ≡ false → has_few_refs b ≡ true → is_spelled_node b ≡ true → can_spell_node b ≡ true
   node_can (branch own below) small long few spelled =
       and_true (can_spell_own own) (is_counted (listed below) && can_spell_nodes below)
       (own_can own (neither_left (is_long own) (have_long below) long) (left_true (nat_le (length own.refs) 16) (have_few_refs below) few)
@@ -152,7 +155,7 @@ mutual
       (nodes_can below (omega (arith, small)) (neither_right (is_long own) (have_long below) long)
       (right_true (nat_le (length own.refs) 16) (have_few_refs below) few) (right_true (list_all is_expression own.refs) (are_spelled_nodes below) spelled)))
 
-  nodes_can : (bs : Branches Own) → counts bs ≤ 4096 → have_long bs ≡ false → have_few_refs bs ≡ true → are_spelled_nodes bs ≡ true → can_spell_nodes bs ≡ true
+  nodes_can : (bs : Branches Own) → counts bs ≤ 8192 → have_long bs ≡ false → have_few_refs bs ≡ true → are_spelled_nodes bs ≡ true → can_spell_nodes bs ≡ true
   nodes_can no_branches small long few spelled = refl
   nodes_can (more_branches b bs) small long few spelled =
       and_true (can_spell_node b) (can_spell_nodes bs)
@@ -164,25 +167,29 @@ mutual
 -- nodes without a fault are few, not deep and not long
 record IsSmall (bs : Branches Own) : Type 0 where
   deep : heights bs ≤ 12
-  few : counts bs ≤ 4096
+  few : counts bs ≤ 8192
   long : have_long bs ≡ false
 
-small : (numbering : Numbering) (bs : Branches Own) → first_fault numbering bs ≡ None → IsSmall bs
-small numbering bs h = by (one_twice (all_eids numbering None bs)) (nat_lt 12 (heights bs)) (nat_lt 4096 (counts bs)) (have_long bs) refl refl refl h
+no_limit_above : (limit : NodeLimit) → most_nodes limit ≤ 8192
+no_limit_above Plain = omega arith
+no_limit_above Wide = omega arith
+
+small : (numbering : Numbering) (limit : NodeLimit) (bs : Branches Own) → first_fault numbering limit bs ≡ None → IsSmall bs
+small numbering limit bs h = by (one_twice (all_eids numbering None bs)) (nat_lt 12 (heights bs)) (nat_lt (most_nodes limit) (counts bs)) (have_long bs) refl refl refl h
   where
-    by : (a b c d : Bool) → nat_lt 12 (heights bs) ≡ b → nat_lt 4096 (counts bs) ≡ c → have_long bs ≡ d
+    by : (a b c d : Bool) → nat_lt 12 (heights bs) ≡ b → nat_lt (most_nodes limit) (counts bs) ≡ c → have_long bs ≡ d
         → cond a (Some EidTwice) (cond b (Some TooDeep) (cond c (Some TooManyNodes) (cond d (Some TextTooLong) None))) ≡ None → IsSmall bs
     by true b c d deep few long h = cc
     by false true c d deep few long h = cc
     by false false true d deep few long h = cc
     by false false false true deep few long h = cc
     by false false false false deep few long h =
-        record { deep = not_above 12 (heights bs) deep; few = not_above 4096 (counts bs) few; long = long }
+        record { deep = not_above 12 (heights bs) deep; few = omega (arith, not_above (most_nodes limit) (counts bs) few, no_limit_above limit); long = long }
 
-payload_can : (numbering : Numbering) (nodes : List (Branch Own)) → first_fault numbering (branches_of nodes) ≡ None → have_few_refs (branches_of nodes) ≡ true
+payload_can : (numbering : Numbering) (limit : NodeLimit) (nodes : List (Branch Own)) → first_fault numbering limit (branches_of nodes) ≡ None → have_few_refs (branches_of nodes) ≡ true
     → are_spelled_nodes (branches_of nodes) ≡ true → can_spell_payload nodes ≡ true
-payload_can numbering nodes sound few spelled =
-    let is = small numbering (branches_of nodes) sound in
+payload_can numbering limit nodes sound few spelled =
+    let is = small numbering limit (branches_of nodes) sound in
     and_true (is_counted nodes) (nat_le (heights (branches_of nodes)) 12 && can_spell_nodes (branches_of nodes))
     (counted (length nodes) (omega (arith, listed_few (branches_of nodes), ap length (listed-branches_of nodes), is.few)))
     (and_true (nat_le (heights (branches_of nodes)) 12) (can_spell_nodes (branches_of nodes)) (within (heights (branches_of nodes)) is.deep)
@@ -221,10 +228,10 @@ edit_can : (edit : TextualMod) → payload_fault edit ≡ None → edit_fits edi
 edit_can (Repeal wid) sound fits spelled = wid_can wid fits
 edit_can (SubstituteNodes wid new) sound fits spelled =
     and_true (is_counted wid) (can_spell_payload new) (wid_can wid (left_true (is_wid wid) (payload_fits new) fits))
-    (payload_can _ new sound (right_true (nat_lt 0 (length new) && nat_le (length new) 64) (have_few_refs (branches_of new)) (right_true (is_wid wid) (payload_fits new) fits)) spelled)
+    (payload_can _ Plain new sound (right_true (nat_lt 0 (length new) && nat_le (length new) 64) (have_few_refs (branches_of new)) (right_true (is_wid wid) (payload_fits new) fits)) spelled)
 edit_can (InsertNodes wid pos new) sound fits spelled =
     and_true (is_counted wid) (can_spell_payload new) (wid_can wid (left_true (is_wid wid) (payload_fits new) fits))
-    (payload_can _ new sound (right_true (nat_lt 0 (length new) && nat_le (length new) 64) (have_few_refs (branches_of new)) (right_true (is_wid wid) (payload_fits new) fits)) spelled)
+    (payload_can _ Plain new sound (right_true (nat_lt 0 (length new) && nat_le (length new) 64) (have_few_refs (branches_of new)) (right_true (is_wid wid) (payload_fits new) fits)) spelled)
 edit_can (SubstituteText wid spot new) sound fits spelled =
     let front = left_true (is_wid wid && spot_fits spot) (text_fits new) fits in
     and_true (is_counted wid) (is_counted spot.old && is_counted new) (wid_can wid (left_true (is_wid wid) (spot_fits spot) front))
@@ -260,7 +267,8 @@ no_fault None h = refl
 no_fault (Some fault) h = cc
 
 modification_can : (m : Modification) → brought_fault m ≡ None → modification_fits m ≡ true → is_spelled_modification m ≡ true → can_spell_modification m ≡ true
-modification_can (Textual source force edit) sound fits spelled = edit_can edit sound fits spelled
+modification_can (Textual source force edit) sound fits spelled =
+    edit_can edit sound fits (right_true (is_spelled_source source) (is_spelled_edit edit) spelled)
 modification_can (Force source destination on effect) sound fits spelled = destination_can destination fits
 modification_can (Efficacy source destination on effect) sound fits spelled = destination_can destination fits
 
@@ -285,7 +293,7 @@ one_can m sound fits spelled =
 command_can : (c : Command) → bad_tree c ≡ None → bad_modification c ≡ None → is_well_spelled c ≡ true → can_spell_command c ≡ true
 unfolding is_well_spelled is_spelled_act are_spelled_modifications
 command_can (Enact act) tree fits spelled =
-    payload_can act.numbering act.body (no_fault _ tree)
+    payload_can act.numbering act.limit act.body (no_fault _ tree)
     (kept_test (have_few_refs (branches_of act.body)) (not_broken (not (have_few_refs (branches_of act.body))) _ fits))
     (right_true (is_language act.language && is_spelled_day (date_named act.work) act.day) (are_spelled_nodes (branches_of act.body)) spelled)
 command_can (Record work mods) tree fits spelled =

@@ -1,11 +1,15 @@
 //! What holds of commands and of registers. Each law is a function that does nothing, whose clause is the law.
 
 ghost use Rattle.std.specs.Prelude.{◌≡◌, ◌≤◌, ◌↔◌, ◌++◌, ◌∷◌, [], ◌&&◌, ℕ, List, IsTrue, false, true, length, map, Option, None, Some, option_map, slice_get};
-ghost use Rattle.std.specs.List.{AllByRecursion};
+ghost use Rattle.std.specs.List.{AllByRecursion, list_any};
 ghost use Rattle.std.specs.Option.{option_to_list};
+ghost use Rattle.desk_base.specs.declared.id.Id.{Id};
+ghost use Rattle.act_tree.specs.declared.limits.NodeLimit.TheVariants.{Wide};
 ghost use Rattle.law_register.specs.declared.law.act.Act.{Act};
 ghost use Rattle.law_register.specs.declared.law.command.Command.{Command as CommandValue};
-ghost use Rattle.law_register.specs.declared.law.command.Command.TheVariants.{Enact};
+ghost use Rattle.law_register.specs.declared.law.command.Command.TheVariants.{Correct, DraftAdd, DraftDrop, Enact, File, Record, Restore, Withdraw};
+ghost use Rattle.law_register.specs.declared.law.format.EntryFormat.TheVariants.{First, Second};
+ghost use Rattle.law_register.specs.declared.law.modification.Modification.{Modification as ModificationValue};
 ghost use Rattle.law_register.specs.declared.register.entry.Entry.{Entry};
 ghost use Rattle.law_register.specs.declared.register.known.Known.{Known as KnownValue};
 ghost use Rattle.law_register.specs.declared.register.limits.TheConstants as limits;
@@ -19,12 +23,15 @@ ghost use Rattle.law_register.specs.Register.Drafters.{is_drafter};
 ghost use Rattle.law_register.specs.Register.KnownIds.{enacted, ids_of, known_at};
 ghost use Rattle.law_register.specs.Register.KnownNext.{at_viewpoint, bare, known_next, known_now, up_to};
 ghost use Rattle.law_register.specs.Register.LawList.{laws, law_of, front, law_numbers, first_numbers};
+ghost use Rattle.law_register.specs.Law.Formats.{format_of};
 ghost use Rattle.law_register.specs.Law.Same.{same_command};
 ghost use Rattle.law_register.specs.Law.Sizes.{entry_size};
+ghost use Rattle.law_register.specs.Law.Sources.{names_provision};
 ghost use Rattle.law_register.specs.Law.Spellable.{can_all_be_spelled, can_be_spelled};
 ghost use Rattle.law_register.specs.Law.Spelling.{is_well_spelled};
 ghost use Rattle.law_register.specs.Register.Registers.{are_well_spelled};
 ghost use Rattle.law_register.specs.Register.Verdicts.{is_accepted, is_legal, verdict};
+ghost use Rattle.law_register.specs.declared.register.limits.TheConstants.{MOST_IDS, MOST_REGISTER_BYTES};
 
 use crate::{Command, Drafter, Entry, Register};
 use frbr_names::WorkName;
@@ -44,6 +51,23 @@ pub fn limits_are_these()
 pub fn equality_is_decided()
     ensures commands { (a b : CommandValue) → IsTrue (⟦<Command as PartialEq>⟧.eq a b) ↔ (a ≡ b) }
     ensures repeats { (a b : CommandValue) → IsTrue (same_command a b) ↔ (a ≡ b) }
+{}
+
+/// A command asks for the second format exactly where the act that it enacts is wide, or one of the modifications that it
+/// brings names the provision of its source; what brings neither act nor modification is spelled in the first.
+#[tactic(auto, unfolding(crate::specs::Law::Formats::asks_second))]
+pub fn formats_go_by_need()
+    ensures enacting { (act : Act) → (format_of (Enact act) ≡ Second) ↔ (act.limit ≡ Wide) }
+    ensures recording { (work : List ℕ) (mods : List ModificationValue)
+        → (format_of (Record work mods) ≡ Second) ↔ IsTrue (list_any names_provision mods) }
+    ensures correcting { (id : Id) (body : ModificationValue)
+        → (format_of (Correct id body) ≡ Second) ↔ IsTrue (names_provision body) }
+    ensures drafting { (work : List ℕ) (body : ModificationValue)
+        → (format_of (DraftAdd work body) ≡ Second) ↔ IsTrue (names_provision body) }
+    ensures withdrawing { (id : Id) → format_of (Withdraw id) ≡ First }
+    ensures restoring { (id : Id) → format_of (Restore id) ≡ First }
+    ensures dropping { (item : ℕ) → format_of (DraftDrop item) ≡ First }
+    ensures filing { (work : List ℕ) (seen : ℕ) → format_of (File work seen) ≡ First }
 {}
 
 /// The entries of a register are legal.
@@ -100,7 +124,7 @@ pub fn accepted_are_small(_register: &Register, _entry: &Entry)
 
 /// A register has 536,870,912 entries at most.
 pub fn entries_are_few(register: &Register)
-    ensures { length register.now.entries ≤ 536870912 }
+    ensures { length register.now.entries ≤ MOST_REGISTER_BYTES }
 {
     let _ = &register.entries;
 }
@@ -137,7 +161,7 @@ pub fn laws_are_numbered(register: &Register)
 
 /// A work has 512 ids at most.
 pub fn ids_are_few(register: &Register, _work: &WorkName)
-    ensures { length (ids_of _work.now (laws register.now.entries)) ≤ 512 }
+    ensures { length (ids_of _work.now (laws register.now.entries)) ≤ MOST_IDS }
 {
     let _ = &register.entries;
 }

@@ -16,7 +16,9 @@ pub use answer::{
     enact,
 };
 pub use desk::{CommandFault, Damage, Desk, Event, FaultMark, OpenFault};
-pub use law::{Act, Command, Destination, Kind, ModSource, Modification, Mods, entry_size};
+pub use law::{
+    Act, Command, Destination, EntryFormat, Kind, ModSource, Modification, Mods, entry_size,
+};
 pub use register::{
     Draft, DraftItem, Drafter, EnterFault, Entry, Known, KnownMod, KnownMods, Register, Reply,
     Rule, Standing, Verdict, known_after, known_at, known_enacted,

@@ -1,6 +1,8 @@
 //! What could not be applied on a day, as a table: a row for each modification of each work.
 
 ghost use Rattle.std.specs.Prelude.{◌≡◌, ◌++◌, ◌∷◌, [], IfOk, OnOk, map};
+ghost use Rattle.law_register.specs.declared.answer.question.Reading.TheVariants.{Force};
+ghost use Rattle.law_register.specs.Answer.Replay.{replay_on};
 ghost use Rattle.law_register.specs.Answer.Soundness.{IsSound};
 ghost use Rattle.law_reports.specs.Tables.{IsOpen, row, rows_text, table_text, written};
 ghost use Rattle.law_reports.specs.Unapplied as spec;
@@ -56,6 +58,26 @@ fn add_all(
     Ok(())
 }
 
+// Adds the rows of a work on a day that its act does not come after.
+fn add_replayed<P: Replayer, L: Ledger>(
+    alloc: Global,
+    replayer: &P,
+    table: &mut Table,
+    work: &WorkName,
+    known: &Known,
+    day: Day,
+    steps: &mut Steps<L>,
+) -> Result<(), Memory>
+    requires ready { IsOpen table.old }
+    requires sound { IsSound known.now }
+    ensures rows { OnOk result (written table.new
+        ≡ written table.old ++ rows_text (map (spec.unapplied_row work.now) (replay_on known.now Force day).unapplied)) }
+    ensures ready { OnOk result (IsOpen table.new) }
+{
+    let version = replayer.replay(alloc, known, Reading::Force, day, steps)?;
+    add_all(alloc, table, work, version.unapplied.as_slice())
+}
+
 // Adds the rows of a work that is known.
 fn add_known<P: Replayer, L: Ledger>(
     alloc: Global,
@@ -75,8 +97,7 @@ fn add_known<P: Replayer, L: Ledger>(
     if day < known.act.day {
         return Ok(());
     }
-    let version = replayer.replay(alloc, known, Reading::Force, day, steps)?;
-    add_all(alloc, table, work, version.unapplied.as_slice())
+    add_replayed(alloc, replayer, table, work, known, day, steps)
 }
 
 // Adds the rows of a work.

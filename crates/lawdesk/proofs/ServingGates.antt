@@ -7,7 +7,7 @@ use Rattle.desk_gates.specs.Tallies.{Tally}
 use Rattle.atomic_table.specs.Seated.{TableId}
 use Rattle.turn_lock.specs.declared.pass.Pass.{Pass}
 use Rattle.turn_lock.specs.declared.turns.Turns.{Turns}
-use Rattle.turn_lock.specs.Passes.{seen_by, made_by, share_of, IsPassOf, BeganAs}
+use Rattle.turn_lock.specs.Passes.{seen_by, made_by, share_of, BeganAs}
 use Rattle.turn_lock.specs.Turned.{id_of}
 use Rattle.desk_base.specs.Streams.{risen}
 use Rattle.law_http.specs.Connections.{StaysPass}
@@ -15,7 +15,7 @@ use Rattle.law_register.specs.Desk.History.{entries_of}
 use Rattle.law_register.specs.Register.Verdicts.{is_legal}
 use Rattle.lawdesk.specs.declared.serving.hand.Hand.{Hand}
 use Rattle.law_register.specs.declared.desk.event.Event.{Event}
-use Rattle.lawdesk.specs.ServingWork.{Visit, Moment, Stint, AreNewHands, AreVisitsAnswered, HasAttended, HasJoined, HasListened, HaveJoined, HaveServed, HaveWorked, HasWorked, IsNewHand, IsSettled, MayAttend, MayServe, WasServed, WereServed, and_more, counted, made_in, made_with, moment_of, some_failed, some_wants_memory, with_visits}
+use Rattle.lawdesk.specs.ServingWork.{Visit, Moment, Stint, AreNewHands, AreVisitsAnswered, HasAttended, HasJoined, HasListened, HaveJoined, HaveServed, HaveWorked, HasWorked, IsNewHand, MayServe, WasServed, WereServed, and_more, counted, made_in, made_with, moment_of, some_failed, some_wants_memory, with_visits}
 use Rattle.lawdesk.proofs.ServingWorks.{none_told}
 
 pub prefix_self : {A : Type 0} (xs : List A) → IsPrefix xs xs
@@ -31,20 +31,6 @@ moment seen made = record { seen = seen; made = made }
 new_moment : {T : Type 0} (turns : TableId) (seen : List Event) (hand : Hand T Event) → IsNewHand turns seen hand
     → moment_of hand.pass ≡ record { seen = seen; made = 0 }
 new_moment turns seen hand new = ap (λ s. moment s (made_by hand.pass)) new.knows ∙ ap (λ m. moment seen m) new.none_made
-
-module _ {G T : Type 0} (listens : G → Bool) (tally : G → Tally) (faults : G → ℕ) where
-  -- a worker may begin once its gate was asked to listen
-  pub may_attend : (turns : TableId) (seen : List Event) (gate gate_new : G) (hand hand_new : Hand T Event)
-      → is_legal (entries_of seen) ≡ true → IsSettled tally gate → IsNewHand turns seen hand
-      → HasListened listens tally faults gate gate_new hand hand_new → MayAttend listens tally turns gate_new hand_new
-  may_attend turns seen gate gate_new hand hand_new legal settled new listened = record {
-    own = subst (IsPassOf turns) (sym listened.pass) new.own;
-    legal = subst (λ s. is_legal (entries_of s) ≡ true) (sym (ap seen_by listened.pass ∙ new.knows)) legal;
-    ready = λ whole. record {
-      gives = listened.gives whole;
-      settled = ap (λ (t : Tally). t.given) listened.told ∙ settled ∙ sym (ap (λ (t : Tally). t.taken) listened.told);
-    };
-  }
 
 module _ {C : Type 0} (left written : C → Option (List ℕ)) (read_faults write_faults : C → ℕ) where
   module _ {G : Type 0} (tally : G → Tally) (faults : G → ℕ) where

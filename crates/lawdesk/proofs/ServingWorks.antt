@@ -3,7 +3,6 @@ use Rattle.std.proofs.Common.{◌≡◌, ◌≤◌, ◌<◌, ◌||◌, ◌+◌, 
 use Rattle.std.specs.List.{list_any}
 use Rattle.std.proofs.lemmas.List.{map-append}
 use Rattle.std.proofs.lemmas.List.Folds.{list_any-append}
-use Rattle.desk_base.specs.Streams.{risen}
 use Rattle.desk_gates.specs.Tallies.{Ended, Tally, and_one, ended, with_given, with_taken}
 use Rattle.turn_lock.specs.Passes.{IsPassOf}
 use Rattle.turn_lock.specs.Turned.{id_of}
@@ -75,19 +74,6 @@ module _ {C : Type 0} (left written : C → Option (List ℕ)) (read_faults writ
     few = omega arith;
     all = λ _. refl;
     cause = refl;
-    wants = sym (or_none w);
-  }
-
-  -- the gate failed
-  pub failed_worked : (n : ℕ) (t u : Tally) (f g : ℕ) (m : Moment) (w : Bool) → u ≡ t → g ≡ risen f
-      → HasWorked left written read_faults write_faults n t u f g m m w true w
-  failed_worked n t u f g m w same rose = record {
-    visits = [];
-    told = same ∙ none_told t;
-    answered = refl;
-    few = omega arith;
-    all = λ whole. absurd (cc whole);
-    cause = rose;
     wants = sym (or_none w);
   }
 

@@ -1,10 +1,7 @@
 -- What follows of how a run told something: why the sink failed, and that no other status came of it.
-use Rattle.std.proofs.Common.{◌≡◌, ◌≢◌, ◌⊎◌, ◌∙◌, inl, inr, ℕ, List, Option, Some, None, Result, Ok, Err, ap, arith, refl, sym}
-use Rattle.desk_base.specs.Streams.{Appended, risen}
-use Rattle.desk_base.specs.declared.source.Failed.{Failed}
-use Rattle.dossier_text.proofs.Telling.{is_front}
+use Rattle.std.proofs.Common.{◌≡◌, ◌≢◌, ◌⊎◌, ◌∙◌, inl, inr, ℕ, List, Option, Result, ap, arith, sym}
+use Rattle.desk_base.specs.Streams.{risen}
 use Rattle.dossier_text.specs.Reports.{Told}
-use Rattle.dossier_text.specs.Runs.{IsWritten}
 use Rattle.law_follow.specs.Opening.{HasFirstCause}
 use Rattle.law_keeper.specs.Keepers.{Holding}
 use Rattle.law_register.specs.declared.desk.damage.Damage.{Damage}
@@ -13,28 +10,6 @@ use Rattle.law_register.specs.declared.desk.open_fault.OpenFault.{OpenFault}
 use Rattle.law_register.specs.declared.desk.open_fault.OpenFault.TheVariants as fails
 use Rattle.lawdesk.specs.Checking.{told_damage}
 use Rattle.lawdesk.specs.Telling.{EndsWith, IsToldInPart, IsToldWhole, Tells, TellsUnopened}
-
-is_written : (before now : Option (List ℕ)) (bytes : List ℕ) (done : Unit {0})
-    → Appended {E = Failed} before now bytes (Ok done) → IsWritten before now bytes
-is_written None now bytes done appended = tt
-is_written (Some before) now bytes done appended = appended
-
-module _ {W : Type 0} (written : W → Option (List ℕ)) (faults : W → ℕ) (sink sink_new : W) (told : Told) where
-  pub told_whole : (done : Unit {0}) → Appended {E = Failed} (written sink) (written sink_new) told.bytes (Ok done)
-      → faults sink_new ≡ faults sink → Tells written faults sink sink_new told.status told
-  told_whole done appended stays = inl (record {
-    status_is = refl;
-    bytes = is_written (written sink) (written sink_new) told.bytes done appended;
-    stays = stays;
-  })
-
-  pub told_in_part : (fault : Failed) → Appended (written sink) (written sink_new) told.bytes (Err fault)
-      → faults sink_new ≡ risen (faults sink) → Tells written faults sink sink_new 4 told
-  told_in_part fault appended rises = inr (inl (record {
-    status_is = refl;
-    bytes = is_front (written sink) (written sink_new) told.bytes fault appended;
-    rises = rises;
-  }))
 
 module _ {W : Type 0} (written : W → Option (List ℕ)) (faults : W → ℕ) (sink sink_new : W) (status : ℕ) where
   -- a fault of the sink is the cause of a 4, and there is none else

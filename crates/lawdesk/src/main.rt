@@ -23,7 +23,7 @@ ghost use Rattle.std.specs.declared.io.ErrorKind.TheVariants.{OutOfMemory};
 ghost use Rattle.lawdesk.specs.Jobs.{job_of};
 ghost use Rattle.lawdesk.specs.Statuses.{IsStatus};
 
-use desk_base::{Reading, UtcClock, Writing};
+use desk_base::{ReaderSource, UtcClock, WriterSink};
 use desk_gates::TcpGate;
 use law_journal::FileDisk;
 use law_keeper::{JournalKeeper, Keeper};
@@ -63,8 +63,8 @@ where
     ensures status { IsStatus result }
     ensures words { (result ≡ 2) ↔ (job_of (map string_bytes words.now) ≡ None) }
 {
-    let mut source = Reading::new(reader);
-    let mut sink = Writing::new(writer);
+    let mut source = ReaderSource::new(reader);
+    let mut sink = WriterSink::new(writer);
     let mut clock = UtcClock::new(rt);
     let shared = OnceLock::new();
     let mut gates = [

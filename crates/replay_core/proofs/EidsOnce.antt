@@ -46,7 +46,7 @@ pub eids_once : (known : Known) (reading : Reading) (day : ℕ) (t : Tree) → t
 eids_once known reading day t is = by (all_tried (as_enacted known.act).tree known.mods (as_enacted known.act) (order known reading day) (inr refl))
   where
     by : FitsOr (as_enacted known.act).tree (replay_on known reading day).tree → one_twice (eids_of (tree_view t)) ≡ false
-    by (inl fits) = (is_placed (tree_view t).numbering (all_owns (tree_view t).body) (faultless (tree_view t) (ap first_cause is ∙ fits))).once
+    by (inl fits) = (is_placed (tree_view t).numbering (tree_view t).limit (all_owns (tree_view t).body) (faultless (tree_view t) (ap first_cause is ∙ fits))).once
     by (inr same) =
         let enacted : tree_view t ≡ (as_enacted known.act).tree = is ∙ same in
         ap (λ (v : TreeValue). one_twice (eids_of v)) enacted

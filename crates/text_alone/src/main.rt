@@ -7,7 +7,7 @@ ghost use Rattle.std.specs.declared.io.ErrorKind.TheVariants.{OutOfMemory};
 ghost use Rattle.dossier_text.specs.Jobs.{text_job_of};
 ghost use Rattle.dossier_text.specs.Runs.{IsTextStatus};
 
-use desk_base::{Reading, Steps, Writing};
+use desk_base::{ReaderSource, Steps, WriterSink};
 use dossier_text::text_of_words;
 use std::alloc::Global;
 use std::env;
@@ -42,8 +42,8 @@ fn run_over<L: Ledger, H: Threads, R: Read + Drop, W: Write + Drop>(
     ensures words { (result ≡ 2) ↔ (text_job_of (map string_bytes words.now) ≡ None) }
 {
     let mut steps = Steps::<L>::start(rt, blank);
-    let mut source = Reading::new(reader);
-    let mut sink = Writing::new(writer);
+    let mut source = ReaderSource::new(reader);
+    let mut sink = WriterSink::new(writer);
     text_of_words(alloc, words, &mut source, &mut sink, &mut steps)
 }
 

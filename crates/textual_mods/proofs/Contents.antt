@@ -15,6 +15,9 @@ use Rattle.act_tree.specs.declared.build_fault.BuildFault.TheVariants.{TextTooLo
 use Rattle.act_tree.specs.declared.cause.Cause.TheVariants as causes
 use Rattle.textual_mods.specs.Edits.{unless_for, within_limits}
 use Rattle.textual_mods.proofs.Limits.{IsPlaced, is_placed, is_short, fault_of_length, faultless}
+use Rattle.act_tree.specs.declared.limits.TheConstants.{MAX_DEPTH, MAX_TEXT_BYTES}
+use Rattle.act_tree.specs.declared.limits.NodeLimit.{NodeLimit}
+use Rattle.act_tree.specs.NodeLimits.{most_nodes}
 
 -- what becomes of a provision and those behind it
 abbrev at_one : List ℕ → List ℕ → Branch Provision → Branches Provision → Branches Provision
@@ -84,7 +87,7 @@ both_false false t none = (refl, none)
 both_false true t none = absurd cc
 
 abbrev too_long : List ℕ → Bool
-too_long text = nat_lt 16384 (length text)
+too_long text = nat_lt MAX_TEXT_BYTES (length text)
 
 mutual
   long_at : (c w : List ℕ) (b : Branch Provision) (rest : Branches Provision) → has_long (owns b) ≡ false → have_long (all_owns (at_one c w b rest)) ≡ ((holds w b && too_long c) || have_long (all_owns rest))
@@ -106,36 +109,36 @@ mutual
       ∙ ap (λ s. (holds w b && too_long c) || s) (long_told c w bs t.1)
       ∙ either (holds w b) (any_holds w bs) (too_long c)
 
-fault_of_content : (n : Numbering) (c w : List ℕ) (bs : Branches Provision) → first_fault n (all_owns bs) ≡ None → any_holds w bs ≡ true
-    → first_fault n (all_owns (changed (with_content c) w bs)) ≡ cond (too_long c) (Some TextTooLong) None
-fault_of_content n c w bs none there =
-    let placed : IsPlaced n (all_owns bs) = is_placed n (all_owns bs) none in
-    let low : heights (all_owns bs) ≤ 12 = placed.low in
-    let few : counts (all_owns bs) ≤ 4096 = placed.few in
-    fault_of_length n (all_owns (changed (with_content c) w bs)) (too_long c)
+fault_of_content : (n : Numbering) (limit : NodeLimit) (c w : List ℕ) (bs : Branches Provision) → first_fault n limit (all_owns bs) ≡ None → any_holds w bs ≡ true
+    → first_fault n limit (all_owns (changed (with_content c) w bs)) ≡ cond (too_long c) (Some TextTooLong) None
+fault_of_content n limit c w bs none there =
+    let placed : IsPlaced n limit (all_owns bs) = is_placed n limit (all_owns bs) none in
+    let low : heights (all_owns bs) ≤ MAX_DEPTH = placed.low in
+    let few : counts (all_owns bs) ≤ most_nodes limit = placed.few in
+    fault_of_length n limit (all_owns (changed (with_content c) w bs)) (too_long c)
     (record {
       once = ap one_twice (eids_stay n None c w bs) ∙ placed.once;
       low = omega (arith, heights_stay c w bs);
       few = omega (arith, counts_stay c w bs);
     })
-    (long_told c w bs (is_short n (all_owns bs) none) ∙ ap (λ s. s && too_long c) there)
+    (long_told c w bs (is_short n limit (all_owns bs) none) ∙ ap (λ s. s && too_long c) there)
 
 -- the one cause that another content of a provision can bring
 pub cause_of_content : (t : TreeValue) (c w : List ℕ) → first_cause t ≡ None → any_holds w t.body ≡ true
-    → first_cause (record t { body = changed (with_content c) w t.body }) ≡ cond (nat_lt 16384 (length c)) (Some causes.TextTooLong) None
+    → first_cause (record t { body = changed (with_content c) w t.body }) ≡ cond (nat_lt MAX_TEXT_BYTES (length c)) (Some causes.TextTooLong) None
 cause_of_content t c w none there =
-    ap (λ f. option_map fault_cause f) (fault_of_content t.numbering c w t.body (faultless t none) there)
+    ap (λ f. option_map fault_cause f) (fault_of_content t.numbering t.limit c w t.body (faultless t none) there)
     ∙ cond_both (too_long c) (Some TextTooLong) None (λ f. option_map fault_cause f ≡ cond (too_long c) (Some causes.TextTooLong) None)
     (λ long. ap (λ s. cond s (Some causes.TextTooLong) None) (sym long))
     (λ short. ap (λ s. cond s (Some causes.TextTooLong) None) (sym short))
 
 -- a content that is not too long is not held back, and one that is too long is
-pub content_done : (t : TreeValue) (c w : List ℕ) → first_cause t ≡ None → any_holds w t.body ≡ true → length c ≤ 16384
+pub content_done : (t : TreeValue) (c w : List ℕ) → first_cause t ≡ None → any_holds w t.body ≡ true → length c ≤ MAX_TEXT_BYTES
     → within_limits t (Ok (changed (with_content c) w t.body)) ≡ Ok (changed (with_content c) w t.body)
 content_done t c w none there short =
-    ap (λ cause. unless_for cause (changed (with_content c) w t.body)) (cause_of_content t c w none there ∙ ap (λ s. cond s (Some causes.TextTooLong) None) (le-ltb 16384 (length c) short))
+    ap (λ cause. unless_for cause (changed (with_content c) w t.body)) (cause_of_content t c w none there ∙ ap (λ s. cond s (Some causes.TextTooLong) None) (le-ltb MAX_TEXT_BYTES (length c) short))
 
-pub content_long : (t : TreeValue) (c w : List ℕ) → first_cause t ≡ None → any_holds w t.body ≡ true → 16384 < length c
+pub content_long : (t : TreeValue) (c w : List ℕ) → first_cause t ≡ None → any_holds w t.body ≡ true → MAX_TEXT_BYTES < length c
     → within_limits t (Ok (changed (with_content c) w t.body)) ≡ Err causes.TextTooLong
 content_long t c w none there long =
-    ap (λ cause. unless_for cause (changed (with_content c) w t.body)) (cause_of_content t c w none there ∙ ap (λ s. cond s (Some causes.TextTooLong) None) (lt-ltb 16384 (length c) long))
+    ap (λ cause. unless_for cause (changed (with_content c) w t.body)) (cause_of_content t c w none there ∙ ap (λ s. cond s (Some causes.TextTooLong) None) (lt-ltb MAX_TEXT_BYTES (length c) long))

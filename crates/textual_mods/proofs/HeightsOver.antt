@@ -25,6 +25,7 @@ use Rattle.textual_mods.proofs.InsertedTrees.{heights_owns, root_says}
 use Rattle.textual_mods.proofs.LeftNodes.{left_none, left_more}
 use Rattle.textual_mods.proofs.Limits.{IsPlaced, is_placed}
 use Rattle.textual_mods.proofs.Substituted.{clean_left}
+use Rattle.act_tree.specs.declared.limits.NodeLimit.TheVariants.{Plain}
 
 module _ (at : ℕ → Option Laid) (number : List ℕ → Option ℕ) (size : ℕ) (whole : IsWhole at number size) (n : Numbering) (g : Option (List ℕ)) (w : List ℕ) (i high : ℕ) (leads : number w ≡ Some i) where
   -- how deep a number stands
@@ -75,7 +76,7 @@ reached t gone parent high node =
     (omega (arith, top, is.0, depth_is t parent node), λ held. omega (arith, top, is.1 held, depth_is t parent node))
 
 -- whether it is too deep, by the depth of a node that is left
-pub deep_told : (t : Tree) (gone : Option ℕ) (parent depth high told : ℕ) (new : Branches Own) → first_cause (tree_view t) ≡ None → first_fault NONE_THROUGHOUT new ≡ None
+pub deep_told : (t : Tree) (gone : Option ℕ) (parent depth high told : ℕ) (new : Branches Own) → first_cause (tree_view t) ≡ None → first_fault NONE_THROUGHOUT Plain new ≡ None
     → has_node t parent ≡ true → is_in (provision_at t parent).wid (text_left t gone) ≡ true
     → depth ≡ depth_of (provision_at t parent).wid (tree_view t).body → high ≡ min (heights new) 4294967295 → told ≡ min (depth + high) 4294967295
     → nat_lt MAX_DEPTH told ≡ nat_lt MAX_DEPTH (height_with (provision_at t parent).wid (heights new) (text_left t gone))
@@ -83,22 +84,22 @@ deep_told t gone parent depth high told new fits sound node stays is_deep is_hig
     let w : List ℕ = (provision_at t parent).wid in
     let text : Branches Provision = text_left t gone in
     let over : ℕ = heights_over w (heights new) text in
-    let placed : IsPlaced (tree_view t).numbering (all_owns text) = is_placed (tree_view t).numbering (all_owns text) (clean_left t gone fits) in
-    let new_placed : IsPlaced NONE_THROUGHOUT new = is_placed NONE_THROUGHOUT new sound in
-    let low : heights text ≤ 12 = (let l : heights (all_owns text) ≤ 12 = placed.low in omega (arith, heights_owns text)) in
-    let low_new : heights new ≤ 12 = new_placed.low in
+    let placed : IsPlaced (tree_view t).numbering (tree_view t).limit (all_owns text) = is_placed (tree_view t).numbering (tree_view t).limit (all_owns text) (clean_left t gone fits) in
+    let new_placed : IsPlaced NONE_THROUGHOUT Plain new = is_placed NONE_THROUGHOUT Plain new sound in
+    let low : heights text ≤ MAX_DEPTH = (let l : heights (all_owns text) ≤ MAX_DEPTH = placed.low in omega (arith, heights_owns text)) in
+    let low_new : heights new ≤ MAX_DEPTH = new_placed.low in
     elim (cases_eq parent 0) [
       | inl zero ↦
           let none : depth ≡ 0 = is_deep ∙ depth_is t parent node ∙ steps_root (size t.arena) (at t.arena) parent (eq-eqb parent 0 zero) in
           let root : bytes_eq w root_wid ≡ true = equal_text w root_wid (ap (λ k. (provision_at t k).wid) zero ∙ root_says t) in
-          le-ltb 12 told (omega arith) ∙ sym (ap (λ s. nat_lt 12 (cond s (max (heights text) (heights new)) over)) root ∙ le-ltb 12 (max (heights text) (heights new)) (omega arith))
+          le-ltb MAX_DEPTH told (omega arith) ∙ sym (ap (λ s. nat_lt MAX_DEPTH (cond s (max (heights text) (heights new)) over)) root ∙ le-ltb MAX_DEPTH (max (heights text) (heights new)) (omega arith))
       | inr other ↦
           let below : bytes_eq w root_wid ≡ false = not_root t parent node other in
           let r = reached t gone parent (heights new) node in
           let least : depth_of w (tree_view t).body + heights new ≤ over = r.1 (sym (ap (λ s. s || any_holds w text) below) ∙ stays) in
-          elim (cases_lt 12 told) [
-            | inl less ↦ lt-ltb 12 told less ∙ sym (lt-ltb 12 over (omega arith))
-            | inr most ↦ le-ltb 12 told most ∙ sym (le-ltb 12 over (omega (arith, r.0)))
+          elim (cases_lt MAX_DEPTH told) [
+            | inl less ↦ lt-ltb MAX_DEPTH told less ∙ sym (lt-ltb MAX_DEPTH over (omega arith))
+            | inr most ↦ le-ltb MAX_DEPTH told most ∙ sym (le-ltb MAX_DEPTH over (omega (arith, r.0)))
           ]
-          ∙ sym (ap (λ s. nat_lt 12 (cond s (max (heights text) (heights new)) over)) below)
+          ∙ sym (ap (λ s. nat_lt MAX_DEPTH (cond s (max (heights text) (heights new)) over)) below)
     ]

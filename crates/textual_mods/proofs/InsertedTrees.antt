@@ -41,6 +41,10 @@ use Rattle.textual_mods.proofs.Limits.{is_placed, is_short, fault_by, faultless}
 use Rattle.textual_mods.proofs.OnePlace.{held_found}
 use Rattle.textual_mods.proofs.Starting.{owns_again}
 use Rattle.act_tree.proofs.WidsDiffer.{wids_differ}
+use Rattle.act_tree.specs.declared.limits.TheConstants.{MAX_DEPTH}
+use Rattle.act_tree.specs.declared.limits.NodeLimit.{NodeLimit}
+use Rattle.act_tree.specs.declared.limits.NodeLimit.TheVariants.{Plain}
+use Rattle.act_tree.specs.NodeLimits.{most_nodes}
 
 pub heights_owns : (bs : Branches Provision) → heights (all_owns bs) ≡ heights bs
 heights_owns no_branches = refl
@@ -188,8 +192,8 @@ unfolding provision_at
 root_says t = ap (λ (p : Provision). p.wid) t.whole.root
 
 -- a text that keeps the limits, and provisions that are brought
-module _ (n : Numbering) (body : Branches Provision) (by : Id) (new : Branches Own) (clean : first_fault n (all_owns body) ≡ None) (kept : are_numbered body ≡ true)
-    (sound : first_fault NONE_THROUGHOUT new ≡ None) (nums : have_nums new ≡ true) where
+module _ (n : Numbering) (limit : NodeLimit) (body : Branches Provision) (by : Id) (new : Branches Own) (clean : first_fault n limit (all_owns body) ≡ None) (kept : are_numbered body ≡ true)
+    (sound : first_fault NONE_THROUGHOUT Plain new ≡ None) (nums : have_nums new ≡ true) where
   -- what is brought
   abbrev cs : Branches Provision
   cs = brought by new
@@ -203,7 +207,7 @@ module _ (n : Numbering) (body : Branches Provision) (by : Id) (new : Branches O
   levels : (one_twice (all_beginning NONE_THROUGHOUT true new) || alike_beneath NONE_THROUGHOUT new) ≡ false
   levels =
       ap (λ bs. one_twice (all_beginning NONE_THROUGHOUT true bs) || alike_beneath NONE_THROUGHOUT bs) (sym says)
-      ∙ sym (levels_decide NONE_THROUGHOUT cs numbered) ∙ ap (λ bs. one_twice (all_eids NONE_THROUGHOUT None bs)) says ∙ (is_placed NONE_THROUGHOUT new sound).once
+      ∙ sym (levels_decide NONE_THROUGHOUT cs numbered) ∙ ap (λ bs. one_twice (all_eids NONE_THROUGHOUT None bs)) says ∙ (is_placed NONE_THROUGHOUT Plain new sound).once
 
   tops_once : one_twice (all_going_on n false new) ≡ false
   tops_once =
@@ -214,45 +218,45 @@ module _ (n : Numbering) (body : Branches Provision) (by : Id) (new : Branches O
   unlike = unlike_all n new (none_right (one_twice (all_beginning NONE_THROUGHOUT true new)) _ levels)
 
   short : have_long (all_owns cs) ≡ false
-  short = ap have_long says ∙ is_short NONE_THROUGHOUT new sound
+  short = ap have_long says ∙ is_short NONE_THROUGHOUT Plain new sound
 
   body_levels : (one_twice (all_beginning n true (all_owns body)) || alike_beneath n (all_owns body)) ≡ false
-  body_levels = sym (levels_decide n body kept) ∙ (is_placed n (all_owns body) clean).once
+  body_levels = sym (levels_decide n body kept) ∙ (is_placed n limit (all_owns body) clean).once
 
   -- the fault of a text by its levels, height and count
   told : (bs : Branches Provision) (top clash : Bool) (high : ℕ) → are_numbered bs ≡ true
       → ((x : List ℕ) → times x (all_beginning n true (all_owns bs)) ≡ times x (all_beginning n true (all_owns body)) + times x (all_beginning n top new))
       → alike_beneath n (all_owns bs) ≡ clash → heights (all_owns bs) ≡ high → counts (all_owns bs) ≡ counts body + counts new → have_long (all_owns bs) ≡ false
-      → first_fault n (all_owns bs) ≡ fault_by (begins_again n top new (all_owns body) || clash) (nat_lt 12 high) (nat_lt 4096 (counts body + counts new)) false
+      → first_fault n limit (all_owns bs) ≡ fault_by (begins_again n top new (all_owns body) || clash) (nat_lt MAX_DEPTH high) (nat_lt (most_nodes limit) (counts body + counts new)) false
   told bs top clash high numbered_now sum alike is_high many none =
-      ap (λ s. fault_by s (nat_lt 12 (heights (all_owns bs))) (nat_lt 4096 (counts (all_owns bs))) (have_long (all_owns bs)))
+      ap (λ s. fault_by s (nat_lt MAX_DEPTH (heights (all_owns bs))) (nat_lt (most_nodes limit) (counts (all_owns bs))) (have_long (all_owns bs)))
       (levels_decide n bs numbered_now
       ∙ ap (λ s. s || alike_beneath n (all_owns bs)) (twice_or (all_beginning n top new) (all_beginning n true (all_owns body)) (all_beginning n true (all_owns bs)) sum (none_left _ _ body_levels))
       ∙ ap (λ s. begins_again n top new (all_owns body) || s) alike)
-      ∙ ap (λ h. fault_by (begins_again n top new (all_owns body) || clash) (nat_lt 12 h) (nat_lt 4096 (counts (all_owns bs))) (have_long (all_owns bs))) is_high
-      ∙ ap (λ c. fault_by (begins_again n top new (all_owns body) || clash) (nat_lt 12 high) (nat_lt 4096 c) (have_long (all_owns bs))) many
-      ∙ ap (λ s. fault_by (begins_again n top new (all_owns body) || clash) (nat_lt 12 high) (nat_lt 4096 (counts body + counts new)) s) none
+      ∙ ap (λ h. fault_by (begins_again n top new (all_owns body) || clash) (nat_lt MAX_DEPTH h) (nat_lt (most_nodes limit) (counts (all_owns bs))) (have_long (all_owns bs))) is_high
+      ∙ ap (λ c. fault_by (begins_again n top new (all_owns body) || clash) (nat_lt MAX_DEPTH high) (nat_lt (most_nodes limit) c) (have_long (all_owns bs))) many
+      ∙ ap (λ s. fault_by (begins_again n top new (all_owns body) || clash) (nat_lt MAX_DEPTH high) (nat_lt (most_nodes limit) (counts body + counts new)) s) none
 
   -- among the children of the provision of a wId, or of the root
   module _ (w : List ℕ) (place : ℕ) (p : Provision) (siblings : Branches Provision) (once : one_twice (all_wids body) ≡ false)
       (there : bytes_eq w root_wid ≡ false → found w body ≡ Some (branch p siblings)) where
-    at_root : first_fault n (all_owns (put_in place cs body))
-        ≡ fault_by (begins_again n true new (all_owns body) || goes_on_again n true new (all_owns siblings)) (nat_lt 12 (max (heights body) (heights new))) (nat_lt 4096 (counts body + counts new)) false
+    at_root : first_fault n limit (all_owns (put_in place cs body))
+        ≡ fault_by (begins_again n true new (all_owns body) || goes_on_again n true new (all_owns siblings)) (nat_lt MAX_DEPTH (max (heights body) (heights new))) (nat_lt (most_nodes limit) (counts body + counts new)) false
     at_root =
         told (put_in place cs body) true false (max (heights body) (heights new)) (put_in_kept place cs body numbered kept)
         (λ x. begun_put n x true place cs body ∙ ap (λ os. times x (all_beginning n true (all_owns body)) + times x (all_beginning n true os)) says)
         (unlike_put n place cs body (ap (alike_beneath n) says ∙ unlike) ∙ none_right (one_twice (all_beginning n true (all_owns body))) _ body_levels)
         (heights_put place cs body ∙ ap (λ os. max (heights (all_owns body)) (heights os)) says ∙ ap (λ h. max h (heights new)) (heights_owns body))
         (counts_put place cs body ∙ ap (λ os. counts (all_owns body) + counts os) says ∙ ap (λ c. c + counts new) (counts_owns body))
-        (short_put place cs body short (is_short n (all_owns body) clean))
-        ∙ sym (ap (λ ls. fault_by (begins_again n true new (all_owns body) || one_among ls (all_going_on n true (all_owns siblings))) (nat_lt 12 (max (heights body) (heights new))) (nat_lt 4096 (counts body + counts new)) false) (none_on_top n new))
+        (short_put place cs body short (is_short n limit (all_owns body) clean))
+        ∙ sym (ap (λ ls. fault_by (begins_again n true new (all_owns body) || one_among ls (all_going_on n true (all_owns siblings))) (nat_lt MAX_DEPTH (max (heights body) (heights new))) (nat_lt (most_nodes limit) (counts body + counts new)) false) (none_on_top n new))
 
     module _ (other : bytes_eq w root_wid ≡ false) where
       held : any_holds w body ≡ true
       held = sym (held_found w body) ∙ ap is_some (there other)
 
-      at_node : first_fault n (all_owns (changed (among_children place cs) w body))
-          ≡ fault_by (begins_again n false new (all_owns body) || goes_on_again n false new (all_owns siblings)) (nat_lt 12 (heights_over w (heights new) body)) (nat_lt 4096 (counts body + counts new)) false
+      at_node : first_fault n limit (all_owns (changed (among_children place cs) w body))
+          ≡ fault_by (begins_again n false new (all_owns body) || goes_on_again n false new (all_owns siblings)) (nat_lt MAX_DEPTH (heights_over w (heights new) body)) (nat_lt (most_nodes limit) (counts body + counts new)) false
       at_node =
           told (after n place cs w body) false (goes_on_again n false new (all_owns siblings)) (heights_over w (heights new) body)
           (changed_kept (among_children place cs) w (among_children_keeps place cs numbered) body kept)
@@ -263,20 +267,20 @@ module _ (n : Numbering) (body : Branches Provision) (by : Id) (new : Branches O
           ∙ ap (λ os. one_among (all_going_on n false os) (all_going_on n false (all_owns siblings))) says)
           (heights_after n place cs w body ∙ ap (λ os. heights_over w (heights os) body) says)
           (counts_after n place cs w body ∙ ap (λ m. counts (all_owns body) + m) (for_one (counts (all_owns cs)) w body once held ∙ ap counts says) ∙ ap (λ c. c + counts new) (counts_owns body))
-          (short_after n place cs w body short (is_short n (all_owns body) clean))
+          (short_after n place cs w body short (is_short n limit (all_owns body) clean))
 
     -- the first fault with what is brought there
-    pub fault_told : first_fault n (all_owns (grafted w place cs body)) ≡ fault_among n body w siblings new
+    pub fault_told : first_fault n limit (all_owns (grafted w place cs body)) ≡ fault_among n limit body w siblings new
     fault_told =
         elim (cases_Bool (bytes_eq w root_wid)) [
           | inl root ↦
-              ap (λ s. first_fault n (all_owns (cond s (put_in place cs body) (changed (among_children place cs) w body)))) root
+              ap (λ s. first_fault n limit (all_owns (cond s (put_in place cs body) (changed (among_children place cs) w body)))) root
               ∙ at_root
-              ∙ sym (ap (λ s. fault_by (begins_again n s new (all_owns body) || goes_on_again n s new (all_owns siblings)) (nat_lt 12 (cond s (max (heights body) (heights new)) (heights_over w (heights new) body))) (nat_lt 4096 (counts body + counts new)) false) root)
+              ∙ sym (ap (λ s. fault_by (begins_again n s new (all_owns body) || goes_on_again n s new (all_owns siblings)) (nat_lt MAX_DEPTH (cond s (max (heights body) (heights new)) (heights_over w (heights new) body))) (nat_lt (most_nodes limit) (counts body + counts new)) false) root)
           | inr not_root ↦
-              ap (λ s. first_fault n (all_owns (cond s (put_in place cs body) (changed (among_children place cs) w body)))) not_root
+              ap (λ s. first_fault n limit (all_owns (cond s (put_in place cs body) (changed (among_children place cs) w body)))) not_root
               ∙ at_node not_root
-              ∙ sym (ap (λ s. fault_by (begins_again n s new (all_owns body) || goes_on_again n s new (all_owns siblings)) (nat_lt 12 (cond s (max (heights body) (heights new)) (heights_over w (heights new) body))) (nat_lt 4096 (counts body + counts new)) false) not_root)
+              ∙ sym (ap (λ s. fault_by (begins_again n s new (all_owns body) || goes_on_again n s new (all_owns siblings)) (nat_lt MAX_DEPTH (cond s (max (heights body) (heights new)) (heights_over w (heights new) body))) (nat_lt (most_nodes limit) (counts body + counts new)) false) not_root)
         ]
 
   -- two that are brought begin an eId by one level exactly where two would have one eId below the root
@@ -326,11 +330,11 @@ found_below t parent node other =
     cc))
     ∙ ap (λ b. Some b) (branch_is t parent)
 
-module _ (t : Tree) (by : Id) (new : Branches Own) (fits : first_cause (tree_view t) ≡ None) (sound : first_fault NONE_THROUGHOUT new ≡ None) (nums : have_nums new ≡ true) (parent place : ℕ) (node : has_node t parent ≡ true) where
+module _ (t : Tree) (by : Id) (new : Branches Own) (fits : first_cause (tree_view t) ≡ None) (sound : first_fault NONE_THROUGHOUT Plain new ≡ None) (nums : have_nums new ≡ true) (parent place : ℕ) (node : has_node t parent ≡ true) where
   -- the first fault with what is brought among the children of the node
   pub fault_of_insertion : first_cause (with_body t (grafted_at t parent place (brought by new))) ≡ option_map fault_cause (insertion_fault t parent new)
   fault_of_insertion =
-      ap (option_map fault_cause) (fault_told (tree_view t).numbering (tree_view t).body by new (faultless (tree_view t) fits) (nums_kept t) sound nums (provision_at t parent).wid place (provision_at t parent) (below_at t parent) (wids_differ t) (found_below t parent node))
+      ap (option_map fault_cause) (fault_told (tree_view t).numbering (tree_view t).limit (tree_view t).body by new (faultless (tree_view t) fits) (nums_kept t) sound nums (provision_at t parent).wid place (provision_at t parent) (below_at t parent) (wids_differ t) (found_below t parent node))
 
   -- the text with what is brought
   abbrev pub text : Branches Provision

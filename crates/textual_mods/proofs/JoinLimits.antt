@@ -17,6 +17,9 @@ use Rattle.act_tree.proofs.Texts.{same_text, equal_text}
 use Rattle.textual_mods.proofs.RightBehind.{IsFirst, is_first, head_at, only_first, next_past, next_none}
 use Rattle.textual_mods.proofs.Limits.{IsPlaced, is_placed, is_short, fault_by}
 use Rattle.textual_mods.proofs.OnePlace.{first_of, beneath_it, behind_it, found_past, AreDistinct, are_distinct, not_changed, elsewhere, at_place}
+use Rattle.act_tree.specs.declared.limits.TheConstants.{MAX_DEPTH, MAX_TEXT_BYTES}
+use Rattle.act_tree.specs.declared.limits.NodeLimit.{NodeLimit}
+use Rattle.act_tree.specs.NodeLimits.{most_nodes}
 
 abbrev pub one_if : Bool → ℕ
 one_if true = 1
@@ -177,7 +180,7 @@ mutual
       (λ _. record { low = omega (arith, low_inside c w b); few = omega (arith, few_inside c w b) })
 
 abbrev too_long : List ℕ → Bool
-too_long text = nat_lt 16384 (length text)
+too_long text = nat_lt MAX_TEXT_BYTES (length text)
 
 alike_joined : (n : Numbering) (bs cs : Branches Provision) → alike_beneath n (all_owns bs) ≡ false → alike_beneath n (all_owns cs) ≡ false → alike_beneath n (all_owns (joined bs cs)) ≡ false
 alike_joined n no_branches cs one two = two
@@ -211,7 +214,7 @@ module _ (n : Numbering) (c w : List ℕ) (p : Provision) (under : Branches Prov
       alike_joined n below deep (none_right (one_twice (levels_on n below)) _ first) (none_right (one_twice (levels_on n deep)) _ (none_left _ _ second)) in
       let own_short : has_long (owns (branch r below)) ≡ false = none_left _ _ short in
       let rest_short : (has_long (owns (branch q deep)) || have_long (all_owns rest)) ≡ false = none_right (has_long (owns (branch r below))) _ short in
-      let head : nat_lt 16384 (length r.own.heading) ≡ false = none_left _ _ (none_left (is_long r.own) _ own_short) in
+      let head : nat_lt MAX_TEXT_BYTES (length r.own.heading) ≡ false = none_left _ _ (none_left (is_long r.own) _ own_short) in
       let inner_short : have_long (all_owns (joined below deep)) ≡ false =
       long_joined below deep (none_right (is_long r.own) _ own_short) (none_right (is_long q.own) _ (none_left _ _ rest_short)) in
       record {
@@ -295,22 +298,22 @@ module _ (n : Numbering) (c w : List ℕ) (p : Provision) (under : Branches Prov
       moved P now was same held = subst P (sym same) held
 
   -- the first fault of a text after a join
-  pub fault_of_join : (bs : Branches Provision) → are_numbered bs ≡ true → first_fault n (all_owns bs) ≡ None → one_twice (all_wids bs) ≡ false → found w bs ≡ Some (branch p under) → next_of w bs ≡ Some (branch q deep)
-      → first_fault n (all_owns (changed (merged c) w bs)) ≡ fault_by (one_twice (levels_on n both)) false false (too_long c)
-  fault_of_join bs nums none once there next =
+  pub fault_of_join : (limit : NodeLimit) (bs : Branches Provision) → are_numbered bs ≡ true → first_fault n limit (all_owns bs) ≡ None → one_twice (all_wids bs) ≡ false → found w bs ≡ Some (branch p under) → next_of w bs ≡ Some (branch q deep)
+      → first_fault n limit (all_owns (changed (merged c) w bs)) ≡ fault_by (one_twice (levels_on n both)) false false (too_long c)
+  fault_of_join limit bs nums none once there next =
       let after : Branches Provision = changed (merged c) w bs in
-      let placed : IsPlaced n (all_owns bs) = is_placed n (all_owns bs) none in
-      let low : heights (all_owns bs) ≤ 12 = placed.low in
-      let few : counts (all_owns bs) ≤ 4096 = placed.few in
+      let placed : IsPlaced n limit (all_owns bs) = is_placed n limit (all_owns bs) none in
+      let low : heights (all_owns bs) ≤ MAX_DEPTH = placed.low in
+      let few : counts (all_owns bs) ≤ most_nodes limit = placed.few in
       let levels : (one_twice (all_beginning n true (all_owns bs)) || alike_beneath n (all_owns bs)) ≡ false = sym (levels_decide n bs nums) ∙ placed.once in
-      let it : IsJoined n c both after = is_joined bs once there next (none_right (one_twice (all_beginning n true (all_owns bs))) _ levels) (is_short n (all_owns bs) none) in
+      let it : IsJoined n c both after = is_joined bs once there next (none_right (one_twice (all_beginning n true (all_owns bs))) _ levels) (is_short n limit (all_owns bs) none) in
       let begun : one_twice (all_beginning n true (all_owns after)) ≡ false = few_once (all_beginning n true (all_owns after))
       (λ x. let most : times x (all_beginning n true (all_owns bs)) ≤ 1 = once_few (all_beginning n true (all_owns bs)) x (none_left _ _ levels) in omega (arith, begun_less n x c w true bs)) in
       let less : IsNoMore after bs = no_more c w bs in
       let lower : heights (all_owns after) ≤ heights (all_owns bs) = less.low in
       let fewer : counts (all_owns after) ≤ counts (all_owns bs) = less.few in
-      ap (λ t. fault_by t (nat_lt 12 (heights (all_owns after))) (nat_lt 4096 (counts (all_owns after))) (have_long (all_owns after)))
+      ap (λ t. fault_by t (nat_lt MAX_DEPTH (heights (all_owns after))) (nat_lt (most_nodes limit) (counts (all_owns after))) (have_long (all_owns after)))
       (levels_decide n after (changed_kept (merged c) w (merged_keeps c) bs nums) ∙ ap (λ t. t || alike_beneath n (all_owns after)) begun ∙ it.alike)
-      ∙ ap (λ t. fault_by (one_twice (levels_on n both)) t (nat_lt 4096 (counts (all_owns after))) (have_long (all_owns after))) (le-ltb 12 (heights (all_owns after)) (omega arith))
-      ∙ ap (λ t. fault_by (one_twice (levels_on n both)) false t (have_long (all_owns after))) (le-ltb 4096 (counts (all_owns after)) (omega arith))
+      ∙ ap (λ t. fault_by (one_twice (levels_on n both)) t (nat_lt (most_nodes limit) (counts (all_owns after))) (have_long (all_owns after))) (le-ltb MAX_DEPTH (heights (all_owns after)) (omega arith))
+      ∙ ap (λ t. fault_by (one_twice (levels_on n both)) false t (have_long (all_owns after))) (le-ltb (most_nodes limit) (counts (all_owns after)) (omega arith))
       ∙ ap (λ t. fault_by (one_twice (levels_on n both)) false false t) it.long

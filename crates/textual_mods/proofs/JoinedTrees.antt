@@ -17,6 +17,7 @@ use Rattle.textual_mods.specs.Edits.{unless_for, within_limits}
 use Rattle.textual_mods.proofs.JoinLimits.{fault_of_join}
 use Rattle.textual_mods.proofs.Limits.{faultless, fault_by}
 use Rattle.act_tree.proofs.WidsDiffer.{wids_differ}
+use Rattle.act_tree.specs.declared.limits.TheConstants.{MAX_TEXT_BYTES}
 
 module _ (t : Tree) (id next : ℕ) (content : List ℕ) (fits : first_cause (tree_view t) ≡ None) (node : has_node t id ≡ true) (other : id ≡ 0 → ⊥)
     (follows : next_of (provision_at t id).wid (tree_view t).body ≡ Some (branch (provision_at t next) (below_at t next))) where
@@ -28,21 +29,21 @@ module _ (t : Tree) (id next : ℕ) (content : List ℕ) (fits : first_cause (tr
   abbrev pub after : Branches Provision
   after = changed (merged content) (provision_at t id).wid (tree_view t).body
 
-  cause : first_cause (record (tree_view t) { body = after }) ≡ option_map fault_cause (fault_by alike false false (nat_lt 16384 (length content)))
+  cause : first_cause (record (tree_view t) { body = after }) ≡ option_map fault_cause (fault_by alike false false (nat_lt MAX_TEXT_BYTES (length content)))
   cause =
       ap (option_map fault_cause)
       (fault_of_join (tree_view t).numbering content (provision_at t id).wid (provision_at t id) (below_at t id) (provision_at t next) (below_at t next)
-      (tree_view t).body (nums_kept t) (faultless (tree_view t) fits) (wids_differ t) (found_at t id node other ∙ ap (λ b. Some b) (branch_is t id)) follows)
+      (tree_view t).limit (tree_view t).body (nums_kept t) (faultless (tree_view t) fits) (wids_differ t) (found_at t id node other ∙ ap (λ b. Some b) (branch_is t id)) follows)
 
   pub join_taken : (told : Bool) → told ≡ alike → told ≡ true → within_limits (tree_view t) (Ok after) ≡ Err NumberTaken
-  join_taken told is taken = ap (λ c. unless_for c after) (cause ∙ ap (λ s. option_map fault_cause (fault_by s false false (nat_lt 16384 (length content)))) (sym is ∙ taken))
+  join_taken told is taken = ap (λ c. unless_for c after) (cause ∙ ap (λ s. option_map fault_cause (fault_by s false false (nat_lt MAX_TEXT_BYTES (length content)))) (sym is ∙ taken))
 
-  pub join_long : (told : Bool) → told ≡ alike → told ≡ false → 16384 < length content → within_limits (tree_view t) (Ok after) ≡ Err TextTooLong
+  pub join_long : (told : Bool) → told ≡ alike → told ≡ false → MAX_TEXT_BYTES < length content → within_limits (tree_view t) (Ok after) ≡ Err TextTooLong
   join_long told is free long =
       ap (λ c. unless_for c after)
-      (cause ∙ ap (λ s. option_map fault_cause (fault_by s false false (nat_lt 16384 (length content)))) (sym is ∙ free) ∙ ap (λ s. option_map fault_cause (fault_by false false false s)) (lt-ltb 16384 (length content) long))
+      (cause ∙ ap (λ s. option_map fault_cause (fault_by s false false (nat_lt MAX_TEXT_BYTES (length content)))) (sym is ∙ free) ∙ ap (λ s. option_map fault_cause (fault_by false false false s)) (lt-ltb MAX_TEXT_BYTES (length content) long))
 
-  pub join_done : (told : Bool) → told ≡ alike → told ≡ false → length content ≤ 16384 → within_limits (tree_view t) (Ok after) ≡ Ok after
+  pub join_done : (told : Bool) → told ≡ alike → told ≡ false → length content ≤ MAX_TEXT_BYTES → within_limits (tree_view t) (Ok after) ≡ Ok after
   join_done told is free short =
       ap (λ c. unless_for c after)
-      (cause ∙ ap (λ s. option_map fault_cause (fault_by s false false (nat_lt 16384 (length content)))) (sym is ∙ free) ∙ ap (λ s. option_map fault_cause (fault_by false false false s)) (le-ltb 16384 (length content) short))
+      (cause ∙ ap (λ s. option_map fault_cause (fault_by s false false (nat_lt MAX_TEXT_BYTES (length content)))) (sym is ∙ free) ∙ ap (λ s. option_map fault_cause (fault_by false false false s)) (le-ltb MAX_TEXT_BYTES (length content) short))

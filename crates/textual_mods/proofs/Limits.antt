@@ -14,12 +14,15 @@ use Rattle.act_tree.specs.declared.cause.Cause.{Cause}
 use Rattle.desk_base.specs.declared.memory.Memory.{Memory}
 use Rattle.textual_mods.specs.Edits.{unless_for, within_limits, tree_after}
 use Rattle.textual_mods.specs.declared.outcome.Outcome.{Outcome}
+use Rattle.act_tree.specs.declared.limits.TheConstants.{MAX_DEPTH}
+use Rattle.act_tree.specs.declared.limits.NodeLimit.{NodeLimit}
+use Rattle.act_tree.specs.NodeLimits.{most_nodes}
 
--- a text whose eIds differ, and which is neither too deep nor too large
-pub record IsPlaced (n : Numbering) (bs : Branches Own) : Type 0 where
+-- a text whose eIds differ, and which is neither too deep nor too large for a limit
+pub record IsPlaced (n : Numbering) (limit : NodeLimit) (bs : Branches Own) : Type 0 where
   pub once : one_twice (all_eids n None bs) ≡ false
-  pub low : heights bs ≤ 12
-  pub few : counts bs ≤ 4096
+  pub low : heights bs ≤ MAX_DEPTH
+  pub few : counts bs ≤ most_nodes limit
 
 -- the first fault, of the four tests
 abbrev pub fault_by : Bool → Bool → Bool → Bool → Option BuildFault
@@ -36,20 +39,20 @@ at_most : (k m : ℕ) → nat_lt k m ≡ false → m ≤ k
 at_most k m test =
     elim (cases_lt k m) [ inl less ↦ absurd (let told : nat_lt k m ≡ true = lt-ltb k m less in cc) | inr most ↦ most ]
 
-pub is_placed : (n : Numbering) (bs : Branches Own) → first_fault n bs ≡ None → IsPlaced n bs
-is_placed n bs none =
-    let t = tests (one_twice (all_eids n None bs)) (nat_lt 12 (heights bs)) (nat_lt 4096 (counts bs)) (have_long bs) none in
-    record { once = t.0; low = at_most 12 (heights bs) t.1; few = at_most 4096 (counts bs) t.2 }
+pub is_placed : (n : Numbering) (limit : NodeLimit) (bs : Branches Own) → first_fault n limit bs ≡ None → IsPlaced n limit bs
+is_placed n limit bs none =
+    let t = tests (one_twice (all_eids n None bs)) (nat_lt MAX_DEPTH (heights bs)) (nat_lt (most_nodes limit) (counts bs)) (have_long bs) none in
+    record { once = t.0; low = at_most MAX_DEPTH (heights bs) t.1; few = at_most (most_nodes limit) (counts bs) t.2 }
 
-pub is_short : (n : Numbering) (bs : Branches Own) → first_fault n bs ≡ None → have_long bs ≡ false
-is_short n bs none = (tests (one_twice (all_eids n None bs)) (nat_lt 12 (heights bs)) (nat_lt 4096 (counts bs)) (have_long bs) none).3
+pub is_short : (n : Numbering) (limit : NodeLimit) (bs : Branches Own) → first_fault n limit bs ≡ None → have_long bs ≡ false
+is_short n limit bs none = (tests (one_twice (all_eids n None bs)) (nat_lt MAX_DEPTH (heights bs)) (nat_lt (most_nodes limit) (counts bs)) (have_long bs) none).3
 
 -- of a text that is placed only the length of a heading or content is left to ask
-pub fault_of_length : (n : Numbering) (bs : Branches Own) (long : Bool) → IsPlaced n bs → have_long bs ≡ long → first_fault n bs ≡ cond long (Some TextTooLong) None
-fault_of_length n bs long placed is =
-    ap (λ t. fault_by t (nat_lt 12 (heights bs)) (nat_lt 4096 (counts bs)) (have_long bs)) placed.once
-    ∙ ap (λ t. fault_by false t (nat_lt 4096 (counts bs)) (have_long bs)) (le-ltb 12 (heights bs) placed.low)
-    ∙ ap (λ t. fault_by false false t (have_long bs)) (le-ltb 4096 (counts bs) placed.few)
+pub fault_of_length : (n : Numbering) (limit : NodeLimit) (bs : Branches Own) (long : Bool) → IsPlaced n limit bs → have_long bs ≡ long → first_fault n limit bs ≡ cond long (Some TextTooLong) None
+fault_of_length n limit bs long placed is =
+    ap (λ t. fault_by t (nat_lt MAX_DEPTH (heights bs)) (nat_lt (most_nodes limit) (counts bs)) (have_long bs)) placed.once
+    ∙ ap (λ t. fault_by false t (nat_lt (most_nodes limit) (counts bs)) (have_long bs)) (le-ltb MAX_DEPTH (heights bs) placed.low)
+    ∙ ap (λ t. fault_by false false t (have_long bs)) (le-ltb (most_nodes limit) (counts bs) placed.few)
     ∙ ap (λ t. fault_by false false false t) is
 
 no_fault : (f : Option BuildFault) → option_map fault_cause f ≡ None → f ≡ None
@@ -57,8 +60,8 @@ no_fault None none = refl
 no_fault (Some f) none = absurd cc
 
 -- a tree with no cause against it has no fault
-pub faultless : (t : TreeValue) → first_cause t ≡ None → first_fault t.numbering (all_owns t.body) ≡ None
-faultless t none = no_fault (first_fault t.numbering (all_owns t.body)) none
+pub faultless : (t : TreeValue) → first_cause t ≡ None → first_fault t.numbering t.limit (all_owns t.body) ≡ None
+faultless t none = no_fault (first_fault t.numbering t.limit (all_owns t.body)) none
 
 -- a tree that is well-formed is so after an edit, which is held back where it would not be
 pub fits_after : (t : TreeValue) (r : Result (Branches Provision) Cause) → first_cause t ≡ None → first_cause (tree_after t (within_limits t r)) ≡ None

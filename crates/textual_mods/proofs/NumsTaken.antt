@@ -28,6 +28,9 @@ use Rattle.textual_mods.specs.NumChanges.{Placed, placed_in, level_with, collide
 use Rattle.textual_mods.proofs.Limits.{IsPlaced, is_placed, is_short, fault_by, faultless}
 use Rattle.textual_mods.proofs.PlacedLevels.{In, in_any, any_in, names, names_are, hit, hits, two_hits, TwoHit, two_found, few_told, differ_told}
 use Rattle.act_tree.proofs.WidsDiffer.{wids_differ, root_apart}
+use Rattle.act_tree.specs.declared.limits.TheConstants.{MAX_DEPTH}
+use Rattle.act_tree.specs.declared.limits.NodeLimit.{NodeLimit}
+use Rattle.act_tree.specs.NodeLimits.{most_nodes}
 
 -- a wId that no pair names keeps its num
 pub kept_num : (pairs : List (List ℕ × List ℕ)) (wid num : List ℕ) → is_among wid (map (λ pair. pair.0) pairs) ≡ false → num_given pairs wid num ≡ num
@@ -89,17 +92,20 @@ module _ (t : Tree) (fits : first_cause (tree_view t) ≡ None) where
   abbrev n : Numbering
   n = (tree_view t).numbering
 
+  abbrev limit : NodeLimit
+  limit = (tree_view t).limit
+
   abbrev body : Branches Provision
   body = (tree_view t).body
 
   abbrev all : List Placed
   all = placed_in (tree_view t)
 
-  faultless_body : first_fault n (all_owns body) ≡ None
+  faultless_body : first_fault n limit (all_owns body) ≡ None
   faultless_body = faultless (tree_view t) fits
 
-  placed : IsPlaced n (all_owns body)
-  placed = is_placed n (all_owns body) faultless_body
+  placed : IsPlaced n limit (all_owns body)
+  placed = is_placed n limit (all_owns body) faultless_body
 
   body_levels : (one_twice (all_beginning n true (all_owns body)) || alike_beneath n (all_owns body)) ≡ false
   body_levels = sym (levels_decide n body (nums_kept t)) ∙ placed.once
@@ -167,19 +173,19 @@ module _ (t : Tree) (fits : first_cause (tree_view t) ≡ None) where
           ]
         ]
 
-    low : nat_lt 12 (heights (all_owns text)) ≡ false
-    low = ap (nat_lt 12) (heights_same pairs body) ∙ le-ltb 12 (heights (all_owns body)) placed.low
+    low : nat_lt MAX_DEPTH (heights (all_owns text)) ≡ false
+    low = ap (nat_lt MAX_DEPTH) (heights_same pairs body) ∙ le-ltb MAX_DEPTH (heights (all_owns body)) placed.low
 
-    few : nat_lt 4096 (counts (all_owns text)) ≡ false
-    few = ap (nat_lt 4096) (counts_same pairs body) ∙ le-ltb 4096 (counts (all_owns body)) placed.few
+    few : nat_lt (most_nodes limit) (counts (all_owns text)) ≡ false
+    few = ap (nat_lt (most_nodes limit)) (counts_same pairs body) ∙ le-ltb (most_nodes limit) (counts (all_owns body)) placed.few
 
     -- the first fault with the nums that pairs give
     pub fault_of_renumbering : first_cause (with_body t text) ≡ option_map fault_cause (renumbering_fault (tree_view t) pairs)
     fault_of_renumbering =
-        ap (λ s. option_map fault_cause (fault_by s (nat_lt 12 (heights (all_owns text))) (nat_lt 4096 (counts (all_owns text))) (have_long (all_owns text)))) taken
-        ∙ ap (λ s. option_map fault_cause (fault_by (num_taken (tree_view t) pairs) s (nat_lt 4096 (counts (all_owns text))) (have_long (all_owns text)))) low
+        ap (λ s. option_map fault_cause (fault_by s (nat_lt MAX_DEPTH (heights (all_owns text))) (nat_lt (most_nodes limit) (counts (all_owns text))) (have_long (all_owns text)))) taken
+        ∙ ap (λ s. option_map fault_cause (fault_by (num_taken (tree_view t) pairs) s (nat_lt (most_nodes limit) (counts (all_owns text))) (have_long (all_owns text)))) low
         ∙ ap (λ s. option_map fault_cause (fault_by (num_taken (tree_view t) pairs) false s (have_long (all_owns text)))) few
-        ∙ ap (λ s. option_map fault_cause (fault_by (num_taken (tree_view t) pairs) false false s)) (long_same pairs body ∙ is_short n (all_owns body) faultless_body)
+        ∙ ap (λ s. option_map fault_cause (fault_by (num_taken (tree_view t) pairs) false false s)) (long_same pairs body ∙ is_short n limit (all_owns body) faultless_body)
 
     pub nums_held : num_taken (tree_view t) pairs ≡ true → within_limits (tree_view t) (Ok text) ≡ Err NumberTaken
     nums_held is = ap (λ c. unless_for c text) (fault_of_renumbering ∙ ap (λ s. option_map fault_cause (fault_by s false false false)) is)

@@ -14,6 +14,7 @@ use Rattle.act_tree.proofs.Texts.{same_text}
 use Rattle.textual_mods.proofs.InsertionLimits.{parts_join, for_each, on_joined, unlike_joined, short_parts}
 use Rattle.textual_mods.proofs.JoinLimits.{times, times-append, few_once, once_few, begun_joined, heights_joined, counts_joined}
 use Rattle.textual_mods.proofs.OnePlace.{AreDistinct, are_distinct, not_changed}
+use Rattle.act_tree.specs.declared.limits.TheConstants.{MAX_TEXT_BYTES}
 
 -- the second part with no texts and refs
 abbrev pub bare : Provision → Provision
@@ -103,7 +104,7 @@ module _ (n : Numbering) (k : ℕ) (head : List ℕ) (q : Provision) (w : List �
 
   -- what is written is too long
   abbrev pub writes_long : Bool
-  writes_long = nat_lt 16384 (length head) || is_long q.own
+  writes_long = nat_lt MAX_TEXT_BYTES (length head) || is_long q.own
 
   pub short_split : (bs : Branches Provision) → writes_long ≡ false → have_long (all_owns bs) ≡ false → have_long (all_owns (split bs)) ≡ false
   short_split no_branches fine short = refl
@@ -113,8 +114,8 @@ module _ (n : Numbering) (k : ℕ) (head : List ℕ) (q : Provision) (w : List �
       let later : have_long (all_owns (split bs)) ≡ false = short_split bs fine (none_right (has_long (owns (branch p below))) _ short) in
       let parts = short_parts k (split below) inner in
       elim (bytes_eq p.wid w) as (λ s. have_long (all_owns (cond s (more_branches (branch (cut p) (first k (split below))) (more_branches (branch q (behind k (split below))) (split bs))) (more_branches (branch p (split below)) (split bs)))) ≡ false) [
-        | true ↦ neither _ _ (neither _ _ (neither _ _ (none_left (nat_lt 16384 (length p.own.heading)) _ (none_left (is_long p.own) _ own)) (none_left (nat_lt 16384 (length head)) _ fine)) parts.0)
-            (neither _ _ (neither _ _ (none_right (nat_lt 16384 (length head)) _ fine) parts.1) later)
+        | true ↦ neither _ _ (neither _ _ (neither _ _ (none_left (nat_lt MAX_TEXT_BYTES (length p.own.heading)) _ (none_left (is_long p.own) _ own)) (none_left (nat_lt MAX_TEXT_BYTES (length head)) _ fine)) parts.0)
+            (neither _ _ (neither _ _ (none_right (nat_lt MAX_TEXT_BYTES (length head)) _ fine) parts.1) later)
         | false ↦ neither _ _ (neither _ _ (none_left (is_long p.own) _ own) inner) later
       ]
 
@@ -125,8 +126,8 @@ module _ (n : Numbering) (k : ℕ) (head : List ℕ) (q : Provision) (w : List �
       elim (cases_Bool (bytes_eq p.wid w)) [
         | inl it ↦
             ap (λ s. have_long (all_owns (after_all s))) it
-            ∙ elim (cases_Bool (nat_lt 16384 (length head))) [
-              | inl over ↦ or_left _ _ (or_left _ _ (or_right (nat_lt 16384 (length p.own.heading)) _ over))
+            ∙ elim (cases_Bool (nat_lt MAX_TEXT_BYTES (length head))) [
+              | inl over ↦ or_left _ _ (or_left _ _ (or_right (nat_lt MAX_TEXT_BYTES (length p.own.heading)) _ over))
               | inr fine ↦ or_right (has_long (owns (branch (cut p) (first k (split below))))) _ (or_left _ _ (or_left _ _ (sym (ap (λ s. s || is_long q.own) fine) ∙ long)))
             ]
         | inr other ↦

@@ -15,6 +15,10 @@ use Rattle.textual_mods.specs.Edits.{unless_for, within_limits}
 use Rattle.textual_mods.specs.StructureEdits.{repealed}
 use Rattle.textual_mods.proofs.Limits.{IsPlaced, is_placed, is_short, fault_of_length, faultless}
 use Rattle.textual_mods.proofs.Sublists.{IsPart, no_texts, with, part-append, part_behind, part_once}
+use Rattle.act_tree.specs.declared.limits.TheConstants.{MAX_DEPTH}
+use Rattle.act_tree.specs.declared.limits.NodeLimit.{NodeLimit}
+use Rattle.act_tree.specs.declared.limits.NodeLimit.TheVariants.{Plain, Wide}
+use Rattle.act_tree.specs.NodeLimits.{most_nodes}
 
 mutual
   eids_inside : (n : Numbering) (above : Option (List ℕ)) (w : List ℕ) (b : Branch Provision) → IsPart (eids n above (owns (inside_without w b))) (eids n above (owns b))
@@ -71,25 +75,30 @@ mutual
       (λ _. short_without w bs t.1)
       (λ _. or_false (has_long (owns (inside_without w b))) (have_long (all_owns (without w bs))) (short_inside w b t.0) (short_without w bs t.1))
 
-pub fits_without : (n : Numbering) (w : List ℕ) (bs : Branches Provision) → first_fault n (all_owns bs) ≡ None → first_fault n (all_owns (without w bs)) ≡ None
-fits_without n w bs none =
-    let placed : IsPlaced n (all_owns bs) = is_placed n (all_owns bs) none in
-    let low : heights (all_owns bs) ≤ 12 = placed.low in
-    let few : counts (all_owns bs) ≤ 4096 = placed.few in
-    fault_of_length n (all_owns (without w bs)) false
+pub fits_without : (n : Numbering) (limit : NodeLimit) (w : List ℕ) (bs : Branches Provision) → first_fault n limit (all_owns bs) ≡ None → first_fault n limit (all_owns (without w bs)) ≡ None
+fits_without n limit w bs none =
+    let placed : IsPlaced n limit (all_owns bs) = is_placed n limit (all_owns bs) none in
+    let low : heights (all_owns bs) ≤ MAX_DEPTH = placed.low in
+    let few : counts (all_owns bs) ≤ most_nodes limit = placed.few in
+    fault_of_length n limit (all_owns (without w bs)) false
     (record {
       once = part_once _ _ (eids_part n None w bs) placed.once;
       low = omega (arith, heights_less w bs);
       few = omega (arith, counts_less w bs);
     })
-    (short_without w bs (is_short n (all_owns bs) none))
+    (short_without w bs (is_short n limit (all_owns bs) none))
+
+-- a text with no provision keeps each limit
+none_fits : (n : Numbering) (limit : NodeLimit) → first_fault n limit no_branches ≡ None
+none_fits n Plain = refl
+none_fits n Wide = refl
 
 -- a text that keeps the limits keeps them after a repeal
 pub removal_fits : (t : TreeValue) (w : List ℕ) → first_cause t ≡ None → first_cause (record t { body = removed w t.body }) ≡ None
 removal_fits t w none =
     cond_both (bytes_eq w root_wid) no_branches (without w t.body) (λ r. first_cause (record t { body = r }) ≡ None)
-    (λ _. refl)
-    (λ _. ap (λ f. option_map fault_cause f) (fits_without t.numbering w t.body (faultless t none)))
+    (λ _. ap (λ f. option_map fault_cause f) (none_fits t.numbering t.limit))
+    (λ _. ap (λ f. option_map fault_cause f) (fits_without t.numbering t.limit w t.body (faultless t none)))
 
 -- a repeal whose target is there is not held back
 pub repeal_done : (t : TreeValue) (w : List ℕ) → first_cause t ≡ None → is_in w t.body ≡ true → within_limits t (repealed w t.body) ≡ Ok (removed w t.body)

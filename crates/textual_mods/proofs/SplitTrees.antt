@@ -34,6 +34,9 @@ use Rattle.textual_mods.proofs.Limits.{IsPlaced, is_placed, is_short, fault_by, 
 use Rattle.textual_mods.proofs.OnePlace.{held_found}
 use Rattle.textual_mods.proofs.PartedLimits.{alone, split, added, begun_split, heights_split, counts_split, writes_long, short_split, long_split, alike_split}
 use Rattle.act_tree.proofs.WidsDiffer.{wids_differ}
+use Rattle.act_tree.specs.declared.limits.TheConstants.{MAX_DEPTH}
+use Rattle.act_tree.specs.declared.limits.NodeLimit.{NodeLimit}
+use Rattle.act_tree.specs.NodeLimits.{most_nodes}
 
 -- texts that stand as often
 same_twice : (xs ys : List (List ℕ)) → ((x : List ℕ) → times x xs ≡ times x ys) → one_twice xs ≡ one_twice ys
@@ -68,6 +71,9 @@ module _ (t : Tree) (id parent place : ℕ) (by : Id) (k : ℕ) (head num headin
     (right_behind : (new : Branches Provision) → grafted_at t parent (place + 1) new ≡ changed_at t id (after new)) (kept : is_num num ≡ true) where
   abbrev n : Numbering
   n = (tree_view t).numbering
+
+  abbrev limit : NodeLimit
+  limit = (tree_view t).limit
 
   abbrev body : Branches Provision
   body = (tree_view t).body
@@ -109,14 +115,14 @@ module _ (t : Tree) (id parent place : ℕ) (by : Id) (k : ℕ) (head num headin
 
   plain_taken : one_twice (all_eids n None (all_owns plain)) ≡ number_taken t parent new
   plain_taken =
-      first_test (one_twice (all_eids n None (all_owns plain))) (nat_lt 12 (heights (all_owns plain))) (nat_lt 4096 (counts (all_owns plain))) (have_long (all_owns plain))
-      (number_taken t parent new) (nat_lt 12 (height_with (provision_at t parent).wid (heights new) body)) (nat_lt 4096 (counts body + counts new)) false plain_cause
+      first_test (one_twice (all_eids n None (all_owns plain))) (nat_lt MAX_DEPTH (heights (all_owns plain))) (nat_lt (most_nodes limit) (counts (all_owns plain))) (have_long (all_owns plain))
+      (number_taken t parent new) (nat_lt MAX_DEPTH (height_with (provision_at t parent).wid (heights new) body)) (nat_lt (most_nodes limit) (counts body + counts new)) false plain_cause
 
-  faultless_body : first_fault n (all_owns body) ≡ None
+  faultless_body : first_fault n limit (all_owns body) ≡ None
   faultless_body = faultless (tree_view t) fits
 
   unlike_body : alike_beneath n (all_owns body) ≡ false
-  unlike_body = none_right (one_twice (all_beginning n true (all_owns body))) _ (sym (levels_decide n body (nums_kept t)) ∙ (is_placed n (all_owns body) faultless_body).once)
+  unlike_body = none_right (one_twice (all_beginning n true (all_owns body))) _ (sym (levels_decide n body (nums_kept t)) ∙ (is_placed n limit (all_owns body) faultless_body).once)
 
   taken : one_twice (all_eids n None (all_owns text)) ≡ number_taken t parent new
   taken =
@@ -129,11 +135,11 @@ module _ (t : Tree) (id parent place : ℕ) (by : Id) (k : ℕ) (head num headin
   held : any_holds w body ≡ true
   held = sym (held_found w body) ∙ ap is_some (found_at t id node other ∙ ap (λ b. Some b) (branch_is t id))
 
-  low : nat_lt 12 (heights (all_owns text)) ≡ false
+  low : nat_lt MAX_DEPTH (heights (all_owns text)) ≡ false
   low =
-      let placed : IsPlaced n (all_owns body) = is_placed n (all_owns body) faultless_body in
-      let most : heights (all_owns body) ≤ 12 = placed.low in
-      le-ltb 12 (heights (all_owns text)) (omega (arith, heights_split n k head q w body))
+      let placed : IsPlaced n limit (all_owns body) = is_placed n limit (all_owns body) faultless_body in
+      let most : heights (all_owns body) ≤ MAX_DEPTH = placed.low in
+      le-ltb MAX_DEPTH (heights (all_owns text)) (omega (arith, heights_split n k head q w body))
 
   many : counts (all_owns text) ≡ counts body + 1
   many = counts_split n k head q w body ∙ ap (λ m. counts (all_owns body) + m) (for_one 1 w body (wids_differ t) held) ∙ ap (λ c. c + 1) (counts_owns body)
@@ -142,15 +148,15 @@ module _ (t : Tree) (id parent place : ℕ) (by : Id) (k : ℕ) (head num headin
   long =
       elim (cases_Bool (writes_long n k head q w)) [
         | inl over ↦ long_split n k head q w body over held ∙ sym over
-        | inr fine ↦ short_split n k head q w body fine (is_short n (all_owns body) faultless_body) ∙ sym fine
+        | inr fine ↦ short_split n k head q w body fine (is_short n limit (all_owns body) faultless_body) ∙ sym fine
       ]
 
-  pub cause_of_split : first_cause (with_body t text) ≡ option_map fault_cause (fault_by (number_taken t parent new) false (nat_lt 4096 (counts body + 1)) (writes_long n k head q w))
+  pub cause_of_split : first_cause (with_body t text) ≡ option_map fault_cause (fault_by (number_taken t parent new) false (nat_lt (most_nodes limit) (counts body + 1)) (writes_long n k head q w))
   cause_of_split =
-      ap (λ s. option_map fault_cause (fault_by s (nat_lt 12 (heights (all_owns text))) (nat_lt 4096 (counts (all_owns text))) (have_long (all_owns text)))) taken
-      ∙ ap (λ s. option_map fault_cause (fault_by (number_taken t parent new) s (nat_lt 4096 (counts (all_owns text))) (have_long (all_owns text)))) low
-      ∙ ap (λ c. option_map fault_cause (fault_by (number_taken t parent new) false (nat_lt 4096 c) (have_long (all_owns text)))) many
-      ∙ ap (λ s. option_map fault_cause (fault_by (number_taken t parent new) false (nat_lt 4096 (counts body + 1)) s)) long
+      ap (λ s. option_map fault_cause (fault_by s (nat_lt MAX_DEPTH (heights (all_owns text))) (nat_lt (most_nodes limit) (counts (all_owns text))) (have_long (all_owns text)))) taken
+      ∙ ap (λ s. option_map fault_cause (fault_by (number_taken t parent new) s (nat_lt (most_nodes limit) (counts (all_owns text))) (have_long (all_owns text)))) low
+      ∙ ap (λ c. option_map fault_cause (fault_by (number_taken t parent new) false (nat_lt (most_nodes limit) c) (have_long (all_owns text)))) many
+      ∙ ap (λ s. option_map fault_cause (fault_by (number_taken t parent new) false (nat_lt (most_nodes limit) (counts body + 1)) s)) long
 
   pub split_held : (fault : BuildFault) (long_told : Bool) → long_told ≡ writes_long n k head q w → Some fault ≡ split_fault t parent element num long_told → within_limits (tree_view t) (Ok text) ≡ Err (fault_cause fault)
   split_held fault long_told is_long_told is =

@@ -15,6 +15,7 @@ use Rattle.act_tree.specs.Eids.{eid_below, enacted, all_enacted}
 use Rattle.act_tree.specs.Faults.{owns, all_owns, first_fault, first_cause, fault_cause}
 use Rattle.act_tree.specs.Provisions.{Own, Provision}
 use Rattle.textual_mods.proofs.Behind.{AllWids, HaveWids, all_none}
+use Rattle.act_tree.specs.declared.limits.NodeLimit.{NodeLimit}
 
 mutual
   own_again : (n : Numbering) (above : Option (List ℕ)) (b : Branch Own) → owns (enacted n above b) ≡ b
@@ -26,8 +27,8 @@ mutual
       ap (λ c. more_branches c (all_owns (all_enacted n above bs))) (own_again n above b) ∙ ap (more_branches b) (owns_again n above bs)
 
 -- the tree of an act as enacted is as well-formed as its nodes are
-pub enacted_fits : (n : Numbering) (bs : Branches Own) → first_fault n bs ≡ None → first_cause (record { numbering = n; body = all_enacted n None bs; changes = 0 }) ≡ None
-enacted_fits n bs none = ap (λ cs. option_map fault_cause (first_fault n cs)) (owns_again n None bs) ∙ ap (option_map fault_cause) none
+pub enacted_fits : (n : Numbering) (limit : NodeLimit) (bs : Branches Own) → first_fault n limit bs ≡ None → first_cause (record { numbering = n; limit = limit; body = all_enacted n None bs; changes = 0 }) ≡ None
+enacted_fits n limit bs none = ap (λ cs. option_map fault_cause (first_fault n limit cs)) (owns_again n None bs) ∙ ap (option_map fault_cause) none
 
 -- a text begins with another byte than `m`
 abbrev begins_else : List ℕ → Bool

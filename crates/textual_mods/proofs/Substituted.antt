@@ -35,11 +35,12 @@ use Rattle.textual_mods.proofs.OnePlace.{held_found}
 use Rattle.textual_mods.proofs.PutInstead.{ChildAt, differ_without, at_children, IsPutInstead, put_instead}
 use Rattle.textual_mods.proofs.Removals.{fits_without}
 use Rattle.act_tree.proofs.WidsDiffer.{wids_differ}
+use Rattle.act_tree.specs.declared.limits.NodeLimit.TheVariants.{Plain}
 
 -- what is left of a tree that keeps the limits keeps them
-pub clean_left : (t : Tree) (gone : Option ℕ) → first_cause (tree_view t) ≡ None → first_fault (tree_view t).numbering (all_owns (text_left t gone)) ≡ None
+pub clean_left : (t : Tree) (gone : Option ℕ) → first_cause (tree_view t) ≡ None → first_fault (tree_view t).numbering (tree_view t).limit (all_owns (text_left t gone)) ≡ None
 clean_left t None fits = faultless (tree_view t) fits
-clean_left t (Some id) fits = fits_without (tree_view t).numbering (provision_at t id).wid (tree_view t).body (faultless (tree_view t) fits)
+clean_left t (Some id) fits = fits_without (tree_view t).numbering (tree_view t).limit (provision_at t id).wid (tree_view t).body (faultless (tree_view t) fits)
 
 pub numbered_left : (t : Tree) (gone : Option ℕ) → are_numbered (text_left t gone) ≡ true
 numbered_left t None = nums_kept t
@@ -57,7 +58,7 @@ listed_at t id zero (k ∷ ks) is =
     ap (has_wid (provision_at t id).wid) (branch_is t k) ∙ equal_text (provision_at t k).wid (provision_at t id).wid (ap (λ j. (provision_at t j).wid) same)
 listed_at t id (suc place) (k ∷ ks) is = listed_at t id place ks is
 
-module _ (t : Tree) (by : Id) (new : Branches Own) (fits : first_cause (tree_view t) ≡ None) (sound : first_fault NONE_THROUGHOUT new ≡ None) (nums : have_nums new ≡ true)
+module _ (t : Tree) (by : Id) (new : Branches Own) (fits : first_cause (tree_view t) ≡ None) (sound : first_fault NONE_THROUGHOUT Plain new ≡ None) (nums : have_nums new ≡ true)
     (id parent place : ℕ) (node : has_node t id ≡ true) (other : id ≡ 0 → ⊥) (parent_node : has_node t parent ≡ true) (child : slice_get (children_at t parent) place ≡ Some id) where
   abbrev w : List ℕ
   w = (provision_at t id).wid
@@ -109,9 +110,9 @@ module _ (t : Tree) (by : Id) (new : Branches Own) (fits : first_cause (tree_vie
 
   pub fault_of_substitution : first_cause (with_body t (substituted_at t id (brought by new))) ≡ option_map fault_cause (substitution_fault t id parent new)
   fault_of_substitution =
-      ap (λ bs. option_map fault_cause (first_fault n (all_owns bs))) text_is
+      ap (λ bs. option_map fault_cause (first_fault n (tree_view t).limit (all_owns bs))) text_is
       ∙ ap (option_map fault_cause)
-      (fault_told n (without w body) by new (clean_left t (Some id) fits) (numbered_left t (Some id)) sound nums v place (provision_at t parent) (without w (below_at t parent)) (differ_without w body (wids_differ t))
+      (fault_told n (tree_view t).limit (without w body) by new (clean_left t (Some id) fits) (numbered_left t (Some id)) sound nums v place (provision_at t parent) (without w (below_at t parent)) (differ_without w body (wids_differ t))
       (λ beneath. let r : IsPutInstead w (brought by new) v place (provision_at t parent) (below_at t parent) child_there body = below_node beneath in r.there))
 
   pub held_instead : (fault : BuildFault) → Some fault ≡ substitution_fault t id parent new → within_limits (tree_view t) (Ok (substituted_at t id (brought by new))) ≡ Err (fault_cause fault)

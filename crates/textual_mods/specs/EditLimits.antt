@@ -8,6 +8,7 @@ use Rattle.act_tree.specs.Limits.{is_wid, have_few_refs}
 use Rattle.act_tree.specs.Provisions.{Own}
 use Rattle.act_tree.specs.Wids.{one_twice}
 use Rattle.act_tree.specs.declared.build_fault.BuildFault.{BuildFault}
+use Rattle.act_tree.specs.declared.limits.NodeLimit.TheVariants.{Plain}
 use Rattle.act_tree.specs.declared.limits.TheConstants.{MAX_TEXT_BYTES}
 use Rattle.act_tree.specs.declared.surveying.TheConstants.{NONE_THROUGHOUT}
 use Rattle.textual_mods.specs.declared.edit.TextualMod.{TextualMod}
@@ -60,8 +61,9 @@ edit_fits (Renumber pairs) = pairs_fit pairs
 edit_fits (Split wid at num heading) = is_wid wid && split_at_fits at && text_fits heading
 edit_fits (Join wid second separator) = is_wid wid && is_wid second && not (bytes_eq wid second) && text_fits separator
 
--- the first fault of the nodes that an edit brings, below a root at which no element is numbered throughout
+-- the first fault of the nodes that an edit brings, as the children of a root at which no element is numbered throughout,
+-- in a plain act
 abbrev pub payload_fault : TextualMod → Option BuildFault
-payload_fault (SubstituteNodes wid new) = first_fault NONE_THROUGHOUT (branches_of new)
-payload_fault (InsertNodes wid pos new) = first_fault NONE_THROUGHOUT (branches_of new)
+payload_fault (SubstituteNodes wid new) = first_fault NONE_THROUGHOUT Plain (branches_of new)
+payload_fault (InsertNodes wid pos new) = first_fault NONE_THROUGHOUT Plain (branches_of new)
 payload_fault _ = None

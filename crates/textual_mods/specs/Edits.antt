@@ -3,6 +3,7 @@ use Rattle.std.specs.Prelude.{◌≡◌, Option, Some, None, Result, Ok, Err}
 use Rattle.desk_base.specs.declared.id.Id.{Id}
 use Rattle.act_tree.specs.declared.cause.Cause.{Cause}
 use Rattle.act_tree.specs.declared.tree.Tree.{Tree}
+use Rattle.act_tree.specs.declared.limits.NodeLimit.TheVariants.{Plain}
 use Rattle.act_tree.specs.declared.surveying.TheConstants.{NONE_THROUGHOUT}
 use Rattle.act_tree.specs.Branches.{Branches, branches_of}
 use Rattle.act_tree.specs.Faults.{first_cause, first_fault}
@@ -69,8 +70,8 @@ abbrev pub settled : Tree → (Branches Provision → Result (Branches Provision
 settled t change = tree_after (tree_view t) (within_limits (tree_view t) (change (tree_view t).body))
 
 -- what an edit keeps before it comes to a tree: nodes that it brings would make a tree by themselves, as the children
--- of a root at which no element is numbered throughout
+-- of a root at which no element is numbered throughout, in a plain act
 abbrev pub IsSound : TextualMod → Type 0
-IsSound (SubstituteNodes wid new) = first_fault NONE_THROUGHOUT (branches_of new) ≡ None
-IsSound (InsertNodes wid pos new) = first_fault NONE_THROUGHOUT (branches_of new) ≡ None
+IsSound (SubstituteNodes wid new) = first_fault NONE_THROUGHOUT Plain (branches_of new) ≡ None
+IsSound (InsertNodes wid pos new) = first_fault NONE_THROUGHOUT Plain (branches_of new) ≡ None
 IsSound edit = Unit {0}

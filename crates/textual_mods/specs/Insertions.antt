@@ -10,7 +10,9 @@ use Rattle.eid_paths.specs.Levels.{level_text}
 use Rattle.eid_paths.specs.Nums.{is_num}
 use Rattle.act_tree.specs.declared.build_fault.BuildFault.{BuildFault}
 use Rattle.act_tree.specs.declared.build_fault.BuildFault.TheVariants.{EidTwice, TooDeep, TooManyNodes, TextTooLong}
-use Rattle.act_tree.specs.declared.limits.TheConstants.{MAX_DEPTH, MAX_NODES}
+use Rattle.act_tree.specs.declared.limits.TheConstants.{MAX_DEPTH}
+use Rattle.act_tree.specs.declared.limits.NodeLimit.{NodeLimit}
+use Rattle.act_tree.specs.NodeLimits.{most_nodes}
 use Rattle.act_tree.specs.declared.tree.Tree.{Tree}
 use Rattle.act_tree.specs.Branches.{Branch, Branches, branch, no_branches, more_branches, heights, counts}
 use Rattle.act_tree.specs.Changes.{root_wid}
@@ -84,17 +86,17 @@ abbrev mutual
 abbrev pub height_with : List ℕ → ℕ → Branches Provision → ℕ
 height_with wid high body = if bytes_eq wid root_wid then max (heights body) high else heights_over wid high body
 
--- the first fault of a text with provisions that are brought among these, the children of the one of a wId
-abbrev pub fault_among : Numbering → Branches Provision → List ℕ → Branches Provision → Branches Own → Option BuildFault
-fault_among numbering body wid siblings new =
+-- the first fault of a text of a limit with provisions that are brought among these, the children of the one of a wId
+abbrev pub fault_among : Numbering → NodeLimit → Branches Provision → List ℕ → Branches Provision → Branches Own → Option BuildFault
+fault_among numbering limit body wid siblings new =
     if taken_among numbering (bytes_eq wid root_wid) new (all_owns body) (all_owns siblings) then Some EidTwice
     else (if nat_lt MAX_DEPTH (height_with wid (heights new) body) then Some TooDeep
-    else (if nat_lt MAX_NODES (counts body + counts new) then Some TooManyNodes else None))
+    else (if nat_lt (most_nodes limit) (counts body + counts new) then Some TooManyNodes else None))
 
 -- the first fault of a tree with provisions that are brought among the children of a node
 abbrev pub insertion_fault : Tree → ℕ → Branches Own → Option BuildFault
 insertion_fault t parent new =
-    fault_among (tree_view t).numbering (tree_view t).body (provision_at t parent).wid (below_at t parent) new
+    fault_among (tree_view t).numbering (tree_view t).limit (tree_view t).body (provision_at t parent).wid (below_at t parent) new
 
 -- the num of each provision that is brought keeps the rule of nums
 abbrev pub have_nums : Branches Own → Bool
@@ -113,5 +115,5 @@ one_alone element num =
 abbrev pub split_fault : Tree → ℕ → Element → List ℕ → Bool → Option BuildFault
 split_fault t parent element num long =
     if number_taken t parent (one_alone element num) then Some EidTwice
-    else (if nat_lt MAX_NODES (counts (tree_view t).body + 1) then Some TooManyNodes
+    else (if nat_lt (most_nodes (tree_view t).limit) (counts (tree_view t).body + 1) then Some TooManyNodes
     else (if long then Some TextTooLong else None))

@@ -35,7 +35,7 @@ left_below t gone parent = left (wid_of t gone) (below_at t parent)
 -- the first fault of a tree with provisions that are brought among the children of a node, where another goes, if one does
 abbrev pub bringing_fault : Tree → Option ℕ → ℕ → Branches Own → Option BuildFault
 bringing_fault t gone parent new =
-    fault_among (tree_view t).numbering (text_left t gone) (provision_at t parent).wid (left_below t gone parent) new
+    fault_among (tree_view t).numbering (tree_view t).limit (text_left t gone) (provision_at t parent).wid (left_below t gone parent) new
 
 -- the first fault of a tree with provisions that are brought in the place of a child of a node
 abbrev pub substitution_fault : Tree → ℕ → ℕ → Branches Own → Option BuildFault

@@ -7,7 +7,7 @@ ghost use Rattle.act_tree.specs.Wids.{is_among, one_twice};
 ghost use Rattle.textual_mods.specs.EditLimits as spec;
 
 use crate::{Pairs, SplitAt, Spot, TextPos, TextualMod};
-use act_tree::{BuildFault, MAX_TEXT_BYTES, NONE_THROUGHOUT, Nodes, fault_of, is_wid};
+use act_tree::{BuildFault, MAX_TEXT_BYTES, NONE_THROUGHOUT, NodeLimit, Nodes, fault_of, is_wid};
 use desk_base::{Memory, Text};
 use eid_paths::Num;
 use std::alloc::Global;
@@ -145,13 +145,13 @@ impl TextualMod {
         }
     }
 
-    /// The first fault of the nodes that the edit brings, if it brings any and they have one.
+    /// The first fault of the nodes that the edit brings, as a text of a plain act, if it brings any and they have one.
     pub fn payload_fault(&self, alloc: Global) -> Result<Option<BuildFault>, Memory>
         ensures { IfOk result (λ fault. fault ≡ spec.payload_fault self.now) }
     {
         match self {
             TextualMod::SubstituteNodes { new, .. } | TextualMod::InsertNodes { new, .. } => {
-                fault_of(alloc, NONE_THROUGHOUT, new)
+                fault_of(alloc, NONE_THROUGHOUT, NodeLimit::Plain, new)
             }
             _ => Ok(None),
         }

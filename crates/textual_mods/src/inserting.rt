@@ -7,6 +7,7 @@ ghost use Rattle.act_tree.specs.Changes.{is_in};
 ghost use Rattle.act_tree.specs.Faults.{all_eids, all_owns, first_cause, first_fault};
 ghost use Rattle.act_tree.specs.Seen.{tree_view, has_node, provision_at, children_at, grafted_at};
 ghost use Rattle.act_tree.specs.Wids.{one_twice};
+ghost use Rattle.act_tree.specs.declared.limits.NodeLimit.TheVariants.{Plain};
 ghost use Rattle.act_tree.specs.declared.surveying.TheConstants.{NONE_THROUGHOUT};
 ghost use Rattle.eid_paths.specs.Elements.{is_throughout};
 ghost use Rattle.textual_mods.specs.Edits.{answer_to, settled};
@@ -30,7 +31,7 @@ fn is_too_deep(tree: &Tree, gone: &Option<NodeId>, parent: NodeId, new: &Nodes) 
     requires fits { first_cause (tree_view tree.now) ≡ None }
     requires node { has_node tree.now parent ≡ true }
     requires left { is_in (provision_at tree.now parent).wid (text_left tree.now gone.now) ≡ true }
-    requires payload { first_fault NONE_THROUGHOUT (branches_of new.now) ≡ None }
+    requires payload { first_fault NONE_THROUGHOUT Plain (branches_of new.now) ≡ None }
     ensures { result ≡ nat_lt MAX_DEPTH (spec.height_with (provision_at tree.now parent).wid
         (heights (branches_of new.now)) (text_left tree.now gone.now)) }
 {
@@ -43,7 +44,7 @@ fn has_eid_twice(alloc: Global, tree: &Tree, nodes: &Nodes) -> Result<bool, Memo
     ensures { IfOk result (λ twice. twice
         ≡ one_twice (all_eids (tree_view tree.now).numbering None (branches_of nodes.now))) }
 {
-    match fault_of(alloc, tree.numbering(), nodes)? {
+    match fault_of(alloc, tree.numbering(), tree.limit(), nodes)? {
         Some(BuildFault::EidTwice) => Ok(true),
         _ => Ok(false),
     }
@@ -74,7 +75,7 @@ fn is_number_taken(
     requires fits { first_cause (tree_view tree.now) ≡ None }
     requires gone { IfSome gone.now (λ other. has_node tree.now other ≡ true) }
     requires node { has_node tree.now parent ≡ true }
-    requires payload { first_fault NONE_THROUGHOUT (branches_of new.now) ≡ None }
+    requires payload { first_fault NONE_THROUGHOUT Plain (branches_of new.now) ≡ None }
     requires nums { have_nums (branches_of new.now) ≡ true }
     ensures { IfOk result (λ taken. taken ≡ taken_among (tree_view tree.now).numbering (is_root tree.now parent)
         (branches_of new.now) (all_owns (text_left tree.now gone.now)) (all_owns (left_below tree.now gone.now parent))) }
@@ -151,7 +152,7 @@ pub fn fault_of_bringing(
     requires gone { IfSome gone.now (λ other. has_node tree.now other ≡ true) }
     requires node { has_node tree.now parent ≡ true }
     requires left { is_in (provision_at tree.now parent).wid (text_left tree.now gone.now) ≡ true }
-    requires payload { first_fault NONE_THROUGHOUT (branches_of new.now) ≡ None }
+    requires payload { first_fault NONE_THROUGHOUT Plain (branches_of new.now) ≡ None }
     requires nums { have_nums (branches_of new.now) ≡ true }
     ensures { IfOk result (λ fault. fault ≡ bringing_fault tree.now gone.now parent (branches_of new.now)) }
 {
@@ -181,7 +182,7 @@ pub fn insert_at<L: Ledger>(
     requires fits { first_cause (tree_view tree.old) ≡ None }
     requires node { has_node tree.old parent ≡ true }
     requires place { place ≤ length (children_at tree.old parent) }
-    requires payload { first_fault NONE_THROUGHOUT (branches_of new.now) ≡ None }
+    requires payload { first_fault NONE_THROUGHOUT Plain (branches_of new.now) ≡ None }
     requires fresh { has_brought by (tree_view tree.old).body ≡ false }
     ensures outcome { IfOk result (λ o. o
         ≡ answer_to tree.old (λ _. Ok (grafted_at tree.old parent place (brought by (branches_of new.now))))) }

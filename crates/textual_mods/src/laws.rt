@@ -8,6 +8,7 @@ ghost use Rattle.act_tree.specs.Changes.{renumbered};
 ghost use Rattle.act_tree.specs.Eids.{all_enacted};
 ghost use Rattle.act_tree.specs.Faults.{fault_cause, first_cause, first_fault};
 ghost use Rattle.act_tree.specs.Seen.{tree_view, has_node, children_at, grafted_at, substituted_at, with_body};
+ghost use Rattle.act_tree.specs.declared.limits.NodeLimit.TheVariants.{Plain};
 ghost use Rattle.act_tree.specs.declared.surveying.TheConstants.{NONE_THROUGHOUT};
 ghost use Rattle.act_tree.specs.Trees.{unchanged};
 ghost use Rattle.act_tree.specs.Wids.{all_wids, one_twice};
@@ -19,7 +20,7 @@ ghost use Rattle.textual_mods.specs.declared.edit.TextualMod.{TextualMod as Edit
 ghost use Rattle.textual_mods.specs.declared.fitting.TheConstants as limit;
 
 use crate::{Pairs, TextualMod};
-use act_tree::{NodeId, Nodes, Tree};
+use act_tree::{NodeId, NodeLimit, Nodes, Tree};
 use desk_base::Id;
 use eid_paths::Numbering;
 
@@ -29,9 +30,9 @@ pub fn limits_in_numbers()
 {}
 
 /// The tree of an act as enacted is well-formed, if the nodes make a tree: an edit may be applied to it.
-pub fn enacted_is_well_formed(nodes: &Nodes, numbering: Numbering)
-    requires { first_fault numbering (branches_of nodes.now) ≡ None }
-    ensures { first_cause (unchanged numbering (all_enacted numbering None (branches_of nodes.now))) ≡ None }
+pub fn enacted_is_well_formed(nodes: &Nodes, numbering: Numbering, limit: NodeLimit)
+    requires { first_fault numbering limit (branches_of nodes.now) ≡ None }
+    ensures { first_cause (unchanged numbering limit (all_enacted numbering None (branches_of nodes.now))) ≡ None }
 {}
 
 /// An act as enacted has no wId of a modification.
@@ -50,7 +51,7 @@ pub fn wids_are_distinct(tree: &Tree)
 pub fn faults_of_insertions_are_told_before(tree: &Tree, parent: NodeId, by: Id, nodes: &Nodes)
     requires fits { first_cause (tree_view tree.now) ≡ None }
     requires node { has_node tree.now parent ≡ true }
-    requires payload { first_fault NONE_THROUGHOUT (branches_of nodes.now) ≡ None }
+    requires payload { first_fault NONE_THROUGHOUT Plain (branches_of nodes.now) ≡ None }
     requires nums { have_nums (branches_of nodes.now) ≡ true }
     ensures { (place : ℕ) → first_cause (with_body tree.now (grafted_at tree.now parent place
         (brought by (branches_of nodes.now))))
@@ -73,7 +74,7 @@ pub fn faults_of_substitutions_are_told_before(
     requires provision { id ≡ 0 → ⊥ }
     requires parent { has_node tree.now parent ≡ true }
     requires child { slice_get (children_at tree.now parent) place ≡ Some id }
-    requires payload { first_fault NONE_THROUGHOUT (branches_of nodes.now) ≡ None }
+    requires payload { first_fault NONE_THROUGHOUT Plain (branches_of nodes.now) ≡ None }
     requires nums { have_nums (branches_of nodes.now) ≡ true }
     ensures { first_cause (with_body tree.now (substituted_at tree.now id (brought by (branches_of nodes.now))))
         ≡ option_map fault_cause (substitution_fault tree.now id parent (branches_of nodes.now)) }

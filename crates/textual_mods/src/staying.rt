@@ -7,6 +7,7 @@ ghost use Rattle.std.specs.Str.{bytes_eq};
 ghost use Rattle.act_tree.specs.Branches.{branches_of, counts, no_branches};
 ghost use Rattle.act_tree.specs.EidLevels.{all_beginning, levels_on, own_level};
 ghost use Rattle.act_tree.specs.Faults.{all_owns};
+ghost use Rattle.act_tree.specs.NodeLimits.{most_nodes};
 ghost use Rattle.act_tree.specs.Seen.{tree_view, has_node, provision_at, branch_at, below_at};
 ghost use Rattle.act_tree.specs.Wids.{is_among};
 ghost use Rattle.eid_paths.specs.Elements.{is_throughout};
@@ -14,7 +15,7 @@ ghost use Rattle.eid_paths.specs.Levels.{level_text};
 ghost use Rattle.textual_mods.specs.Substitutions.{goes, left, left_below, text_left, wid_of};
 
 use crate::num_changes::is_level;
-use act_tree::{MAX_NODES, NodeId, Tree};
+use act_tree::{NodeId, Tree};
 use eid_paths::{Element, Num};
 
 // Whether a node is the one that goes.
@@ -156,14 +157,16 @@ fn count_left(tree: &Tree, gone: &Option<NodeId>) -> u32
     }
 }
 
-/// Whether those that are left and so many others are more nodes than a text may have. They are counted only where so
+/// Whether those that are left and so many others are more nodes than the limit of the tree says. They are counted only where so
 /// many were laid down that they might be.
 pub fn are_too_many(tree: &Tree, gone: &Option<NodeId>, others: u32) -> bool
     requires { IfSome gone.now (λ other. has_node tree.now other ≡ true) }
-    ensures { result ≡ nat_lt MAX_NODES (counts (text_left tree.now gone.now) + others) }
+    ensures { result
+        ≡ nat_lt (most_nodes (tree_view tree.now).limit) (counts (text_left tree.now gone.now) + others) }
 {
-    if tree.laid_down().saturating_add(others as usize) <= MAX_NODES as usize {
+    let most = tree.limit().most();
+    if tree.laid_down().saturating_add(others as usize) <= most as usize {
         return false;
     }
-    count_left(tree, gone).saturating_add(others) > MAX_NODES
+    count_left(tree, gone).saturating_add(others) > most
 }

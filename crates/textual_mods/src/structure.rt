@@ -7,6 +7,7 @@ ghost use Rattle.act_tree.specs.Changes.{after};
 ghost use Rattle.act_tree.specs.Faults.{first_cause, first_fault};
 ghost use Rattle.act_tree.specs.Provisions.{Provision};
 ghost use Rattle.act_tree.specs.Seen.{tree_view, has_node, children_at, grafted_at, changed_at, substituted_at};
+ghost use Rattle.act_tree.specs.declared.limits.NodeLimit.TheVariants.{Plain};
 ghost use Rattle.act_tree.specs.declared.surveying.TheConstants.{NONE_THROUGHOUT};
 ghost use Rattle.textual_mods.specs.Edits.{answer_to, settled};
 ghost use Rattle.textual_mods.specs.StructureEdits.{repealed, nodes_substituted, nodes_inserted, is_anchor, placed};
@@ -48,7 +49,7 @@ pub fn substitute_nodes<L: Ledger>(
     steps: &mut Steps<L>,
 ) -> Result<Outcome, Memory>
     requires fits { first_cause (tree_view tree.old) ≡ None }
-    requires payload { first_fault NONE_THROUGHOUT (branches_of new.now) ≡ None }
+    requires payload { first_fault NONE_THROUGHOUT Plain (branches_of new.now) ≡ None }
     requires fresh { has_brought by (tree_view tree.old).body ≡ false }
     ensures outcome { IfOk result (λ o. o ≡ answer_to tree.old (nodes_substituted by wid.now (branches_of new.now))) }
     ensures tree { OnOk result (tree_view tree.new
@@ -77,7 +78,7 @@ fn substitute_node<L: Ledger>(
     requires fits { first_cause (tree_view tree.old) ≡ None }
     requires node { has_node tree.old id ≡ true }
     requires provision { id ≡ 0 → ⊥ }
-    requires payload { first_fault NONE_THROUGHOUT (branches_of new.now) ≡ None }
+    requires payload { first_fault NONE_THROUGHOUT Plain (branches_of new.now) ≡ None }
     requires fresh { has_brought by (tree_view tree.old).body ≡ false }
     ensures outcome { IfOk result (λ o. o
         ≡ answer_to tree.old (λ _. Ok (substituted_at tree.old id (brought by (branches_of new.now))))) }
@@ -99,7 +100,7 @@ fn substitute_node<L: Ledger>(
     }
 }
 
-// Puts nodes in the place of all provisions, unless they make no tree of this numbering: nothing of the text stays.
+// Puts nodes in the place of all provisions, unless they make no tree of this numbering and limit: nothing of the text stays.
 fn substitute_all<L: Ledger>(
     alloc: Global,
     tree: &mut Tree,
@@ -107,14 +108,14 @@ fn substitute_all<L: Ledger>(
     new: &Nodes,
     steps: &mut Steps<L>,
 ) -> Result<Outcome, Memory>
-    requires payload { first_fault NONE_THROUGHOUT (branches_of new.now) ≡ None }
+    requires payload { first_fault NONE_THROUGHOUT Plain (branches_of new.now) ≡ None }
     requires fresh { has_brought by (tree_view tree.old).body ≡ false }
     ensures outcome { IfOk result (λ o. o ≡ answer_to tree.old (λ _. Ok (brought by (branches_of new.now)))) }
     ensures tree { OnOk result (tree_view tree.new ≡ settled tree.old (λ _. Ok (brought by (branches_of new.now)))) }
     ensures kept { OnErr result (tree_view tree.new ≡ tree_view tree.old) }
     ensures step { steps.new ≡ steps.old + 1 }
 {
-    let fault = or_step(fault_of(alloc, tree.numbering(), new), steps)?;
+    let fault = or_step(fault_of(alloc, tree.numbering(), tree.limit(), new), steps)?;
     match fault {
         Some(fault) => Ok(held_back(fault.cause(), steps)),
         None => {
@@ -136,7 +137,7 @@ pub fn insert_nodes<L: Ledger>(
     steps: &mut Steps<L>,
 ) -> Result<Outcome, Memory>
     requires fits { first_cause (tree_view tree.old) ≡ None }
-    requires payload { first_fault NONE_THROUGHOUT (branches_of new.now) ≡ None }
+    requires payload { first_fault NONE_THROUGHOUT Plain (branches_of new.now) ≡ None }
     requires fresh { has_brought by (tree_view tree.old).body ≡ false }
     ensures outcome { IfOk result (λ o. o ≡ answer_to tree.old (nodes_inserted by wid.now pos (branches_of new.now))) }
     ensures tree { OnOk result (tree_view tree.new

@@ -25,7 +25,7 @@ use Rattle.akn_json.specs.Printing.Bearings.{destination_data, force_data, effic
 use Rattle.akn_json.specs.Printing.Drafts.{modification_data, draft_items_data, draft_value}
 use Rattle.akn_json.specs.Printing.Edits.{pairs_data, textual_data}
 use Rattle.akn_json.specs.Printing.Nodes.{brought_data, all_brought_data, payload_data}
-use Rattle.akn_json.specs.Printing.Parts.{period_data}
+use Rattle.akn_json.specs.Printing.Parts.{period_data, source_data}
 use Rattle.akn_json.specs.Reading.Drafts.{can_spell_items}
 
 texts_low : (texts : List (List ℕ)) → items_depth (texts_data texts) ≤ 0
@@ -58,38 +58,46 @@ period_low_of start (Some day) = omega arith
 period_low : (p : Period) → depth (period_data p) ≤ 1
 period_low p = period_low_of p.start p.end
 
+source_low_of : (href : List ℕ) (place : ℕ) (provision : Option (List ℕ))
+    → depth (source_data (record { href = href; place = place; provision = provision })) ≤ 1
+source_low_of href place None = omega arith
+source_low_of href place (Some wid) = omega arith
+
+source_low : (s : ModSource) → depth (source_data s) ≤ 1
+source_low s = source_low_of s.href s.place s.provision
+
 destination_low : (to : Destination) → depth (destination_data to) ≤ 1
 destination_low (destination.Modification id) = omega arith
 destination_low (destination.Node wid) = omega arith
 
 textual_low : (source : ModSource) (force : Period) (edit : TextualMod) → can_spell_edit edit ≡ true → depth (textual_data source force edit) ≤ 26
 unfolding textual_data
-textual_low source force (Repeal wid) able = omega (arith, period_low force)
+textual_low source force (Repeal wid) able = omega (arith, source_low source, period_low force)
 textual_low source force (SubstituteNodes wid new) able =
-    omega (arith, period_low force, payload_low new (and_parts (is_counted wid) (can_spell_payload new) able).1)
-textual_low source force (SubstituteText wid spot new) able = omega (arith, period_low force)
+    omega (arith, source_low source, period_low force, payload_low new (and_parts (is_counted wid) (can_spell_payload new) able).1)
+textual_low source force (SubstituteText wid spot new) able = omega (arith, source_low source, period_low force)
 textual_low source force (InsertNodes wid at new) able =
-    omega (arith, period_low force, payload_low new (and_parts (is_counted wid) (can_spell_payload new) able).1)
-textual_low source force (InsertText wid stands.Start new) able = omega (arith, period_low force)
-textual_low source force (InsertText wid stands.End new) able = omega (arith, period_low force)
-textual_low source force (InsertText wid (stands.Before spot) new) able = omega (arith, period_low force)
-textual_low source force (InsertText wid (stands.After spot) new) able = omega (arith, period_low force)
-textual_low source force (Renumber pairs) able = omega (arith, period_low force, pairs_low pairs)
-textual_low source force (Split wid (cuts.Text spot) num heading) able = omega (arith, period_low force)
-textual_low source force (Split wid (cuts.Child child) num heading) able = omega (arith, period_low force)
-textual_low source force (Join wid second separator) able = omega (arith, period_low force)
+    omega (arith, source_low source, period_low force, payload_low new (and_parts (is_counted wid) (can_spell_payload new) able).1)
+textual_low source force (InsertText wid stands.Start new) able = omega (arith, source_low source, period_low force)
+textual_low source force (InsertText wid stands.End new) able = omega (arith, source_low source, period_low force)
+textual_low source force (InsertText wid (stands.Before spot) new) able = omega (arith, source_low source, period_low force)
+textual_low source force (InsertText wid (stands.After spot) new) able = omega (arith, source_low source, period_low force)
+textual_low source force (Renumber pairs) able = omega (arith, source_low source, period_low force, pairs_low pairs)
+textual_low source force (Split wid (cuts.Text spot) num heading) able = omega (arith, source_low source, period_low force)
+textual_low source force (Split wid (cuts.Child child) num heading) able = omega (arith, source_low source, period_low force)
+textual_low source force (Join wid second separator) able = omega (arith, source_low source, period_low force)
 
 force_low : (source : ModSource) (to : Destination) (on : ℕ) (e : ForceEffect) → depth (force_data source to on e) ≤ 26
-force_low source to on e = omega (arith, destination_low to)
+force_low source to on e = omega (arith, source_low source, destination_low to)
 
 efficacy_low : (source : ModSource) (to : Destination) (on : ℕ) (e : EfficacyEffect) → depth (efficacy_data source to on e) ≤ 26
-efficacy_low source to on (made.Entry date) = omega (arith, destination_low to)
-efficacy_low source to on (made.Ended date) = omega (arith, destination_low to)
-efficacy_low source to on (made.Retroactive date) = omega (arith, destination_low to)
-efficacy_low source to on (made.Postponed date) = omega (arith, destination_low to)
-efficacy_low source to on (made.Prorogued date) = omega (arith, destination_low to)
-efficacy_low source to on made.Extra = omega (arith, destination_low to)
-efficacy_low source to on (made.Inapplied days) = omega (arith, destination_low to, period_low days)
+efficacy_low source to on (made.Entry date) = omega (arith, source_low source, destination_low to)
+efficacy_low source to on (made.Ended date) = omega (arith, source_low source, destination_low to)
+efficacy_low source to on (made.Retroactive date) = omega (arith, source_low source, destination_low to)
+efficacy_low source to on (made.Postponed date) = omega (arith, source_low source, destination_low to)
+efficacy_low source to on (made.Prorogued date) = omega (arith, source_low source, destination_low to)
+efficacy_low source to on made.Extra = omega (arith, source_low source, destination_low to)
+efficacy_low source to on (made.Inapplied days) = omega (arith, source_low source, destination_low to, period_low days)
 
 pub modification_low : (m : Modification) → can_spell_modification m ≡ true → depth (modification_data m) ≤ 27
 unfolding modification_data

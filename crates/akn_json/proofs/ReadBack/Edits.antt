@@ -3,7 +3,7 @@ use Rattle.std.proofs.Common.{◌≡◌, ℕ, true, List, [], ◌∷◌, Ok, ref
 use Rattle.std.specs.Prelude.{All}
 use Rattle.std.proofs.lemmas.List.Elements.{All-head, All-tail}
 use Rattle.desk_base.specs.declared.period.Period.{Period}
-use Rattle.law_register.specs.Law.Spelling.{is_spelled_edit}
+use Rattle.law_register.specs.Law.Spelling.{is_spelled_source, is_spelled_edit}
 use Rattle.law_register.specs.declared.law.modification.ModSource.{ModSource}
 use Rattle.law_register.specs.declared.law.modification.Modification.TheVariants.{Textual}
 use Rattle.textual_mods.specs.declared.edit.Pos.{Pos}
@@ -40,28 +40,28 @@ pairs_back : (ps : List (List ℕ × List ℕ)) → All IsTypedPair ps → each 
 pairs_back [] are = refl
 pairs_back (p ∷ ps) are = rw (pair_back p (All-head IsTypedPair p ps are), pairs_back ps (All-tail IsTypedPair p ps are)) refl
 
-pub textual_back : (source : ModSource) (force : Period) (edit : TextualMod) → IsTypedSource source → IsTypedPeriod force → IsTypedEdit edit
+pub textual_back : (source : ModSource) (force : Period) (edit : TextualMod) → IsTypedSource source → is_spelled_source source ≡ true → IsTypedPeriod force → IsTypedEdit edit
     → is_spelled_edit edit ≡ true → textual_in (textual_data source force edit) ≡ Ok (Textual source force edit)
 unfolding textual_data textual_in kind_in payload_in form_in has_members members_in either_in field_in optional_in items_in text_in repeal_in substitute_nodes_in substitute_text_in insert_nodes_in no_spot_in text_pos_in insert_text_in renumber_in split_at_in split_in join_in wid_in destination_in anchor_in occurrence_in spot_in
-textual_back source force (Repeal wid) from days typed well = rw (source_back source from, period_back force days) refl
-textual_back source force (SubstituteNodes wid new) from days typed well =
-    rw (source_back source from, period_back force days, nodes_back new typed.1 well) refl
-textual_back source force (SubstituteText wid spot new) from days typed well =
-    rw (source_back source from, period_back force days, number_back 65535 spot.occurrence typed.1.0) refl
-textual_back source force (InsertNodes wid at new) from days typed well =
-    rw (source_back source from, period_back force days, place_back wid at, nodes_back new typed.1 well) refl
-textual_back source force (InsertText wid stands.Start new) from days typed well =
-    rw (source_back source from, period_back force days, place_back wid pos.Start) refl
-textual_back source force (InsertText wid stands.End new) from days typed well =
-    rw (source_back source from, period_back force days, place_back wid pos.End) refl
-textual_back source force (InsertText wid (stands.Before spot) new) from days typed well =
-    rw (source_back source from, period_back force days, place_back wid pos.Before, number_back 65535 spot.occurrence typed.1.0) refl
-textual_back source force (InsertText wid (stands.After spot) new) from days typed well =
-    rw (source_back source from, period_back force days, place_back wid pos.After, number_back 65535 spot.occurrence typed.1.0) refl
-textual_back source force (Renumber pairs) from days typed well =
-    rw (source_back source from, period_back force days, pairs_back pairs typed) refl
-textual_back source force (Split wid (cuts.Text spot) num heading) from days typed well =
-    rw (source_back source from, period_back force days, number_back 65535 spot.occurrence typed.1.0, num_back num typed.2) refl
-textual_back source force (Split wid (cuts.Child child) num heading) from days typed well =
-    rw (source_back source from, period_back force days, num_back num typed.2) refl
-textual_back source force (Join wid second separator) from days typed well = rw (source_back source from, period_back force days) refl
+textual_back source force (Repeal wid) from names days typed well = rw (source_back source from names, period_back force days) refl
+textual_back source force (SubstituteNodes wid new) from names days typed well =
+    rw (source_back source from names, period_back force days, nodes_back new typed.1 well) refl
+textual_back source force (SubstituteText wid spot new) from names days typed well =
+    rw (source_back source from names, period_back force days, number_back 65535 spot.occurrence typed.1.0) refl
+textual_back source force (InsertNodes wid at new) from names days typed well =
+    rw (source_back source from names, period_back force days, place_back wid at, nodes_back new typed.1 well) refl
+textual_back source force (InsertText wid stands.Start new) from names days typed well =
+    rw (source_back source from names, period_back force days, place_back wid pos.Start) refl
+textual_back source force (InsertText wid stands.End new) from names days typed well =
+    rw (source_back source from names, period_back force days, place_back wid pos.End) refl
+textual_back source force (InsertText wid (stands.Before spot) new) from names days typed well =
+    rw (source_back source from names, period_back force days, place_back wid pos.Before, number_back 65535 spot.occurrence typed.1.0) refl
+textual_back source force (InsertText wid (stands.After spot) new) from names days typed well =
+    rw (source_back source from names, period_back force days, place_back wid pos.After, number_back 65535 spot.occurrence typed.1.0) refl
+textual_back source force (Renumber pairs) from names days typed well =
+    rw (source_back source from names, period_back force days, pairs_back pairs typed) refl
+textual_back source force (Split wid (cuts.Text spot) num heading) from names days typed well =
+    rw (source_back source from names, period_back force days, number_back 65535 spot.occurrence typed.1.0, num_back num typed.2) refl
+textual_back source force (Split wid (cuts.Child child) num heading) from names days typed well =
+    rw (source_back source from names, period_back force days, num_back num typed.2) refl
+textual_back source force (Join wid second separator) from names days typed well = rw (source_back source from names, period_back force days) refl

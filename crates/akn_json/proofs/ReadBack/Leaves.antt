@@ -16,16 +16,18 @@ use Rattle.desk_base.specs.declared.period.Period.{Period}
 use Rattle.desk_base.proofs.DayLaws.{day_read}
 use Rattle.desk_base.proofs.Numerals.{own, number_read}
 use Rattle.frbr_names.specs.Reads.{Read as NameRead}
+use Rattle.frbr_names.specs.Rules.{is_portion}
 use Rattle.frbr_names.specs.Works.{Work, work_of}
 use Rattle.frbr_names.proofs.RuleLemmas.{all_not_byte}
 use Rattle.frbr_names.proofs.Slashes.{through}
 use Rattle.frbr_names.proofs.WorkLemmas.{work_spelled}
+use Rattle.law_register.specs.Law.Spelling.{is_spelled_provision, is_spelled_source}
 use Rattle.law_register.specs.declared.law.modification.ModSource.{ModSource}
 use Rattle.akn_json.specs.Printing.Parts.{day_data, period_data, source_data}
 use Rattle.akn_json.specs.Printing.Refusals.{number_data}
 use Rattle.akn_json.specs.Printing.Typed.{IsTypedId, IsTypedPeriod, IsTypedSource}
 use Rattle.akn_json.specs.Reading.Fields.{has_members, members_in, field_in, optional_in, text_in, number_in, day_in, end_in, period_in}
-use Rattle.akn_json.specs.Reading.Names.{work_read, work_in, id_in, source_in}
+use Rattle.akn_json.specs.Reading.Names.{work_read, work_in, id_in, provision_in, source_in}
 
 pub number_back : (most n : ℕ) → n ≤ most → number_in most (number_data n) ≡ Ok n
 unfolding number_in
@@ -55,9 +57,21 @@ work_back iri is = by (work_of iri) refl is
         ap Ok (ap (λ (w : Work). w.text) spells.same ∙ sym spells.spelled)
     by (Err fault) read is = absurd (cc is)
 
-pub source_back : (s : ModSource) → IsTypedSource s → source_in (source_data s) ≡ Ok s
-unfolding source_in members_in has_members field_in
-source_back s typed = rw (work_back s.href typed.0.0, number_back 65535 s.place typed.1) refl
+-- the provision that a source names
+named_back : (wid : List ℕ) → is_portion wid ≡ true → provision_in (string wid) ≡ Ok (Some wid)
+unfolding provision_in text_in
+named_back wid is = rw is refl
+
+source_of : (href : List ℕ) (place : ℕ) (provision : Option (List ℕ)) → is_ok (work_of href) ≡ true → place ≤ 65535
+    → is_spelled_provision provision ≡ true → source_in (source_data (record { href = href; place = place; provision = provision }))
+    ≡ Ok (record { href = href; place = place; provision = provision })
+unfolding source_in members_in has_members field_in optional_in
+source_of href place None work few named = rw (work_back href work, number_back 65535 place few) refl
+source_of href place (Some wid) work few named =
+    rw (work_back href work, number_back 65535 place few, named_back wid named) refl
+
+pub source_back : (s : ModSource) → IsTypedSource s → is_spelled_source s ≡ true → source_in (source_data s) ≡ Ok s
+source_back s typed well = source_of s.href s.place s.provision typed.0.0 typed.1 well
 
 -- no digit is a full stop
 no_stop : (n : ℕ) → n ≤ 4294967295 → list_all (λ b. not (is_stop b)) (decimal n) ≡ true

@@ -1,9 +1,10 @@
 -- A modification, as it is printed, is read as that modification.
 use Rattle.std.proofs.Common.{◌≡◌, true, Ok, Some, refl}
 use Rattle.std.specs.Prelude.{codes}
+use Rattle.std.proofs.lemmas.Bool.{and_parts}
 use Rattle.serde_json.specs.Data.{Data}
 use Rattle.serde_json.specs.Find.{get}
-use Rattle.law_register.specs.Law.Spelling.{is_spelled_modification}
+use Rattle.law_register.specs.Law.Spelling.{is_spelled_source, is_spelled_edit, is_spelled_effect, is_spelled_modification}
 use Rattle.law_register.specs.declared.law.modification.Modification.{Modification}
 use Rattle.law_register.specs.declared.law.modification.Modification.TheVariants.{Textual, Force, Efficacy}
 use Rattle.akn_json.specs.Printing.Drafts.{modification_data}
@@ -17,9 +18,13 @@ use Rattle.akn_json.proofs.ReadBack.Bearings.{force_back, efficacy_back}
 pub modification_back : (m : Modification) → IsTypedModification m → is_spelled_modification m ≡ true
     → modification_in (modification_data m) ≡ Ok m
 unfolding modification_data modification_in members_in has_members field_in single_in bearing_in
-modification_back (Textual source force edit) typed well = textual_back source force edit typed.0 typed.1 typed.2 well
-modification_back (Force source to on effect) typed well = force_back source to on effect typed.0 typed.1 typed.2 typed.3
-modification_back (Efficacy source to on effect) typed well = efficacy_back source to on effect typed.0 typed.1 typed.2 typed.3 well
+modification_back (Textual source force edit) typed well =
+    let parts = and_parts (is_spelled_source source) (is_spelled_edit edit) well in
+    textual_back source force edit typed.0 parts.0 typed.1 typed.2 parts.1
+modification_back (Force source to on effect) typed well = force_back source to on effect typed.0 well typed.1 typed.2 typed.3
+modification_back (Efficacy source to on effect) typed well =
+    let parts = and_parts (is_spelled_source source) (is_spelled_effect on effect) well in
+    efficacy_back source to on effect typed.0 parts.0 typed.1 typed.2 typed.3 parts.1
 
 -- a command that has it at its key is read as bringing it
 pub command_back : (m : Modification) → IsTypedModification m → is_spelled_modification m ≡ true → (d : Data)

@@ -1,6 +1,6 @@
 -- What a draft prints of a modification has one text.
 use Rattle.std.proofs.Common.{◌≡◌, ◌≤◌, ◌<◌, ℕ, true, List, [], ◌∷◌, Option, Some, None, decimal, IsUtf8, refl, arith}
-use Rattle.std.specs.Prelude.{All, nat_le, ◌&&◌, length}
+use Rattle.std.specs.Prelude.{All, IfSome, nat_le, ◌&&◌, length}
 use Rattle.std.specs.List.{list_all}
 use Rattle.std.proofs.lemmas.Bool.{and_parts, and_from, lt-ltb}
 use Rattle.std.proofs.lemmas.Bool.Decides.{nat_tests}
@@ -93,8 +93,13 @@ number_plain n few = omega (arith, few)
 small_plain : (n : ℕ) → n ≤ 65535 → IsPlain (number_data n)
 small_plain n few = omega (arith, few)
 
+source_plain_of : (href : List ℕ) (place : ℕ) (provision : Option (List ℕ)) → IsTypedText href → place ≤ 65535 → IfSome provision IsTypedText
+    → IsPlain (source_data (record { href = href; place = place; provision = provision }))
+source_plain_of href place None work few named = (refl, (text_plain href work, (small_plain place few, tt)))
+source_plain_of href place (Some wid) work few named = (refl, (text_plain href work, (small_plain place few, (text_plain wid named, tt))))
+
 source_plain : (s : ModSource) → IsTypedSource s → IsPlain (source_data s)
-source_plain s typed = (refl, (text_plain s.href typed.0.1, (small_plain s.place typed.1, tt)))
+source_plain s typed = source_plain_of s.href s.place s.provision typed.0.1 typed.1 typed.2
 
 period_plain_of : (start : ℕ) (end : Option ℕ) → IsPlain (period_data (record { start = start; end = end }))
 period_plain_of start None = (refl, (text_ascii start, tt))

@@ -1,14 +1,17 @@
 -- A modification that is read is well spelled.
-use Rattle.std.proofs.Common.{◌≡◌, ℕ, ◌+◌, List, ◌∷◌, Option, Some, None, Ok, Err, refl}
-use Rattle.std.proofs.lemmas.Bool.{eq-eqb}
+use Rattle.std.proofs.Common.{◌≡◌, ℕ, ◌+◌, true, List, ◌∷◌, Option, Some, None, Ok, Err, refl}
+use Rattle.std.proofs.lemmas.Bool.{and_from, eq-eqb}
 use Rattle.serde_json.specs.Data.{Data, Items, no_items, item}
 use Rattle.serde_json.specs.Find.{get}
+use Rattle.desk_base.specs.declared.period.Period.{Period}
+use Rattle.frbr_names.specs.Rules.{is_portion}
+use Rattle.textual_mods.specs.declared.edit.TextualMod.{TextualMod}
 use Rattle.bearing_mods.specs.declared.efficacy.EfficacyEffect.TheVariants as made
 use Rattle.law_register.specs.declared.law.modification.ModSource.{ModSource}
 use Rattle.law_register.specs.declared.law.modification.Destination.{Destination}
 use Rattle.law_register.specs.declared.law.modification.Modification.{Modification}
-use Rattle.law_register.specs.declared.law.modification.Modification.TheVariants.{Efficacy}
-use Rattle.law_register.specs.Law.Spelling.{is_spelled_payload, is_spelled_edit, is_spelled_effect, is_spelled_modification, are_spelled_modifications}
+use Rattle.law_register.specs.declared.law.modification.Modification.TheVariants.{Textual, Efficacy}
+use Rattle.law_register.specs.Law.Spelling.{is_spelled_payload, is_spelled_edit, is_spelled_provision, is_spelled_source, is_spelled_effect, is_spelled_modification, are_spelled_modifications}
 use Rattle.akn_json.specs.declared.reading.modifications.bearing_kinds.EfficacyKind.{EfficacyKind}
 use Rattle.akn_json.specs.declared.reading.modifications.bearing_kinds.EfficacyKind.TheVariants as kind
 use Rattle.akn_json.specs.declared.reading.modifications.edits.EditForm.{EditForm}
@@ -16,6 +19,8 @@ use Rattle.akn_json.specs.declared.reading.modifications.edits.EditForm.TheVaria
 use Rattle.akn_json.specs.declared.reading.key.Key.TheVariants as key
 use Rattle.akn_json.specs.Reading.Keys.{key_name}
 use Rattle.akn_json.specs.Reading.Reads.{Read, ◌>>=◌, inside}
+use Rattle.akn_json.specs.Reading.Fields.{optional_in, text_in}
+use Rattle.akn_json.specs.Reading.Names.{provision_in, source_in}
 use Rattle.akn_json.specs.Reading.Modifications.Substitutions.{repeal_in, substitute_nodes_in, substitute_text_in}
 use Rattle.akn_json.specs.Reading.Modifications.Insertions.{insert_nodes_in, insert_text_in}
 use Rattle.akn_json.specs.Reading.Modifications.Renumberings.{renumber_in}
@@ -24,7 +29,23 @@ use Rattle.akn_json.specs.Reading.Modifications.Edits.{edit_in}
 use Rattle.akn_json.specs.Reading.Modifications.Bearings.{force_in, date_in, dated_in, inapplied_in, efficacy_on_in, efficacy_effect_in, efficacy_in}
 use Rattle.akn_json.specs.Reading.Modifications.{textual_in, force_or, bearing_in, textual_or, modification_in, each_from, mods_in}
 use Rattle.akn_json.proofs.Spelling.Nodes.{nodes_pass}
-use Rattle.akn_json.proofs.Spelling.Passing.{Passes, passes, passes_on, passes_from, passes_then, passes_inside}
+use Rattle.akn_json.proofs.Spelling.Passing.{Passes, passes, passes_kept, passes_on, passes_from, passes_then, passes_or, passes_inside}
+
+-- the provision that a source names
+provision_passes : (d : Data) → Passes is_spelled_provision (provision_in d)
+unfolding provision_in
+provision_passes d =
+    passes_on is_spelled_provision (text_in d) _
+    (λ wid _. passes_kept is_spelled_provision _ (is_portion wid) _ (λ is. passes is_spelled_provision (Some wid) is))
+
+provision_or_none : (d : Data) → Passes is_spelled_provision (optional_in key.Provision None provision_in d)
+unfolding optional_in
+provision_or_none d = passes_or is_spelled_provision None provision_in (get (key_name key.Provision) d) refl provision_passes
+
+source_passes : (d : Data) → Passes is_spelled_source (source_in d)
+unfolding source_in
+source_passes d =
+    search (passes_then, passes_from is_spelled_provision is_spelled_source, passes_on, provision_or_none, passes is_spelled_source) depth 24
 
 edit_passes : (f : EditForm) (d : Data) → Passes is_spelled_edit (edit_in f d)
 unfolding repeal_in substitute_nodes_in substitute_text_in insert_nodes_in insert_text_in renumber_in split_in join_in
@@ -40,11 +61,17 @@ edit_passes form.Join d = search (passes_on, passes is_spelled_edit) depth 24
 textual_passes : (d : Data) → Passes is_spelled_modification (textual_in d)
 unfolding textual_in
 textual_passes d =
-    search (passes_then, passes_from is_spelled_edit is_spelled_modification, passes_on, edit_passes, passes is_spelled_modification) depth 40
+    search (passes_then, passes_from is_spelled_source is_spelled_modification, passes_from is_spelled_edit is_spelled_modification, passes_on, source_passes, edit_passes, done) depth 40
+  where
+    done : (source : ModSource) (force : Period) (edit : TextualMod) → is_spelled_source source ≡ true → is_spelled_edit edit ≡ true
+        → Passes is_spelled_modification (Ok (Textual source force edit))
+    done source force edit from well =
+        passes is_spelled_modification (Textual source force edit) (and_from (is_spelled_source source) (is_spelled_edit edit) from well)
 
 force_passes : (d : Data) → Passes is_spelled_modification (force_in d)
 unfolding force_in
-force_passes d = search (passes_then, passes_on, passes is_spelled_modification) depth 40
+force_passes d =
+    search (passes_then, passes_from is_spelled_source is_spelled_modification, passes_on, source_passes, passes is_spelled_modification) depth 40
 
 -- what an efficacy modification does goes with the day from which it is counted
 effect_passes : (k : EfficacyKind) (d : Data) (on : ℕ) → efficacy_on_in k d ≡ Ok on → Passes (is_spelled_effect on) (efficacy_effect_in k d)
@@ -60,14 +87,16 @@ effect_passes kind.Inapplication d on is = search (passes_on, passes (is_spelled
 
 efficacy_passes : (d : Data) → Passes is_spelled_modification (efficacy_in d)
 unfolding efficacy_in
-efficacy_passes d = search (passes_then, passes_on, effect_on) depth 40
+efficacy_passes d =
+    search (passes_then, passes_from is_spelled_source is_spelled_modification, passes_on, source_passes, effect_on) depth 40
   where
-    effect_on : (k : EfficacyKind) (d : Data) (source : ModSource) (destination : Destination)
+    effect_on : (k : EfficacyKind) (d : Data) (source : ModSource) (destination : Destination) → is_spelled_source source ≡ true
         → Passes is_spelled_modification (efficacy_on_in k d >>= λ on. efficacy_effect_in k d >>= λ effect. Ok (Efficacy source destination on effect))
-    effect_on k d source destination =
+    effect_on k d source destination from =
         passes_on is_spelled_modification (efficacy_on_in k d) _
         (λ on is. passes_from (is_spelled_effect on) is_spelled_modification (efficacy_effect_in k d) _ (effect_passes k d on is)
-        (λ effect so. passes is_spelled_modification (Efficacy source destination on effect) so))
+        (λ effect so. passes is_spelled_modification (Efficacy source destination on effect)
+        (and_from (is_spelled_source source) (is_spelled_effect on effect) from so)))
 
 force_or_passes : (found : Option Data) (d : Data) → Passes is_spelled_modification (force_or found d)
 force_or_passes (Some f) d = force_passes f

@@ -19,10 +19,16 @@ until_data (Some day) = member (codes "until") (day_data day) no_members
 abbrev pub period_data : Period → Data
 period_data period = object (member (codes "from") (day_data period.start) (until_data period.end))
 
--- the work that modifies, and the place in it
+-- the provision that modifies, exactly where one is named
+abbrev pub named_data : Option (List ℕ) → Members
+named_data None = no_members
+named_data (Some wid) = member (codes "provision") (string wid) no_members
+
+-- the work that modifies, the place in it, and the provision of it
 abbrev pub source_data : ModSource → Data
 source_data source =
-    object (member (codes "href") (string source.href) (member (codes "place") (number_data source.place) no_members))
+    object (member (codes "href") (string source.href)
+    (member (codes "place") (number_data source.place) (named_data source.provision)))
 
 -- a provision, by its wId
 abbrev pub provision_data : List ℕ → Data

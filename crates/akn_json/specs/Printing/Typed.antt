@@ -39,7 +39,7 @@ abbrev pub IsTypedWork : List ℕ → Type 0
 IsTypedWork iri = (is_ok (work_of iri) ≡ true) × IsTypedText iri
 
 abbrev pub IsTypedSource : ModSource → Type 0
-IsTypedSource s = IsTypedWork s.href × (s.place ≤ 65535)
+IsTypedSource s = IsTypedWork s.href × (s.place ≤ 65535) × IfSome s.provision IsTypedText
 
 abbrev pub IsTypedId : Id → Type 0
 IsTypedId i = (i.law ≤ 4294967295) × (i.item ≤ 65535)

@@ -1,6 +1,9 @@
--- The form of an act: its work, its day, its language, its numbering, its force, and the nodes of its body.
-use Rattle.std.specs.Prelude.{ℕ, List, Ok}
+-- The form of an act: its work, its day, its language, its numbering, how many nodes it may have, its force, and the nodes of its body.
+use Rattle.std.specs.Prelude.{ℕ, ◌==◌, List, Option, Some, None, Ok, if◌then◌else◌}
 use Rattle.serde_json.specs.Data.{Data}
+use Rattle.act_tree.specs.NodeLimits.{most_nodes}
+use Rattle.act_tree.specs.declared.limits.NodeLimit.{NodeLimit}
+use Rattle.act_tree.specs.declared.limits.NodeLimit.TheVariants.{Plain, Wide}
 use Rattle.eid_paths.specs.declared.numbering.Numbering.{Numbering}
 use Rattle.eid_paths.specs.declared.numbering.TheConstants.Numbering.{DEFAULT}
 use Rattle.eid_paths.specs.Numberings.{numbering_of}
@@ -8,11 +11,11 @@ use Rattle.frbr_names.specs.Dates.{agrees_with}
 use Rattle.frbr_names.specs.Expressions.{is_language}
 use Rattle.frbr_names.specs.Works.{date_named}
 use Rattle.law_register.specs.declared.law.act.Act.{Act}
-use Rattle.akn_json.specs.declared.fault.FormRule.TheVariants.{BadName, DateDiffers}
+use Rattle.akn_json.specs.declared.fault.FormRule.TheVariants.{BadName, BadNumber, DateDiffers}
 use Rattle.akn_json.specs.declared.reading.key.Key.TheVariants as key
 use Rattle.akn_json.specs.declared.reading.tables.TheConstants.{ACT}
 use Rattle.akn_json.specs.Reading.Reads.{Read, ◌>>=◌, ◌>>◌, broken, or_fault, unless_broken}
-use Rattle.akn_json.specs.Reading.Fields.{members_in, field_in, optional_in, items_in, each, text_in, day_in, period_in}
+use Rattle.akn_json.specs.Reading.Fields.{members_in, field_in, optional_in, items_in, each, text_in, number_in, day_in, period_in}
 use Rattle.akn_json.specs.Reading.Names.{work_in}
 use Rattle.akn_json.specs.Reading.Nodes.{element_in, nodes_in}
 
@@ -38,6 +41,19 @@ numbering_in d = do
   elements ← each element_in items
   Ok (numbering_of elements)
 
+-- the limit that allows this many nodes, if one does
+abbrev pub limit_of : ℕ → Option NodeLimit
+limit_of most =
+    if most == most_nodes Plain then Some Plain
+    else if most == most_nodes Wide then Some Wide
+    else None
+
+-- how many nodes an act may have: the number that a limit allows
+unfoldable pub node_limit_in : Data → Read NodeLimit
+node_limit_in d = do
+  most ← number_in (most_nodes Wide) d
+  or_fault (broken BadNumber) (limit_of most)
+
 -- an act as it was enacted
 unfoldable pub act_in : Data → Read Act
 act_in d = do
@@ -49,8 +65,9 @@ act_in d = do
   l ← field_in key.FrbrLanguage d
   language ← language_in l
   numbering ← optional_in key.Numbering DEFAULT numbering_in d
+  limit ← optional_in key.NodeLimit Plain node_limit_in d
   f ← field_in key.Force d
   force ← period_in f
   b ← field_in key.Body d
   body ← nodes_in b
-  Ok (record { work = work; language = language; day = day; numbering = numbering; force = force; body = body })
+  Ok (record { work = work; language = language; day = day; numbering = numbering; limit = limit; force = force; body = body })

@@ -147,8 +147,8 @@ fn put_items(out: &mut Writer, alloc: Global, draft: &Draft) -> Result<(), Memor
 
 /// The bytes of a draft: each item with its number, what it says in its form, and the work that it modifies.
 ///
-/// Every key of a form stands, whatever its value, but an end that a period does not have. The bytes are JSON with no
-/// space, and no line feed stands behind them.
+/// Every key of a form stands, whatever its value, but an end that a period does not have and a provision that a source does
+/// not name. The bytes are JSON with no space, and no line feed stands behind them.
 pub fn put_draft(alloc: Global, draft: &Draft) -> Result<Vec<u8>, Memory>
     ensures { IfOk result (λ bytes. bytes.items ≡ compact_text (draft_value draft.now)) }
 {

@@ -7,10 +7,10 @@ ghost use Rattle.desk_base.specs.Days.{day_text};
 ghost use Rattle.json.specs.Token.{key, string};
 ghost use Rattle.json.specs.Tree.{json_tokens, members_tokens};
 ghost use Rattle.serde_json.specs.Written.{outline, members_outline};
-ghost use Rattle.akn_json.specs.Printing.Parts.{period_data, provision_data, source_data, until_data, kind_data};
+ghost use Rattle.akn_json.specs.Printing.Parts.{period_data, provision_data, named_data, source_data, until_data, kind_data};
 
 use super::members::{put_number, put_text};
-use desk_base::{Day, Memory, Period};
+use desk_base::{Day, Memory, Period, Text};
 use json::Writer;
 use law_register::ModSource;
 use std::alloc::Global;
@@ -59,7 +59,20 @@ pub fn put_provision(out: &mut Writer, wid: &str) -> Result<(), Memory>
     Ok(())
 }
 
-// The work that modifies, and the place in it.
+// The provision that modifies, exactly where one is named, and the end of the source.
+fn put_named(out: &mut Writer, provision: &Option<Text>) -> Result<(), Memory>
+    ensures tokens { OnOk result (out.new.tokens
+        ≡ out.old.tokens ++ members_tokens (members_outline (named_data provision.now))) }
+    ensures before { OnOk result (out.new.before ≡ out.old.before) }
+{
+    if let Some(wid) = provision {
+        put_text(out, "provision", wid.as_str())?;
+    }
+    out.end_object()?;
+    Ok(())
+}
+
+// The work that modifies, the place in it, and the provision of it.
 fn put_source(out: &mut Writer, source: &ModSource) -> Result<(), Memory>
     ensures tokens { OnOk result (out.new.tokens
         ≡ out.old.tokens ++ json_tokens (outline (source_data source.now))) }
@@ -68,8 +81,7 @@ fn put_source(out: &mut Writer, source: &ModSource) -> Result<(), Memory>
     out.begin_object()?;
     put_text(out, "href", source.href.as_str())?;
     put_number(out, "place", u64::from(source.place))?;
-    out.end_object()?;
-    Ok(())
+    put_named(out, &source.provision)
 }
 
 /// The source of a modification and the word for its kind, and the end of its object.

@@ -59,11 +59,20 @@ fn period_is_typed(period: Period)
     last_day_is_typed(end);
 }
 
+fn named_is_typed(provision: &Option<Text>)
+    ensures { IfSome provision.now spec.IsTypedText }
+{
+    if let Some(wid) = provision {
+        text_is_typed(wid.as_str());
+    }
+}
+
 fn source_is_typed(source: &ModSource)
     ensures { spec.IsTypedSource source.now }
 {
     work_is_typed(&source.href);
     small_number_is_typed(source.place);
+    named_is_typed(&source.provision);
 }
 
 fn id_is_typed(id: Id)

@@ -1,8 +1,10 @@
-//! The form of an act: its work, its day, its language, its numbering, its force, and the nodes of its body.
+//! The form of an act: its work, its day, its language, its numbering, how many nodes it may have, its force, and the nodes of
+//! its body.
 
 ghost use Rattle.std.specs.Prelude.{◌≡◌};
 ghost use Rattle.std.specs.List.{list_all};
 ghost use Rattle.std.specs.Char.{is_ascii_lowercase};
+ghost use Rattle.act_tree.specs.declared.limits.NodeLimit.TheVariants.{Plain};
 ghost use Rattle.eid_paths.specs.declared.numbering.TheConstants.Numbering.{DEFAULT};
 ghost use Rattle.akn_json.specs.Reading.Reads.{Gives};
 ghost use Rattle.akn_json.specs.Reading.Fields.{each, optional_in};
@@ -11,15 +13,15 @@ ghost use Rattle.akn_json.specs.Reading.Acts as spec;
 ghost use Rattle.akn_json.specs.declared.reading.key.Key.TheVariants as key;
 ghost use Rattle.akn_json.specs.Reading.Values.{seen, items_seen};
 
-use super::faults::{BAD_NAME, DATE_DIFFERS};
-use super::fields::{day, field, items, members, period, text};
+use super::faults::{BAD_NAME, BAD_NUMBER, DATE_DIFFERS};
+use super::fields::{day, field, items, members, number, period, text};
 use super::key::Key;
 use super::names::work;
 use super::nodes::{element, nodes};
 use super::tables::ACT;
 use super::values::at_key;
 use crate::ReadFail;
-use act_tree::SharedNodes;
+use act_tree::{NodeLimit, SharedNodes};
 use desk_base::Day;
 use eid_paths::{Element, Numbering};
 use frbr_names::WorkName;
@@ -83,6 +85,33 @@ fn numbering(alloc: Global, value: &Value) -> Result<Numbering, ReadFail>
     }
 }
 
+// The limit that allows this many nodes. `None`: none does.
+fn limit_of(most: u64) -> Option<NodeLimit>
+    ensures { result ≡ spec.limit_of most }
+{
+    if most == u64::from(NodeLimit::Plain.most()) {
+        Some(NodeLimit::Plain)
+    } else if most == u64::from(NodeLimit::Wide.most()) {
+        Some(NodeLimit::Wide)
+    } else {
+        None
+    }
+}
+
+// How many nodes an act may have, and as many as a plain one where it states no number.
+#[tactic(auto, unfolding(crate::specs::Reading::Fields::optional_in, crate::specs::Reading::Acts::node_limit_in))]
+fn node_limit(value: &Value) -> Result<NodeLimit, ReadFail>
+    ensures { Gives (λ l. l) result (optional_in key.NodeLimit Plain spec.node_limit_in (seen value.now)) }
+{
+    let Some(found) = at_key(value, Key::NodeLimit) else {
+        return Ok(NodeLimit::Plain);
+    };
+    match limit_of(number(found, u64::from(NodeLimit::Wide.most()))?) {
+        Some(limit) => Ok(limit),
+        None => Err(BAD_NUMBER),
+    }
+}
+
 // An act as it was enacted.
 #[tactic(auto, unfolding(crate::specs::Reading::Acts::act_in))]
 pub(super) fn act(alloc: Global, value: &Value) -> Result<Act, ReadFail>
@@ -93,6 +122,7 @@ pub(super) fn act(alloc: Global, value: &Value) -> Result<Act, ReadFail>
     let day = act_day(&work, field(value, Key::FrbrDate)?)?;
     let language = language(field(value, Key::FrbrLanguage)?)?;
     let numbering = numbering(alloc, value)?;
+    let limit = node_limit(value)?;
     let force = period(field(value, Key::Force)?)?;
     let body = SharedNodes::new(alloc, nodes(alloc, field(value, Key::Body)?)?)?;
     Ok(Act {
@@ -100,6 +130,7 @@ pub(super) fn act(alloc: Global, value: &Value) -> Result<Act, ReadFail>
         language,
         day,
         numbering,
+        limit,
         force,
         body,
     })

@@ -4,8 +4,9 @@
 use super::key::Key::{
     self, Act, Body, Child, Children, Command, Content, Date, Days, Destination, Drafter,
     EfficacyMod, Element, Force, ForceMod, FrbrDate, FrbrLanguage, FrbrUri, From, Heading, Href,
-    Id, Item, Modification, Modifications, New, Num, Numbering, Occurrence, Old, On, Place, Pos,
-    Refs, Renumber, Request, Second, Seen, Separator, Source, TextualMod, Type, Until, Wid, Work,
+    Id, Item, Modification, Modifications, New, NodeLimit, Num, Numbering, Occurrence, Old, On,
+    Place, Pos, Provision, Refs, Renumber, Request, Second, Seen, Separator, Source, TextualMod,
+    Type, Until, Wid, Work,
 };
 
 /// The keys of an object.
@@ -22,9 +23,9 @@ pub(super) const DOSSIER: Keys<2, 0> = Keys {
     optional: [],
 };
 
-pub(super) const ACT: Keys<5, 1> = Keys {
+pub(super) const ACT: Keys<5, 2> = Keys {
     required: [FrbrUri, FrbrDate, FrbrLanguage, Force, Body],
-    optional: [Numbering],
+    optional: [Numbering, NodeLimit],
 };
 
 pub(super) const NODE: Keys<2, 4> = Keys {
@@ -43,9 +44,9 @@ pub(super) const MODIFICATION: Keys<0, 3> = Keys {
     optional: [TextualMod, ForceMod, EfficacyMod],
 };
 
-pub(super) const SOURCE: Keys<2, 0> = Keys {
+pub(super) const SOURCE: Keys<2, 1> = Keys {
     required: [Href, Place],
-    optional: [],
+    optional: [Provision],
 };
 
 // What a modification is directed at: a provision, a position at one, or another modification.

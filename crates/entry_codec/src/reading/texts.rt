@@ -19,9 +19,9 @@ use law_register::Drafter;
 use std::alloc::Global;
 
 impl<'a> Reader<'a> {
-    // So many bytes of UTF-8.
+    /// So many bytes of UTF-8.
     #[tactic(auto, unfolding(crate::specs::Values::text_of))]
-    fn text_of(&mut self, len: usize) -> Result<&'a str, Stop>
+    pub fn text_of(&mut self, len: usize) -> Result<&'a str, Stop>
         ensures { Reads (λ t. t.now) result self.new.left.now ((spec.text_of len).read self.old.left.now) }
     {
         let start = self.left.len();

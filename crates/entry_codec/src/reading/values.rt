@@ -1,4 +1,4 @@
-//! The small values of an entry: days, periods, ids, what an act says before its nodes, sources, destinations and occurrences.
+//! The small values of an entry: days, periods, ids, what an act says before its nodes, destinations and occurrences.
 
 ghost use Rattle.std.specs.Prelude.{◌≡◌, ◌<◌, Some, None, if◌then◌else◌};
 ghost use Rattle.entry_codec.specs.Reads.{Reads};
@@ -10,7 +10,7 @@ use super::reader::{Reader, Stop};
 use desk_base::{Day, Id, Period};
 use eid_paths::Numbering;
 use frbr_names::WorkName;
-use law_register::{Destination, ModSource};
+use law_register::Destination;
 use std::alloc::Global;
 use textual_mods::Spot;
 
@@ -154,15 +154,6 @@ impl<'a> Reader<'a> {
             return Err(Stop::Broken(start));
         }
         Ok(numbering_from(number))
-    }
-
-    #[tactic(auto, unfolding(crate::specs::Values::source))]
-    pub fn source(&mut self, alloc: Global) -> Result<ModSource, Stop>
-        ensures { Reads (λ s. s) result self.new.left.now (spec.source.read self.old.left.now) }
-    {
-        let href = self.work(alloc)?;
-        let place = self.number16()?;
-        Ok(ModSource { href, place })
     }
 
     #[tactic(auto, unfolding(crate::specs::Values::destination))]

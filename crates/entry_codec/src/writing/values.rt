@@ -1,4 +1,4 @@
-//! The small values of an entry: days, periods, ids, numberings, sources, destinations and occurrences.
+//! The small values of an entry: days, periods, ids, numberings, destinations and occurrences.
 
 ghost use Rattle.std.specs.Prelude.{◌≡◌, ◌≤◌, ◌++◌, OnOk, IfSome};
 ghost use Rattle.entry_codec.specs.Values as spec;
@@ -6,12 +6,12 @@ ghost use Rattle.entry_codec.specs.Typed as typed;
 ghost use Rattle.desk_base.specs.Days.{IsDay};
 
 use super::numbers::{put_number16, put_number32};
-use super::texts::{put_text, put_work};
+use super::texts::put_text;
 use crate::typed::numbering_is_typed;
 use desk_base::laws::day_is_numbered;
 use desk_base::{Day, Id, Memory, Period};
 use eid_paths::{Element, Numbering};
-use law_register::{Destination, ModSource};
+use law_register::Destination;
 use textual_mods::Spot;
 
 fn number_of(day: Day) -> u32
@@ -108,16 +108,6 @@ pub(super) fn put_numbering(out: &mut Vec<u8>, numbering: &Numbering) -> Result<
 {
     numbering_is_typed(numbering);
     put_number16(out, numbering_number(numbering))
-}
-
-#[tactic(auto, unfolding(crate::specs::Values::source))]
-pub(super) fn put_source(out: &mut Vec<u8>, source: &ModSource) -> Result<(), Memory>
-    ensures bytes { OnOk result (out.new.items ≡ out.old.items ++ spec.source.spell source.now) }
-    ensures typed { OnOk result (typed.IsSource source.now) }
-{
-    put_work(out, &source.href)?;
-    put_number16(out, source.place)?;
-    Ok(())
 }
 
 #[tactic(auto, unfolding(crate::specs::Values::destination))]

@@ -29,6 +29,7 @@ abbrev pub as_enacted : Act → VersionValue
 as_enacted act = record {
   tree = record {
     numbering = act.numbering;
+    limit = act.limit;
     body = all_enacted act.numbering None (branches_of act.body);
     changes = 0;
   };

@@ -26,7 +26,7 @@ IsSoundBody (Efficacy source destination on effect) = Unit {0}
 
 -- the act as enacted is well-formed, the ids of the modifications differ, and each modification keeps the rules of its kind
 pub record IsSound (known : Known) : Type 0 where
-  pub fits : first_fault known.act.numbering (branches_of known.act.body) ≡ None
+  pub fits : first_fault known.act.numbering known.act.limit (branches_of known.act.body) ≡ None
   pub ids : id_twice (map (λ m. m.id) known.mods) ≡ false
   pub bodies : All (λ m. IsSoundBody m.body) known.mods
 

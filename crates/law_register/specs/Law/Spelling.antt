@@ -1,9 +1,10 @@
--- What is well spelled: each ref is the IRI of an expression, the language of an act is one, its day agrees with the IRI of its
--- work, and a retroactivity is counted from its date.
+-- What is well spelled: each ref is the IRI of an expression, each provision that a source names is a portion, the language of an
+-- act is one, its day agrees with the IRI of its work, and a retroactivity is counted from its date.
 use Rattle.std.specs.Prelude.{ℕ, ◌==◌, Bool, true, false, ◌&&◌, List, Option, Some, None}
 use Rattle.std.specs.List.{list_all}
 use Rattle.frbr_names.specs.Dates.{agrees_with}
 use Rattle.frbr_names.specs.Expressions.{is_expression, is_language}
+use Rattle.frbr_names.specs.Rules.{is_portion}
 use Rattle.frbr_names.specs.Works.{date_named}
 use Rattle.frbr_names.specs.declared.date.IriDate.{IriDate}
 use Rattle.act_tree.specs.Branches.{Branch, Branches, branch, no_branches, more_branches, branches_of}
@@ -15,6 +16,7 @@ use Rattle.textual_mods.specs.declared.edit.TextualMod.TheVariants.{SubstituteNo
 use Rattle.law_register.specs.declared.law.act.Act.{Act}
 use Rattle.law_register.specs.declared.law.command.Command.{Command}
 use Rattle.law_register.specs.declared.law.command.Command.TheVariants.{Enact, Record, Correct, Withdraw, Restore, DraftAdd, DraftDrop, File}
+use Rattle.law_register.specs.declared.law.modification.ModSource.{ModSource}
 use Rattle.law_register.specs.declared.law.modification.Modification.{Modification}
 use Rattle.law_register.specs.declared.law.modification.Modification.TheVariants.{Textual, Force, Efficacy}
 
@@ -37,6 +39,15 @@ is_spelled_edit (SubstituteNodes wid new) = is_spelled_payload new
 is_spelled_edit (InsertNodes wid pos new) = is_spelled_payload new
 is_spelled_edit _ = true
 
+-- the provision that a source names, where it names one, is a portion
+abbrev pub is_spelled_provision : Option (List ℕ) → Bool
+is_spelled_provision None = true
+is_spelled_provision (Some provision) = is_portion provision
+
+-- where a modification comes from
+abbrev pub is_spelled_source : ModSource → Bool
+is_spelled_source source = is_spelled_provision source.provision
+
 -- a retroactivity is counted from its date; any other effect from any day
 abbrev pub is_spelled_effect : ℕ → EfficacyEffect → Bool
 is_spelled_effect on (Retroactive date) = on == date
@@ -44,9 +55,9 @@ is_spelled_effect on _ = true
 
 -- a modification
 abbrev pub is_spelled_modification : Modification → Bool
-is_spelled_modification (Textual source force edit) = is_spelled_edit edit
-is_spelled_modification (Force source destination on effect) = true
-is_spelled_modification (Efficacy source destination on effect) = is_spelled_effect on effect
+is_spelled_modification (Textual source force edit) = is_spelled_source source && is_spelled_edit edit
+is_spelled_modification (Force source destination on effect) = is_spelled_source source
+is_spelled_modification (Efficacy source destination on effect) = is_spelled_source source && is_spelled_effect on effect
 
 -- modifications side by side
 unfoldable pub are_spelled_modifications : List Modification → Bool

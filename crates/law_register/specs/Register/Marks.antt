@@ -18,6 +18,8 @@ use Rattle.law_register.specs.Register.Concerns.{is_named}
 use Rattle.law_register.specs.Register.Drafts.{additions}
 use Rattle.law_register.specs.Register.Indexes.{marks_work, request_mark, drafter_mark, work_mark, id_mark, added_of, items_in, last_in, ids_in, items_after, id_after, concerned_by, work_after}
 use Rattle.law_register.specs.Law.Sizes.{entry_size}
+use Rattle.law_register.specs.declared.register.limits.TheConstants.{MOST_DRAFT_ITEMS, MOST_IDS, MOST_LAWS, MOST_REGISTER_BYTES}
+use Rattle.textual_mods.specs.declared.fitting.TheConstants.{MAX_ITEMS}
 
 -- the modifications of a record
 abbrev pub mods_of : Command → List Modification
@@ -80,12 +82,12 @@ IsOfLast entries drafter = (last : Entry) × (slice_get entries (length entries 
 -- whoever sent the last entry has a mark, and all numbers stay within their types
 pub record CanNote (ix : Indexes) (entries : List Entry) (e : Entry) : Type 0 where
   pub last : (drafter : List ℕ) → IsOfLast entries drafter → is_some (drafter_mark ix drafter) ≡ true
-  pub front : ix.front ≤ 65535
+  pub front : ix.front ≤ MOST_LAWS
   pub size : ix.size + entry_size e < 2 ^ 64
-  pub ids : (work : List ℕ) → ids_in (work_mark ix work) ≤ 512
-  pub items : length (items_in (drafter_mark ix e.drafter)) + additions e.command ≤ 64
-  pub added : added_of (drafter_mark ix e.drafter) ≤ 536870912
-  pub mods : length (mods_of e.command) ≤ 64
+  pub ids : (work : List ℕ) → ids_in (work_mark ix work) ≤ MOST_IDS
+  pub items : length (items_in (drafter_mark ix e.drafter)) + additions e.command ≤ MOST_DRAFT_ITEMS
+  pub added : added_of (drafter_mark ix e.drafter) ≤ MOST_REGISTER_BYTES
+  pub mods : length (mods_of e.command) ≤ MAX_ITEMS
 
 -- an entry, which got this reply, is noted behind others
 pub record IsNoted (old new : Indexes) (entries : List Entry) (e : Entry) (reply : Reply) : Type 0 where

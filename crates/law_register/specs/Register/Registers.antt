@@ -7,6 +7,8 @@ use Rattle.law_register.specs.declared.register.indexes.Indexes.{Indexes}
 use Rattle.law_register.specs.Law.Spelling.{is_well_spelled}
 use Rattle.law_register.specs.Register.Indexes.{StandFor}
 use Rattle.law_register.specs.Register.Verdicts.{is_legal}
+use Rattle.law_register.specs.declared.register.limits.TheConstants.{MOST_DRAFT_ITEMS}
+use Rattle.textual_mods.specs.declared.fitting.TheConstants.{MAX_ITEMS}
 
 -- the entries, and for how many more there is room
 pub record Contents : Type 0 where
@@ -15,11 +17,11 @@ pub record Contents : Type 0 where
 
 -- for how many more entries the indexes have room: an entry records 64 ids at most, and a drafter's mark is taken out and put back
 abbrev pub map_room : Indexes → ℕ
-map_room ix = min (spare ix.requests) (min (spare ix.drafters / 2) (min (spare ix.works) (spare ix.ids / 64)))
+map_room ix = min (spare ix.requests) (min (spare ix.drafters / 2) (min (spare ix.works) (spare ix.ids / MAX_ITEMS)))
 
 abbrev pub index_room : Indexes → ℕ
 index_room ix = min (map_room ix) (min (vec_capacity ix.steps - vec_len ix.steps)
-    (min ((vec_capacity ix.bodies - vec_len ix.bodies) / 64) (vec_capacity ix.acts - vec_len ix.acts)))
+    (min ((vec_capacity ix.bodies - vec_len ix.bodies) / MOST_DRAFT_ITEMS) (vec_capacity ix.acts - vec_len ix.acts)))
 
 -- indexes with the same entries, in the same order, and the same counts
 pub record IsSame (old new : Indexes) : Type 0 where

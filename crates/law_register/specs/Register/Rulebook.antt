@@ -88,12 +88,12 @@ work_exists law _ = None
 
 -- What is brought
 
--- BadTree: the first fault of the text of an act, or of the first payload that has one
+-- BadTree: the first fault of the text of an act, by the limit that it states, or of the first payload that has one, as of a plain act
 abbrev pub tree_rule : Option BuildFault → Option Rule
 tree_rule fault = option_map (λ f. BadTree f) fault
 
 abbrev pub bad_tree : Command → Option Rule
-bad_tree (Enact act) = tree_rule (first_fault act.numbering (branches_of act.body))
+bad_tree (Enact act) = tree_rule (first_fault act.numbering act.limit (branches_of act.body))
 bad_tree command = first_item (λ number m. tree_rule (brought_fault m)) 1 (brought_by command)
 
 -- BadModification: a list that is empty or too long, or the first item that breaks a bound

@@ -21,11 +21,11 @@ use textual_mods::{Outcome, TextualMod, apply};
 
 /// The act as enacted, before any modification.
 pub fn enact(alloc: Global, act: &Act) -> Result<Version, Memory>
-    requires { first_fault act.now.numbering (branches_of act.now.body) ≡ None }
+    requires { first_fault act.now.numbering act.now.limit (branches_of act.now.body) ≡ None }
     ensures version { IfOk result (λ version. version_view version ≡ spec.as_enacted act.now) }
     ensures replayed { IfOk result (λ version. IsReplayed (version_view version)) }
 {
-    match Tree::build(alloc, &act.body, act.numbering) {
+    match Tree::build(alloc, &act.body, act.numbering, act.limit) {
         Ok(tree) => Ok(Version {
             tree,
             applied: Ids::new(alloc),

@@ -2,7 +2,7 @@
 
 ghost use Rattle.std.specs.Prelude.{◌≡◌, IfOk};
 
-use act_tree::SharedNodes;
+use act_tree::{NodeLimit, SharedNodes};
 use desk_base::{Day, Memory, Period};
 use eid_paths::Numbering;
 use frbr_names::WorkName;
@@ -18,6 +18,8 @@ pub struct Act {
     pub day: Day,
     /// The elements that are numbered throughout it.
     pub numbering: Numbering,
+    /// How many provisions its text may have.
+    pub limit: NodeLimit,
     /// When it is in force.
     pub force: Period,
     /// The children of its root.
@@ -34,6 +36,7 @@ impl Act {
             language: self.language,
             day: self.day,
             numbering: self.numbering,
+            limit: self.limit,
             force: self.force,
             body: self.body.copy()?,
         })

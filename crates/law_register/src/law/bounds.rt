@@ -82,14 +82,14 @@ fn first_tree(alloc: Global, mods: &[Modification]) -> Result<Option<Rule>, Memo
     Ok(None)
 }
 
-/// The rule on texts that a command breaks: an act or a payload has a fault. The first item that has one counts, and its first
-/// fault.
+/// The rule on texts that a command breaks: an act has a fault, by the limit that it states, or a payload, by that of a plain act.
+/// The first item that has one counts, and its first fault.
 pub fn bad_tree(alloc: Global, command: &Command) -> Result<Option<Rule>, Memory>
     ensures { IfOk result (λ rule. rule ≡ verdicts.bad_tree command.now) }
 {
     match command {
         Command::Enact { act } => {
-            Ok(fault_of(alloc, act.numbering, &act.body)?.map(Rule::BadTree))
+            Ok(fault_of(alloc, act.numbering, act.limit, &act.body)?.map(Rule::BadTree))
         }
         _ => first_tree(alloc, brought_by(command)),
     }

@@ -1,6 +1,6 @@
 //! Modifications of an act, each with its source.
 
-ghost use Rattle.std.specs.Prelude.{◌≡◌};
+ghost use Rattle.std.specs.Prelude.{◌≡◌, IfOk};
 
 use crate::series::Series;
 use bearing_mods::{EfficacyEffect, ForceEffect};
@@ -9,18 +9,29 @@ use frbr_names::WorkName;
 use std::alloc::Global;
 use textual_mods::TextualMod;
 
-/// The place of the provision that modifies: the act, and the order within it.
+/// Where a modification comes from: the act that makes it, the order within it, and perhaps the provision.
 #[derive(Debug, PartialEq, Eq, Drop)]
 pub struct ModSource {
     /// The IRI of the work that modifies.
     pub href: WorkName,
     /// The place of the modification among those of its source.
     pub place: u16,
+    /// The wId of the provision of that work that modifies, where one is named: a portion, as it stands in the IRI of an
+    /// expression.
+    pub provision: Option<Text>,
+}
+
+// The same text or none; the text is shared.
+fn shared(text: &Option<Text>) -> Result<Option<Text>, Memory>
+    ensures { IfOk result (λ copy. copy ≡ text.now) }
+{
+    match text {
+        Some(text) => Ok(Some(text.copy()?)),
+        None => Ok(None),
+    }
 }
 
 impl ModSource {
-    ghost use Rattle.std.specs.Prelude.{IfOk};
-
     /// The same source; its text is shared.
     pub fn copy(&self) -> Result<ModSource, Memory>
         ensures { IfOk result (λ source. source ≡ self.now) }
@@ -28,6 +39,7 @@ impl ModSource {
         Ok(ModSource {
             href: self.href.copy()?,
             place: self.place,
+            provision: shared(&self.provision)?,
         })
     }
 }
@@ -42,8 +54,6 @@ pub enum Destination {
 }
 
 impl Destination {
-    ghost use Rattle.std.specs.Prelude.{IfOk};
-
     /// The same destination; its text is shared.
     pub fn copy(&self) -> Result<Destination, Memory>
         ensures { IfOk result (λ destination. destination ≡ self.now) }
@@ -103,8 +113,8 @@ pub enum Modification {
 }
 
 impl Modification {
-    ghost use Rattle.std.specs.Prelude.{IfOk};
     ghost use Rattle.law_register.specs.Law.Kinds.{kind_of};
+    ghost use Rattle.law_register.specs.Law.Sources.{source_of};
 
     /// Its kind.
     pub fn kind(&self) -> Kind
@@ -114,6 +124,17 @@ impl Modification {
             Modification::Textual { .. } => Kind::Textual,
             Modification::Force { .. } => Kind::Force,
             Modification::Efficacy { .. } => Kind::Efficacy,
+        }
+    }
+
+    /// Where it comes from.
+    pub fn source(&self) -> &ModSource
+        ensures { result.now ≡ source_of self.now }
+    {
+        match self {
+            Modification::Textual { source, .. }
+            | Modification::Force { source, .. }
+            | Modification::Efficacy { source, .. } => source,
         }
     }
 
@@ -161,8 +182,6 @@ impl Modification {
 pub type Mods = Series<Modification>;
 
 impl Mods {
-    ghost use Rattle.std.specs.Prelude.{IfOk};
-
     /// The same modifications; their texts and nodes are shared.
     pub fn copy(&self, alloc: Global) -> Result<Mods, Memory>
         ensures { IfOk result (λ copy. copy ≡ self.now) }

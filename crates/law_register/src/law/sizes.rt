@@ -4,15 +4,27 @@
 ghost use Rattle.std.specs.Prelude.{◌≡◌, ◌+◌, ◌-◌, ◌^◌, min};
 ghost use Rattle.law_register.specs.Law.Sizes as spec;
 
-use crate::{Act, Command, Destination, Drafter, Entry, ModSource, Modification, Mods};
+use crate::{
+    Act, Command, Destination, Drafter, Entry, EntryFormat, ModSource, Modification, Mods,
+};
 use desk_base::{DAY_SIZE, ID_SIZE, PERIOD_SIZE, plus_name, plus_text};
+
+// The bytes of the limit of an act, which only the second format says.
+fn limit_size(format: EntryFormat) -> u64
+    ensures { result ≡ spec.limit_size format }
+{
+    match format {
+        EntryFormat::First => 0,
+        EntryFormat::Second => 2,
+    }
+}
 
 impl Act {
     /// A size with that of the act.
-    pub fn plus_size(&self, size: u64) -> u64
-        ensures { result ≡ min (size + spec.act_size self.now) (2 ^ 64 - 1) }
+    pub fn plus_size(&self, format: EntryFormat, size: u64) -> u64
+        ensures { result ≡ min (size + spec.act_size format self.now) (2 ^ 64 - 1) }
     {
-        let size = plus_text(size, self.work.as_str());
+        let size = plus_text(size, self.work.as_str()).saturating_add(limit_size(format));
         self.body
             .plus_size(size.saturating_add(3 + DAY_SIZE + 2 + PERIOD_SIZE))
     }
@@ -20,10 +32,17 @@ impl Act {
 
 impl ModSource {
     /// A size with that of the source.
-    pub fn plus_size(&self, size: u64) -> u64
-        ensures { result ≡ min (size + spec.source_size self.now) (2 ^ 64 - 1) }
+    pub fn plus_size(&self, format: EntryFormat, size: u64) -> u64
+        ensures { result ≡ min (size + spec.source_size format self.now) (2 ^ 64 - 1) }
     {
-        plus_text(size, self.href.as_str()).saturating_add(2)
+        let size = plus_text(size, self.href.as_str()).saturating_add(2);
+        match format {
+            EntryFormat::First => size,
+            EntryFormat::Second => match &self.provision {
+                Some(provision) => plus_text(size, provision.as_str()),
+                None => plus_text(size, ""),
+            },
+        }
     }
 }
 
@@ -41,13 +60,13 @@ impl Destination {
 
 impl Modification {
     /// A size with that of the modification.
-    pub fn plus_size(&self, size: u64) -> u64
-        ensures { result ≡ min (size + spec.modification_size self.now) (2 ^ 64 - 1) }
+    pub fn plus_size(&self, format: EntryFormat, size: u64) -> u64
+        ensures { result ≡ min (size + spec.modification_size format self.now) (2 ^ 64 - 1) }
     {
         let size = size.saturating_add(1);
         match self {
             Modification::Textual { source, edit, .. } => {
-                edit.plus_size(source.plus_size(size).saturating_add(PERIOD_SIZE))
+                edit.plus_size(source.plus_size(format, size).saturating_add(PERIOD_SIZE))
             }
             Modification::Force {
                 source,
@@ -55,7 +74,7 @@ impl Modification {
                 effect,
                 ..
             } => destination
-                .plus_size(source.plus_size(size))
+                .plus_size(source.plus_size(format, size))
                 .saturating_add(DAY_SIZE + effect.size()),
             Modification::Efficacy {
                 source,
@@ -63,7 +82,7 @@ impl Modification {
                 effect,
                 ..
             } => destination
-                .plus_size(source.plus_size(size))
+                .plus_size(source.plus_size(format, size))
                 .saturating_add(DAY_SIZE + effect.size()),
         }
     }
@@ -71,12 +90,12 @@ impl Modification {
 
 impl Mods {
     /// A size with that of the modifications, behind their count.
-    pub fn plus_size(&self, size: u64) -> u64
-        ensures { result ≡ min (size + (2 + spec.modifications_size self.now)) (2 ^ 64 - 1) }
+    pub fn plus_size(&self, format: EntryFormat, size: u64) -> u64
+        ensures { result ≡ min (size + (2 + spec.modifications_size format self.now)) (2 ^ 64 - 1) }
     {
         let mut sum = size.saturating_add(2);
         for modification in self.as_slice() {
-            sum = modification.plus_size(sum);
+            sum = modification.plus_size(format, sum);
         }
         sum
     }
@@ -84,16 +103,22 @@ impl Mods {
 
 impl Command {
     /// A size with that of the command.
-    pub fn plus_size(&self, size: u64) -> u64
-        ensures { result ≡ min (size + spec.command_size self.now) (2 ^ 64 - 1) }
+    pub fn plus_size(&self, format: EntryFormat, size: u64) -> u64
+        ensures { result ≡ min (size + spec.command_size format self.now) (2 ^ 64 - 1) }
     {
         let size = size.saturating_add(1);
         match self {
-            Command::Enact { act } => act.plus_size(size),
-            Command::Record { work, mods } => mods.plus_size(plus_text(size, work.as_str())),
-            Command::Correct { body, .. } => body.plus_size(size.saturating_add(ID_SIZE)),
+            Command::Enact { act } => act.plus_size(format, size),
+            Command::Record { work, mods } => {
+                mods.plus_size(format, plus_text(size, work.as_str()))
+            },
+            Command::Correct { body, .. } => {
+                body.plus_size(format, size.saturating_add(ID_SIZE))
+            },
             Command::Withdraw { .. } | Command::Restore { .. } => size.saturating_add(ID_SIZE),
-            Command::DraftAdd { work, body } => body.plus_size(plus_text(size, work.as_str())),
+            Command::DraftAdd { work, body } => {
+                body.plus_size(format, plus_text(size, work.as_str()))
+            },
             Command::DraftDrop { .. } => size.saturating_add(4),
             Command::File { work, .. } => plus_text(size, work.as_str()).saturating_add(4),
         }
@@ -105,7 +130,7 @@ pub fn size_of(drafter: &Drafter, command: &Command) -> u64
     ensures { result ≡ min (spec.size_of drafter.now command.now) (2 ^ 64 - 1) }
 {
     let size = plus_name(1, drafter.as_str()).saturating_add(8 + DAY_SIZE + 4);
-    command.plus_size(size)
+    command.plus_size(command.format(), size)
 }
 
 /// How many bytes an entry takes where it is kept, at most the greatest `u64`: its format in one byte, its drafter, request,

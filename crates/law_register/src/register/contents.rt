@@ -4,6 +4,7 @@ ghost use Rattle.std.specs.Prelude.{◌≡◌, ◌==◌, ◌&&◌, ℕ, List, []
 ghost use Rattle.law_register.specs.Register.Indexes.{told_at, work_named, act_of, body_of, marks_work};
 ghost use Rattle.law_register.specs.Register.Listing.{item_told, item_marked, items_marked, work_told, works_at};
 ghost use Rattle.std.specs.List.{list_any};
+ghost use Rattle.law_register.specs.declared.register.limits.TheConstants.{MOST_DRAFT_ITEMS};
 
 use crate::register::indexes::{ItemMark, ItemMarks};
 use crate::{Act, Command, Draft, DraftItem, Entry, Modification};
@@ -97,7 +98,7 @@ pub fn is_item_of(entries: &[Entry], mark: ItemMark, work: &WorkName) -> bool
 
 /// The items of a draft that modify a work, in order.
 pub fn items_of(entries: &[Entry], items: &[ItemMark], work: &WorkName) -> ItemMarks
-    requires { length items.now ≤ 64 }
+    requires { length items.now ≤ MOST_DRAFT_ITEMS }
     ensures { result.items ≡ filter (marks_work entries.now work.now) items.now }
 {
     let mut kept = ArrayVec::new();
@@ -111,7 +112,7 @@ pub fn items_of(entries: &[Entry], items: &[ItemMark], work: &WorkName) -> ItemM
 
 /// The items of a draft that modify other works, in order.
 pub fn items_but(entries: &[Entry], items: &[ItemMark], work: &WorkName) -> ItemMarks
-    requires { length items.now ≤ 64 }
+    requires { length items.now ≤ MOST_DRAFT_ITEMS }
     ensures { result.items ≡ filter (λ m. not (marks_work entries.now work.now m)) items.now }
 {
     let mut kept = ArrayVec::new();
@@ -125,7 +126,7 @@ pub fn items_but(entries: &[Entry], items: &[ItemMark], work: &WorkName) -> Item
 
 /// The items of a draft without the one of a number.
 pub fn without_item(items: &[ItemMark], item: u32) -> ItemMarks
-    requires { length items.now ≤ 64 }
+    requires { length items.now ≤ MOST_DRAFT_ITEMS }
     ensures { result.items ≡ filter (λ m. not (m.item == item)) items.now }
 {
     let mut kept = ArrayVec::new();

@@ -2,6 +2,7 @@
 
 ghost use Rattle.std.specs.Prelude.{◌≡◌, ◌≤◌, IfOk, length};
 ghost use Rattle.law_register.specs.Register.Drafts.{draft_of, items_of};
+ghost use Rattle.law_register.specs.declared.register.limits.TheConstants.{MOST_DRAFT_ITEMS};
 
 use crate::register::contents;
 use crate::{Draft, Drafter, Register};
@@ -19,7 +20,7 @@ impl Register {
     ) -> Result<Draft, Memory>
         ensures items { IfOk result
             (λ draft. draft ≡ items_of work.now (draft_of drafter.now self.now.entries)) }
-        ensures most { IfOk result (λ draft. length draft ≤ 64) }
+        ensures most { IfOk result (λ draft. length draft ≤ MOST_DRAFT_ITEMS) }
     {
         match self.indexes.drafter(drafter) {
             Some(mark) => {

@@ -8,6 +8,8 @@ ghost use Rattle.law_register.specs.Register.LawList.{front, law_of};
 ghost use Rattle.law_register.specs.Register.Verdicts.{is_accepted, verdict};
 ghost use Rattle.law_register.specs.declared.law.command.Command.{Command as CommandValue};
 ghost use Rattle.law_register.specs.declared.law.command.Command.TheVariants as commands;
+ghost use Rattle.law_register.specs.declared.register.limits.TheConstants.{MOST_LAWS};
+ghost use Rattle.textual_mods.specs.declared.fitting.TheConstants.{MAX_ITEMS};
 
 use crate::laws::entries_are_legal;
 use crate::{Act, Command, Draft, Entry, Known, KnownMod, KnownMods, Modification, Mods, Register};
@@ -27,7 +29,7 @@ fn add_body(mods: &mut KnownMods, law: u32, item: u16, body: Modification) -> Re
 
 // Adds modifications as they are known once a law entry of this number records them.
 fn add_bodies(mods: &mut KnownMods, law: u32, bodies: Mods) -> Result<(), Memory>
-    requires { length bodies ≤ 64 }
+    requires { length bodies ≤ MAX_ITEMS }
     ensures { OnOk result (mods.new ≡ mods.old ++ next.bodies_known law 1 bodies) }
 {
     let mut item = 0;
@@ -41,8 +43,8 @@ fn add_bodies(mods: &mut KnownMods, law: u32, bodies: Mods) -> Result<(), Memory
 impl Known {
     /// One more law entry is known, which records these modifications in the work.
     pub fn record(&mut self, bodies: Mods) -> Result<(), Memory>
-        requires few { length bodies ≤ 64 }
-        requires front { self.old.front ≤ 65535 }
+        requires few { length bodies ≤ MAX_ITEMS }
+        requires front { self.old.front ≤ MOST_LAWS }
         ensures { OnOk result (self.new ≡ next.with_bodies bodies self.old) }
     {
         let number = self.front + 1;
@@ -113,7 +115,7 @@ fn bodies_in(
         entry.now.command) ≡ true }
     ensures bodies { (law : CommandValue) → law_of register.now.entries entry.now ≡ law ∷ []
         → IfOk result (λ bodies. bodies ≡ next.bodies_in work.now law) }
-    ensures few { IfOk result (λ bodies. length bodies ≤ 64) }
+    ensures few { IfOk result (λ bodies. length bodies ≤ MAX_ITEMS) }
 {
     match &entry.command {
         Command::Record { work: other, mods } if other == work => mods.copy(alloc),

@@ -11,6 +11,7 @@ ghost use Rattle.law_register.specs.Register.KnownIds.{facts_of, ids_of, known_a
 ghost use Rattle.law_register.specs.Register.Listing.{enacted_within, id_told, ids_marked, known_mark, known_marks, number_within, numbers_on, own_facts};
 ghost use Rattle.law_register.specs.Register.LawList.{laws};
 ghost use Rattle.law_register.specs.Register.Registers.{IsKept};
+ghost use Rattle.textual_mods.specs.declared.fitting.TheConstants.{MAX_ITEMS};
 
 use crate::register::contents;
 use crate::register::indexes::{BodyMark, EnactedMark, IdMark, Indexes, KnownIds, StepMark};
@@ -67,7 +68,7 @@ struct WorkIds {
 }
 
 fn add_ids(ids: &mut Vec<Id>, law: u32, bodies: &[BodyMark]) -> Result<(), Memory>
-    requires { length bodies.now ≤ 64 }
+    requires { length bodies.now ≤ MAX_ITEMS }
     ensures { OnOk result (ids.new.items ≡ ids.old.items ++ ids_marked law 1 bodies.now) }
 {
     for (place, _) in bodies.iter().enumerate() {
@@ -84,7 +85,7 @@ fn note_marks(
     bodies: &[BodyMark],
     number: u32,
 ) -> Result<(), Memory>
-    requires { length bodies.now ≤ 64 }
+    requires { length bodies.now ≤ MAX_ITEMS }
     ensures { OnOk result
         ((i : Id) → id_in marks.new i ≡ id_told number at bodies.now i (id_in marks.old i) (slice_get entries.now at)) }
 {
@@ -104,7 +105,7 @@ impl WorkIds {
         step: StepMark,
         number: u32,
     ) -> Result<(), Memory>
-        requires few { length (bodies_at bodies.now step) ≤ 64 }
+        requires few { length (bodies_at bodies.now step) ≤ MAX_ITEMS }
         requires first { step.first ≤ step.until }
         requires until { step.until ≤ length bodies.now }
         ensures marks { OnOk result ((i : Id) → id_in self.new.marks i

@@ -9,6 +9,8 @@ ghost use Rattle.law_register.specs.Register.Concerns.{is_named};
 ghost use Rattle.law_register.specs.Register.Marks as marking;
 ghost use Rattle.law_register.specs.Register.Indexes.{added_of, drafter_in, id_in, ids_in, is_request, items_in, recorded_from, work_in};
 ghost use Rattle.law_register.specs.Register.Drafts.{additions};
+ghost use Rattle.law_register.specs.declared.register.limits.TheConstants.{MOST_DRAFT_ITEMS, MOST_IDS, MOST_REGISTER_BYTES};
+ghost use Rattle.textual_mods.specs.declared.fitting.TheConstants.{MAX_ITEMS};
 
 use crate::law::sizes::entry_size;
 use crate::register::contents;
@@ -73,8 +75,8 @@ pub fn put_id(ids: &mut KnownIds, id: Id, mark: IdMark)
 
 /// Records modifications as the items of a law entry, from 1 on.
 pub fn record(ids: &mut KnownIds, number: u32, recorded: usize, bodies: &[BodyMark])
-    requires few { length bodies.now ≤ 64 }
-    requires room { 64 ≤ spare ids.old }
+    requires few { length bodies.now ≤ MAX_ITEMS }
+    requires room { MAX_ITEMS ≤ spare ids.old }
     ensures { (i : Id) → id_in ids.new i ≡ recorded_from number recorded 1 bodies.now i (id_in ids.old i) }
 {
     let mut item = 1;
@@ -98,7 +100,7 @@ fn items_after(
     number: u32,
     command: &Command,
 ) -> ItemMarks
-    requires few { length items.items + additions command.now ≤ 64 }
+    requires few { length items.items + additions command.now ≤ MOST_DRAFT_ITEMS }
     ensures { result.items ≡ spec.items_after entries.now at number command.now items.items }
 {
     match command {
@@ -140,8 +142,8 @@ fn mark_or_none(had: Option<DrafterMark>) -> DrafterMark
 }
 
 fn redrafted(mark: DrafterMark, entries: &[Entry], at: usize, command: &Command) -> DrafterMark
-    requires few { length mark.items.items + additions command.now ≤ 64 }
-    requires small { mark.added ≤ 536870912 }
+    requires few { length mark.items.items + additions command.now ≤ MOST_DRAFT_ITEMS }
+    requires small { mark.added ≤ MOST_REGISTER_BYTES }
     ensures added { result.added ≡ mark.added + additions command.now }
     ensures items { result.items.items ≡ spec.items_after entries.now at (mark.added + 1) command.now mark.items.items }
 {
@@ -160,8 +162,8 @@ fn redraft(
     command: &Command,
 )
     requires room { 2 ≤ spare drafters.old }
-    requires few { length (items_in (drafter_in drafters.old drafter.now)) + additions command.now ≤ 64 }
-    requires small { added_of (drafter_in drafters.old drafter.now) ≤ 536870912 }
+    requires few { length (items_in (drafter_in drafters.old drafter.now)) + additions command.now ≤ MOST_DRAFT_ITEMS }
+    requires small { added_of (drafter_in drafters.old drafter.now) ≤ MOST_REGISTER_BYTES }
     ensures added { (d : List ℕ) → added_of (drafter_in drafters.new d)
         ≡ (if bytes_eq drafter.now d then added_of (drafter_in drafters.old d) + additions command.now
         else added_of (drafter_in drafters.old d)) }
@@ -228,8 +230,8 @@ pub fn note_draft(
 )
     requires last { (d : List ℕ) → marking.IsOfLast entries.now d → is_some (drafter_in drafters.old d) ≡ true }
     requires room { 2 ≤ spare drafters.old }
-    requires few { length (items_in (drafter_in drafters.old drafter.now)) + additions command.now ≤ 64 }
-    requires small { added_of (drafter_in drafters.old drafter.now) ≤ 536870912 }
+    requires few { length (items_in (drafter_in drafters.old drafter.now)) + additions command.now ≤ MOST_DRAFT_ITEMS }
+    requires small { added_of (drafter_in drafters.old drafter.now) ≤ MOST_REGISTER_BYTES }
     ensures added { (d : List ℕ) → added_of (drafter_in drafters.new d)
         ≡ (if bytes_eq drafter.now d then added_of (drafter_in drafters.old d) + additions command.now
         else added_of (drafter_in drafters.old d)) }
@@ -286,8 +288,8 @@ fn set_standing(ids: &mut KnownIds, id: Id, standing: Standing)
 
 /// Notes what the command of law entry `number`, which stands at this index and records these modifications, makes of the ids.
 pub fn note_ids(ids: &mut KnownIds, number: u32, at: usize, command: &Command, bodies: &[BodyMark])
-    requires few { length bodies.now ≤ 64 }
-    requires room { 64 ≤ spare ids.old }
+    requires few { length bodies.now ≤ MAX_ITEMS }
+    requires room { MAX_ITEMS ≤ spare ids.old }
     ensures { (i : Id) → id_in ids.new i ≡ spec.id_after number at command.now bodies.now i (id_in ids.old i) }
 {
     match command {
@@ -421,12 +423,12 @@ fn note_filed(
     entries: &[Entry],
     work: &WorkName,
 )
-    requires few { length (items_in (drafter_in drafters.now drafter.now)) ≤ 64 }
-    requires room { vec_len all.old + 64 ≤ vec_capacity all.old }
+    requires few { length (items_in (drafter_in drafters.now drafter.now)) ≤ MOST_DRAFT_ITEMS }
+    requires room { vec_len all.old + MOST_DRAFT_ITEMS ≤ vec_capacity all.old }
     ensures items { all.new.items ≡ all.old.items ++ map marking.item_body
         (filter (spec.marks_work entries.now work.now) (items_in (drafter_in drafters.now drafter.now))) }
     ensures more { vec_len all.old ≤ vec_len all.new }
-    ensures few { vec_len all.new ≤ vec_len all.old + 64 }
+    ensures few { vec_len all.new ≤ vec_len all.old + MOST_DRAFT_ITEMS }
 {
     match drafters.get(&drafter_key(drafter)) {
         Some(mark) => note_items(all, &contents::items_of(entries, &mark.items, work)),
@@ -442,13 +444,13 @@ fn put_bodies(
     entries: &[Entry],
     command: &Command,
 )
-    requires few { length (items_in (drafter_in drafters.now drafter.now)) ≤ 64 }
-    requires mods { length (marking.mods_of command.now) ≤ 64 }
-    requires room { vec_len all.old + 64 ≤ vec_capacity all.old }
+    requires few { length (items_in (drafter_in drafters.now drafter.now)) ≤ MOST_DRAFT_ITEMS }
+    requires mods { length (marking.mods_of command.now) ≤ MAX_ITEMS }
+    requires room { vec_len all.old + MOST_DRAFT_ITEMS ≤ vec_capacity all.old }
     ensures items { all.new.items ≡ all.old.items ++ marking.bodies_of entries.now (length entries.now)
         (items_in (drafter_in drafters.now drafter.now)) command.now }
     ensures more { vec_len all.old ≤ vec_len all.new }
-    ensures few { vec_len all.new ≤ vec_len all.old + 64 }
+    ensures few { vec_len all.new ≤ vec_len all.old + MOST_DRAFT_ITEMS }
 {
     match command {
         Command::Record { mods, .. } => note_places(all, entries.len(), mods.as_slice()),
@@ -459,9 +461,9 @@ fn put_bodies(
 
 fn count_from(all: &[BodyMark], first: usize) -> u32
     requires more { first ≤ length all.now }
-    requires few { length all.now ≤ first + 64 }
+    requires few { length all.now ≤ first + MOST_DRAFT_ITEMS }
     ensures value { result ≡ length (drop first all.now) }
-    ensures few { result ≤ 64 }
+    ensures few { result ≤ MOST_DRAFT_ITEMS }
 {
     all[first..].len() as u32
 }
@@ -476,9 +478,9 @@ fn note_bodies(
     command: &Command,
 ) -> u32
     requires first { first ≡ length all.old.items }
-    requires few { length (items_in (drafter_in drafters.now drafter.now)) ≤ 64 }
-    requires mods { length (marking.mods_of command.now) ≤ 64 }
-    requires room { vec_len all.old + 64 ≤ vec_capacity all.old }
+    requires few { length (items_in (drafter_in drafters.now drafter.now)) ≤ MOST_DRAFT_ITEMS }
+    requires mods { length (marking.mods_of command.now) ≤ MAX_ITEMS }
+    requires room { vec_len all.old + MOST_DRAFT_ITEMS ≤ vec_capacity all.old }
     ensures items { all.new.items ≡ all.old.items ++ marking.bodies_of entries.now (length entries.now)
         (items_in (drafter_in drafters.now drafter.now)) command.now }
     ensures behind { drop first all.new.items ≡ marking.bodies_of entries.now (length entries.now)
@@ -486,7 +488,7 @@ fn note_bodies(
     ensures count { result ≡ length (marking.bodies_of entries.now (length entries.now)
         (items_in (drafter_in drafters.now drafter.now)) command.now) }
     ensures more { vec_len all.old ≤ vec_len all.new }
-    ensures few { result ≤ 64 }
+    ensures few { result ≤ MOST_DRAFT_ITEMS }
 {
     put_bodies(all, drafters, drafter, entries, command);
     count_from(all, first)
@@ -521,8 +523,8 @@ fn note_concerned(
     count: u32,
 ) -> u32
     requires room { 0 < spare works.old }
-    requires few { (w : List ℕ) → ids_in (work_in works.old w) ≤ 512 }
-    requires count { count ≤ 64 }
+    requires few { (w : List ℕ) → ids_in (work_in works.old w) ≤ MOST_IDS }
+    requires count { count ≤ MAX_ITEMS }
     ensures marks { (w : List ℕ) → work_in works.new w
         ≡ (if is_named w (option_map (λ n. n.now) work.entry)
         then Some (spec.work_after number at command.now count (work_in works.old w))

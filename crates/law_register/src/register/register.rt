@@ -3,6 +3,7 @@
 ghost use Rattle.std.specs.Prelude.{◌≡◌, ◌+◌, ◌<◌, ◌≤◌, ◌∷◌, ◌++◌, [], true, length, OnOk, IsTrue, map, Some, None, IfOk, option_map, is_some, is_none, slice_index_or};
 ghost use Rattle.law_register.specs.Register.LawList.{front};
 ghost use Rattle.law_register.specs.Register.Verdicts as verdicts;
+ghost use Rattle.law_register.specs.declared.register.limits.TheConstants.{MOST_LAWS, MOST_REGISTER_BYTES};
 
 use crate::register::contents;
 use crate::register::indexes::Indexes;
@@ -66,7 +67,7 @@ impl Register {
     /// How many law entries there are.
     pub fn front(&self) -> u32
         ensures value { result ≡ front self.now.entries }
-        ensures most { result ≤ 65535 }
+        ensures most { result ≤ MOST_LAWS }
     {
         self.indexes.front
     }
@@ -112,7 +113,7 @@ impl Register {
 
     pub(crate) fn size(&self) -> u64
         ensures value { result ≡ entries_size self.now.entries }
-        ensures most { result ≤ 536870912 }
+        ensures most { result ≤ MOST_REGISTER_BYTES }
     {
         self.indexes.size
     }
@@ -131,7 +132,7 @@ impl Register {
 
     pub(crate) fn added(&self, drafter: &Drafter) -> u32
         ensures value { result ≡ added drafter.now self.now.entries }
-        ensures most { result ≤ 536870912 }
+        ensures most { result ≤ MOST_REGISTER_BYTES }
     {
         match self.indexes.drafter(drafter) {
             Some(mark) => mark.added,

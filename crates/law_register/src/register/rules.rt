@@ -18,8 +18,8 @@ pub enum Rule {
     UnknownWork(WorkName),
     /// A law entry enacts the work already. Its number is shown.
     WorkExists(u32),
-    /// The text of an act, or one that a modification brings, is not well-formed. The first of its faults
-    /// is shown, by its number.
+    /// The text of an act is not well-formed by the limit that it states, or one that a modification brings is not by that of a
+    /// plain act. The first of its faults is shown, by its number.
     BadTree(BuildFault),
     /// A list or a value in it breaks a bound. The number of the item is shown, from 1; 0 is the list
     /// itself, or an act.

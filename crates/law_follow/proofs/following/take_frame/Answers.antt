@@ -1,7 +1,6 @@
 -- The message is given, and its answer is that of the step.
 use Rattle.std.proofs.Common.{sym}
 use Rattle.law_follow.specs.Frames.{Message}
-use Rattle.law_follow.specs.Following.{TakesMessage}
 use Rattle.law_follow.specs.Replicas.{payloads_of, standing_of}
 use Rattle.law_follow.proofs.Handed.{given_cause, given_message, given_settled, none_given}
 use Rattle.law_follow.proofs.following.take_frame.Goals as goal

@@ -5,8 +5,8 @@ use Rattle.law_http.proofs.streaming.answer.Goals as goal
 pub returns-clause-turn : goal.returns-clause-turn
 returns-clause-turn g c = λ left rest over first.
     answered_by (ServesCounted g.D.Desk.state g.D.Desk.crashes g.D.Desk.past) left rest over _ _
-    (c.args.desk.now, c.args.steps.now) (c.respond-response.new.desk, c.respond-response.new.steps) _ _ _
-    c.args.request.now c.respond-response.result _ _ first c.respond-response.ensures
+    (c.args.desk.now, c.args.steps.now) (c.respond_by-response.new.desk, c.respond_by-response.new.steps) _ _ _
+    c.args.request.now c.respond_by-response.result _ _ first c.respond_by-response.ensures
     c.put_before-end.ensures.puts c.end_where.ensures c.is_fault-faulted.ensures
 
 pub returns-clause-reads : goal.returns-clause-reads

@@ -6,5 +6,5 @@ use Rattle.act_tree.proofs.tree.Tree.build.Goals as goal
 
 pub plant-requires : goal.plant-requires
 plant-requires c =
-    let none : first_fault c.args.numbering (branches_of c.args.body.now) ≡ None = search rules in
-    faultless_differ c.args.numbering (branches_of c.args.body.now) none
+    let none : first_fault c.args.numbering c.args.limit (branches_of c.args.body.now) ≡ None = search rules in
+    faultless_differ c.args.numbering c.args.limit (branches_of c.args.body.now) none

@@ -23,7 +23,7 @@ invariant_of-self c =
 pub returns-clause-tree : goal.returns-clause-tree
 unfolding tree_view provision_at
 returns-clause-tree c =
-    ap {B = TreeValue} (λ body. record { numbering = c.args.self.now.numbering; body = body; changes = c.args.self.now.changes })
+    ap {B = TreeValue} (λ body. record { numbering = c.args.self.now.numbering; limit = c.args.self.now.limit; body = body; changes = c.args.self.now.changes })
     (left_emptied c.args.self.now.arena c.root.result c.root.ensures c.args.self.now.whole c.take_all.new.self c.take_all.ensures.numbers c.take_all.ensures.size c.take_all.ensures.relisted).holds.reads
 
 pub returns-clause-says : goal.returns-clause-says

@@ -10,4 +10,4 @@ pub returns : goal.returns
 unfolding tree_view
 returns c =
     let t = c.args.self.now in
-    ap {B = TreeValue} (λ body. record { numbering = t.numbering; body = body; changes = t.changes }) c.in_ok-copy_arena.ensures.reads
+    ap {B = TreeValue} (λ body. record { numbering = t.numbering; limit = t.limit; body = body; changes = t.changes }) c.in_ok-copy_arena.ensures.reads

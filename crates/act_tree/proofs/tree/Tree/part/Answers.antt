@@ -28,7 +28,7 @@ returns-clause-tree c =
     let new = c.part.new.self in
     let ends = part_ends c.part.result old new c.args.id c.args.first_child c.args.head (provision_of c.args.second) c.args.moved.items c.args.self.now.whole c.requires.node c.requires.provision c.requires.fresh c.requires.moved c.requires.num
     c.part.ensures.parted c.part.ensures.slots_kept c.part.ensures.numbers_kept in
-    on_ok_map c.part.result _ _ (λ is. ap {B = TreeValue} (λ body. record { numbering = c.args.self.now.numbering; body = body; changes = c.args.self.now.changes }) is.reads) ends.0
+    on_ok_map c.part.result _ _ (λ is. ap {B = TreeValue} (λ body. record { numbering = c.args.self.now.numbering; limit = c.args.self.now.limit; body = body; changes = c.args.self.now.changes }) is.reads) ends.0
 
 pub returns-clause-kept : goal.returns-clause-kept
 unfolding has_node tree_view children_at
@@ -37,7 +37,7 @@ returns-clause-kept c =
     let new = c.part.new.self in
     let ends = part_ends c.part.result old new c.args.id c.args.first_child c.args.head (provision_of c.args.second) c.args.moved.items c.args.self.now.whole c.requires.node c.requires.provision c.requires.fresh c.requires.moved c.requires.num
     c.part.ensures.parted c.part.ensures.slots_kept c.part.ensures.numbers_kept in
-    on_err_map c.part.result _ _ (λ is. ap {B = TreeValue} (λ body. record { numbering = c.args.self.now.numbering; body = body; changes = c.args.self.now.changes }) is.reads) ends.1
+    on_err_map c.part.result _ _ (λ is. ap {B = TreeValue} (λ body. record { numbering = c.args.self.now.numbering; limit = c.args.self.now.limit; body = body; changes = c.args.self.now.changes }) is.reads) ends.1
 
 pub returns-clause-stay : goal.returns-clause-stay
 unfolding tree_view

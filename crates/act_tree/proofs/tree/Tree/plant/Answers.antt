@@ -13,4 +13,4 @@ invariant_of-result c = record { whole = c.in_ok-plant.ensures.whole }
 
 pub returns : goal.returns
 unfolding tree_view
-returns c = ap {B = TreeValue} (λ bs. record { numbering = c.args.numbering; body = bs; changes = 0 }) c.in_ok-plant.ensures.reads
+returns c = ap {B = TreeValue} (λ bs. record { numbering = c.args.numbering; limit = c.args.limit; body = bs; changes = 0 }) c.in_ok-plant.ensures.reads

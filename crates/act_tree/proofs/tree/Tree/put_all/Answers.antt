@@ -35,7 +35,7 @@ pub returns-clause-tree : goal.returns-clause-tree
 unfolding tree_view
 returns-clause-tree c =
     let name : c.as_str.result.now ≡ bringer c.args.by = c.as_str.ensures ∙ c.in_ok-name.ensures in
-    ap {B = TreeValue} (λ body. record { numbering = c.args.self.now.numbering; body = body; changes = c.args.self.now.changes })
+    ap {B = TreeValue} (λ body. record { numbering = c.args.self.now.numbering; limit = c.args.self.now.limit; body = body; changes = c.args.self.now.changes })
     (c.in_ok-arena.ensures.reads ∙ ap (λ n. all_enacted NONE_THROUGHOUT (Some n) (branches_of c.args.nodes.now)) name
     ∙ root_text c.args.self.now (brought c.args.by (branches_of c.args.nodes.now)))
 

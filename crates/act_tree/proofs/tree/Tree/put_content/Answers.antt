@@ -19,7 +19,7 @@ invariant_of-self c =
 pub returns-clause-tree : goal.returns-clause-tree
 unfolding has_node tree_view provision_at
 returns-clause-tree c =
-    ap {B = TreeValue} (λ body. record { numbering = c.args.self.now.numbering; body = body; changes = c.args.self.now.changes })
+    ap {B = TreeValue} (λ body. record { numbering = c.args.self.now.numbering; limit = c.args.self.now.limit; body = body; changes = c.args.self.now.changes })
     (content_given c.args.self.now.arena c.set_content.new.self c.args.id c.args.content c.args.self.now.whole c.requires.node c.requires.provision
     c.set_content.ensures.numbers c.set_content.ensures.size c.set_content.ensures.restated).holds.reads
 

@@ -50,7 +50,7 @@ returns-clause-tree c =
     let P : List ℕ → Type 0 = λ n. IsGrafted old new c.args.parent c.args.place (all_enacted NONE_THROUGHOUT (Some n) (branches_of c.args.nodes.now)) in
     let fresh = brought_apart c.args.by (branches_of c.args.nodes.now) (body_of old) c.requires.fresh in
     on_ok_map c.graft.result _ _
-    (λ is. ap {B = TreeValue} (λ body. record { numbering = c.args.self.now.numbering; body = body; changes = c.args.self.now.changes })
+    (λ is. ap {B = TreeValue} (λ body. record { numbering = c.args.self.now.numbering; limit = c.args.self.now.limit; body = body; changes = c.args.self.now.changes })
     (regrown old new c.args.parent c.args.place (brought c.args.by (branches_of c.args.nodes.now)) c.args.self.now.whole c.requires.node (subst P name is)
     (brought_differ c.args.by (branches_of c.args.nodes.now) c.requires.payload) fresh).holds.reads)
     c.graft.ensures.grafted
@@ -90,7 +90,7 @@ returns-clause-kept c =
     let Q : List ℕ → Type 0 = λ n. HasGrown old new (all_wids (all_enacted NONE_THROUGHOUT (Some n) (branches_of c.args.nodes.now))) in
     let fresh = brought_apart c.args.by (branches_of c.args.nodes.now) (body_of old) c.requires.fresh in
     on_err_map c.graft.result _ _
-    (λ is. ap {B = TreeValue} (λ body. record { numbering = c.args.self.now.numbering; body = body; changes = c.args.self.now.changes })
+    (λ is. ap {B = TreeValue} (λ body. record { numbering = c.args.self.now.numbering; limit = c.args.self.now.limit; body = body; changes = c.args.self.now.changes })
     (left_whole old new (all_wids (brought c.args.by (branches_of c.args.nodes.now))) c.args.self.now.whole (subst Q name is) fresh).reads)
     c.graft.ensures.kept
 

@@ -19,7 +19,7 @@ invariant_of-self c =
 pub returns-clause-tree : goal.returns-clause-tree
 unfolding has_node tree_view provision_at
 returns-clause-tree c =
-    ap {B = TreeValue} (λ body. record { numbering = c.args.self.now.numbering; body = body; changes = c.args.self.now.changes })
+    ap {B = TreeValue} (λ body. record { numbering = c.args.self.now.numbering; limit = c.args.self.now.limit; body = body; changes = c.args.self.now.changes })
     (num_put c.args.self.now.arena c.set_num.new.self c.args.id c.args.num c.args.self.now.whole c.requires.node c.requires.provision
     c.set_num.ensures.numbers c.set_num.ensures.size c.set_num.ensures.restated c.requires.num).holds.reads
 

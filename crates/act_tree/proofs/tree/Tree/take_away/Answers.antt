@@ -31,7 +31,7 @@ unfolding has_node tree_view provision_at
 returns-clause-tree c =
     let left : Left c.args.self.now.arena c.take_off.new.self (provision_in (at c.args.self.now.arena c.args.id)).wid =
     left_removed c.args.self.now.arena c.take_off.new.self c.args.id c.args.self.now.whole c.requires.node c.requires.provision c.take_off.ensures.numbers c.take_off.ensures.size c.take_off.ensures.taken in
-    ap {B = TreeValue} (λ body. record { numbering = c.args.self.now.numbering; body = body; changes = c.args.self.now.changes }) left.holds.reads
+    ap {B = TreeValue} (λ body. record { numbering = c.args.self.now.numbering; limit = c.args.self.now.limit; body = body; changes = c.args.self.now.changes }) left.holds.reads
 
 pub returns-clause-says : goal.returns-clause-says
 unfolding has_node provision_at

@@ -67,7 +67,7 @@ unfolding has_node tree_view provision_at
 returns-clause-tree c =
     let arena = c.args.self.now.arena in
     let other : c.args.id ≡ 0 → ⊥ = root_alone (at arena) (number arena) (size arena) c.args.self.now.whole c.args.id c.requires.next in
-    ap {B = TreeValue} (λ body. record { numbering = c.args.self.now.numbering; body = body; changes = c.args.self.now.changes })
+    ap {B = TreeValue} (λ body. record { numbering = c.args.self.now.numbering; limit = c.args.self.now.limit; body = body; changes = c.args.self.now.changes })
     (merged_arena arena c.args.id c.unwrap-next.result c.args.self.now.whole c.requires.node other (sym c.next.ensures ∙ c.unwrap-next.ensures) c.in_ok-below.below.items c.in_ok-below.ensures
     c.join.new.self c.args.content c.in_ok-refs.refs c.join.ensures.numbers c.join.ensures.size c.in_ok-refs.ensures c.join.ensures.joined).reads
 

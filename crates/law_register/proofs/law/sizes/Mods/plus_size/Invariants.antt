@@ -5,6 +5,6 @@ use Rattle.law_register.proofs.law.sizes.Mods.plus_size.Given as goal
 
 abbrev pub invariant-loop-modification : goal.invariant-loop-modification
 invariant-loop-modification l = record {
-  sum : min (l.sum + modifications_size (drop l.modification-index l.self)) 18446744073709551615 ≡ min (l.size + (2 + modifications_size l.self)) 18446744073709551615;
+  sum : min (l.sum + modifications_size l.format (drop l.modification-index l.self)) 18446744073709551615 ≡ min (l.size + (2 + modifications_size l.format l.self)) 18446744073709551615;
   fits : l.sum ≤ 18446744073709551615;
 }

@@ -1,0 +1,11 @@
+-- The references that are judged, and those that are left; each takes a step.
+use Rattle.std.proofs.Common.{◌≡◌, ◌+◌, ◌≤◌, ◌++◌, drop, length, map}
+use Rattle.law_refs.specs.Judging as spec
+use Rattle.law_refs.proofs.judging.judge_all.Given as goal
+
+abbrev pub invariant-loop-one : goal.invariant-loop-one
+invariant-loop-one g l = record {
+  refs : l.judged ++ map (spec.judged (g.T.Targets.broken_rule l.targets)) (drop l.one-index l.refs)
+      ≡ map (spec.judged (g.T.Targets.broken_rule l.targets)) l.refs;
+  steps : l.steps + length (drop l.one-index l.refs) ≤ l.initial.steps + length l.refs;
+}

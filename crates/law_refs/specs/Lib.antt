@@ -1,0 +1,10 @@
+pub mod Counting
+pub mod Covering
+pub mod Index
+pub mod Judging
+pub mod Listed
+pub mod Missing
+pub mod Names
+pub mod OfRegister
+pub mod Right
+pub mod Rows

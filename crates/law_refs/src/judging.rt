@@ -1,0 +1,132 @@
+//! Judging references: one after another, by what targets say.
+
+ghost use Rattle.std.specs.Prelude.{◌≡◌, ◌+◌, ◌≤◌, [], ◌∷◌, IfOk, length, map};
+ghost use Rattle.law_refs.specs.Judging as spec;
+ghost use Rattle.law_refs.specs.Counting.{moved_refs};
+
+use crate::{JudgedRef, NodeRef, RefList, SharedList, Targets, Works};
+use desk_base::{Memory, Steps};
+use frbr_names::parse_expression;
+use std::alloc::Global;
+use std::sync::ledger::Ledger;
+
+#[tactic(auto, unfolding(crate::specs::Judging::cause_of))]
+fn cause_of<T: Targets, L: Ledger>(
+    alloc: Global,
+    targets: &T,
+    iri: &str,
+    steps: &mut Steps<L>,
+) -> Result<Option<u8>, Memory>
+    ensures cause { IfOk result (λ cause. cause ≡ spec.cause_of (T.broken_rule targets.now) iri.now) }
+    ensures steps { steps.new ≤ steps.old + 1 }
+{
+    match parse_expression(iri) {
+        Ok(target) => targets.broken(alloc, &target, steps),
+        Err(_) => Ok(None),
+    }
+}
+
+/// Whether what a reference refers to is of one of these works.
+#[tactic(auto, unfolding(crate::specs::Judging::names_one))]
+pub fn names_one(works: &Works, iri: &str) -> bool
+    ensures { result ≡ spec.names_one works.now iri.now }
+{
+    match parse_expression(iri) {
+        Ok(target) => works.has(target.work.text),
+        Err(_) => false,
+    }
+}
+
+#[tactic(auto, unfolding(crate::specs::Judging::judged))]
+fn judge<T: Targets, L: Ledger>(
+    alloc: Global,
+    targets: &T,
+    placed: &NodeRef,
+    steps: &mut Steps<L>,
+) -> Result<JudgedRef, Memory>
+    ensures judged { IfOk result (λ judged. judged ≡ spec.judged (T.broken_rule targets.now) placed.now) }
+    ensures steps { steps.new ≤ steps.old + 1 }
+{
+    let cause = cause_of(alloc, targets, placed.iri.as_str(), steps)?;
+    Ok(JudgedRef {
+        eid: placed.eid.copy()?,
+        iri: placed.iri.copy()?,
+        cause,
+    })
+}
+
+/// References, judged in order.
+pub fn judge_all<T: Targets, L: Ledger>(
+    alloc: Global,
+    targets: &T,
+    refs: &[NodeRef],
+    steps: &mut Steps<L>,
+) -> Result<SharedList<JudgedRef>, Memory>
+    ensures judged { IfOk result (λ judged. judged ≡ map (spec.judged (T.broken_rule targets.now)) refs.now) }
+    ensures steps { steps.new ≤ steps.old + length refs.now }
+{
+    let mut judged = RefList::new(alloc);
+    for one in refs {
+        judged.push(judge(alloc, targets, one, steps)?)?;
+    }
+    SharedList::new(alloc, judged)
+}
+
+// What breaks a reference now, where these works moved.
+fn cause_now<T: Targets, L: Ledger>(
+    alloc: Global,
+    targets: &T,
+    moved: &Works,
+    kept: &JudgedRef,
+    steps: &mut Steps<L>,
+) -> Result<Option<u8>, Memory>
+    ensures cause { IfOk result
+        (λ cause. cause ≡ spec.cause_now (T.broken_rule targets.now) moved.now kept.now) }
+    ensures steps { steps.new ≤ steps.old + moved_refs moved.now (kept.now ∷ []) }
+{
+    let iri = kept.iri.as_str();
+    if names_one(moved, iri) {
+        cause_of(alloc, targets, iri, steps)
+    } else {
+        Ok(kept.cause)
+    }
+}
+
+#[tactic(auto, unfolding(crate::specs::Judging::judged_again))]
+fn judge_again<T: Targets, L: Ledger>(
+    alloc: Global,
+    targets: &T,
+    moved: &Works,
+    kept: &JudgedRef,
+    steps: &mut Steps<L>,
+) -> Result<JudgedRef, Memory>
+    ensures judged { IfOk result
+        (λ judged. judged ≡ spec.judged_again (T.broken_rule targets.now) moved.now kept.now) }
+    ensures steps { steps.new ≤ steps.old + moved_refs moved.now (kept.now ∷ []) }
+{
+    let cause = cause_now(alloc, targets, moved, kept, steps)?;
+    Ok(JudgedRef {
+        eid: kept.eid.copy()?,
+        iri: kept.iri.copy()?,
+        cause,
+    })
+}
+
+/// References that were judged, those again whose target is of a work that moved.
+pub fn judge_all_again<T: Targets, L: Ledger>(
+    alloc: Global,
+    targets: &T,
+    moved: &Works,
+    refs: &[JudgedRef],
+    steps: &mut Steps<L>,
+) -> Result<SharedList<JudgedRef>, Memory>
+    ensures judged { IfOk result
+        (λ judged. judged ≡ map (spec.judged_again (T.broken_rule targets.now) moved.now) refs.now) }
+    ensures steps { steps.new ≤ steps.old + moved_refs moved.now refs.now }
+{
+    let mut judged = RefList::new(alloc);
+    for one in refs {
+        judged.push(judge_again(alloc, targets, moved, one, steps)?)?;
+    }
+    SharedList::new(alloc, judged)
+}

@@ -1,0 +1,279 @@
+//! KeptWork: what is kept of a work. A clause sees its rows, and not the works that are noted as those which its references name.
+
+ghost use Rattle.std.specs.Prelude.{◌≡◌, ◌+◌, ◌≤◌, ◌∷◌, ◌++◌, [], map, true, false, IfOk, OnOk};
+ghost use Rattle.std.specs.List.{list_any};
+ghost use Rattle.law_refs.specs.Covering as covering;
+ghost use Rattle.law_refs.specs.Covering.{are_still};
+ghost use Rattle.law_refs.specs.Index.{moved_in_rows};
+ghost use Rattle.law_refs.specs.Names.{is_among};
+ghost use Rattle.law_refs.specs.Rows as spec;
+
+use crate::judging::judge_all_again;
+use crate::{DayRefs, JudgedRef, RefList, Targets, WorkRefs, Works};
+use desk_base::{Day, Memory, Steps};
+use frbr_names::{WorkName, parse_expression};
+use std::alloc::Global;
+use std::marker::Model;
+use std::sync::Arc;
+use std::sync::ledger::Ledger;
+
+/// What is kept of a work, in memory that its copies share.
+#[derive(Debug, Drop)]
+pub struct KeptWork {
+    refs: Arc<WorkRefs>,
+    targets: Arc<Works>,
+}
+
+impl Model for KeptWork {
+    ghost use Rattle.std.specs.Prelude.{◌≡◌, true};
+    ghost use Rattle.std.specs.Arc.{arc_value};
+    ghost use Rattle.law_refs.specs.Covering.{cover};
+    ghost use Rattle.law_refs.specs.declared.ref_row.WorkRefs.{WorkRefs};
+
+    ghost Value = { WorkRefs };
+
+    ghost view = { λ w. arc_value w.refs };
+
+    ghost invariant = { λ w. cover (arc_value w.targets) (arc_value w.refs).rows ≡ true };
+}
+
+// Whether a row that begins on the first of these days stands before one that begins on the other.
+#[tactic(auto, unfolding(crate::specs::Rows::is_before))]
+fn is_before(from: Option<Day>, day: Option<Day>) -> bool
+    ensures { result ≡ spec.is_before from day }
+{
+    match (from, day) {
+        (_, None) => false,
+        (None, Some(_)) => true,
+        (Some(from), Some(day)) => from < day,
+    }
+}
+
+fn copy_row(row: &DayRefs) -> Result<DayRefs, Memory>
+    ensures { IfOk result (λ copied. copied ≡ row.now) }
+{
+    Ok(DayRefs {
+        from: row.from,
+        refs: row.refs.copy()?,
+    })
+}
+
+fn rows_before(
+    alloc: Global,
+    day: Option<Day>,
+    rows: &[DayRefs],
+) -> Result<RefList<DayRefs>, Memory>
+    ensures { IfOk result (λ before. before ≡ spec.rows_before day rows.now) }
+{
+    let mut before = RefList::new(alloc);
+    for row in rows {
+        if is_before(row.from, day) {
+            before.push(copy_row(row)?)?;
+        }
+    }
+    Ok(before)
+}
+
+fn copy_rows(alloc: Global, rows: &[DayRefs]) -> Result<RefList<DayRefs>, Memory>
+    ensures { IfOk result (λ copied. copied ≡ rows.now) }
+{
+    let mut copied = RefList::new(alloc);
+    for row in rows {
+        copied.push(copy_row(row)?)?;
+    }
+    Ok(copied)
+}
+
+#[tactic(auto, unfolding(crate::specs::Rows::again_row))]
+fn row_again<T: Targets, L: Ledger>(
+    alloc: Global,
+    targets: &T,
+    moved: &Works,
+    row: &DayRefs,
+    steps: &mut Steps<L>,
+) -> Result<DayRefs, Memory>
+    ensures row { IfOk result (λ now. now ≡ spec.again_row (T.broken_rule targets.now) moved.now row.now) }
+    ensures steps { steps.new ≤ steps.old + moved_in_rows moved.now (row.now ∷ []) }
+{
+    let refs = judge_all_again(alloc, targets, moved, row.refs.as_slice(), steps)?;
+    Ok(DayRefs {
+        from: row.from,
+        refs,
+    })
+}
+
+fn rows_again<T: Targets, L: Ledger>(
+    alloc: Global,
+    targets: &T,
+    moved: &Works,
+    rows: &[DayRefs],
+    steps: &mut Steps<L>,
+) -> Result<RefList<DayRefs>, Memory>
+    ensures rows { IfOk result
+        (λ now. now ≡ map (spec.again_row (T.broken_rule targets.now) moved.now) rows.now) }
+    ensures steps { steps.new ≤ steps.old + moved_in_rows moved.now rows.now }
+{
+    let mut now = RefList::new(alloc);
+    for row in rows {
+        now.push(row_again(alloc, targets, moved, row, steps)?)?;
+    }
+    Ok(now)
+}
+
+// Notes the work that a reference names, if it names one.
+#[tactic(auto, unfolding(crate::specs::Covering::noted))]
+fn note(alloc: Global, works: &mut Works, iri: &str) -> Result<(), Memory>
+    ensures { OnOk result (works.new ≡ covering.noted works.old iri.now) }
+{
+    match parse_expression(iri) {
+        Ok(target) => works.insert(WorkName::copy_of(alloc, &target.work)?),
+        Err(_) => Ok(()),
+    }
+}
+
+// Notes the works that references name.
+fn note_all(alloc: Global, works: &mut Works, refs: &[JudgedRef]) -> Result<(), Memory>
+    ensures { OnOk result (works.new ≡ covering.all_noted works.old refs.now) }
+{
+    for kept in refs {
+        note(alloc, works, kept.iri.as_str())?;
+    }
+    Ok(())
+}
+
+// The same works, in memory of their own.
+fn copy_works(alloc: Global, works: &Works) -> Result<Works, Memory>
+    ensures { IfOk result (λ copied. copied ≡ covering.with_names [] works.now) }
+{
+    let mut copied = Works::new(alloc);
+    for work in works.as_slice() {
+        copied.insert(work.copy()?)?;
+    }
+    Ok(copied)
+}
+
+// Whether one of these works is among those that are noted.
+fn has_one(noted: &Works, works: &[WorkName]) -> bool
+    ensures { result ≡ list_any (λ work. is_among work noted.now) works.now }
+{
+    for work in works {
+        if noted.has(work.as_str()) {
+            return true;
+        }
+    }
+    false
+}
+
+// What is kept of a work with these rows, and one more behind them.
+fn extended(
+    alloc: Global,
+    act_day: Day,
+    rows: &[DayRefs],
+    targets: &Works,
+    row: DayRefs,
+) -> Result<KeptWork, Memory>
+    requires { covering.cover targets.now rows.now ≡ true }
+    ensures { IfOk result (λ kept. kept ≡ record { act_day = act_day; rows = rows.now ++ row ∷ [] }) }
+{
+    let mut noted = copy_works(alloc, targets)?;
+    note_all(alloc, &mut noted, row.refs.as_slice())?;
+    let mut copied = copy_rows(alloc, rows)?;
+    copied.push(row)?;
+    let refs = WorkRefs {
+        act_day,
+        rows: copied,
+    };
+    Ok(KeptWork {
+        refs: Arc::new(alloc, refs)?,
+        targets: Arc::new(alloc, noted)?,
+    })
+}
+
+impl KeptWork {
+    /// What is kept of a work with one row.
+    pub fn begun(alloc: Global, act_day: Day, row: DayRefs) -> Result<KeptWork, Memory>
+        ensures { IfOk result (λ kept. kept ≡ record { act_day = act_day; rows = row ∷ [] }) }
+    {
+        let none = Works::new(alloc);
+        extended(alloc, act_day, &[], &none, row)
+    }
+
+    /// The same with a row behind the others.
+    pub fn with_row(&self, alloc: Global, act_day: Day, row: DayRefs) -> Result<KeptWork, Memory>
+        ensures { IfOk result (λ kept. kept ≡ record { act_day = act_day; rows = self.now.rows ++ row ∷ [] }) }
+    {
+        extended(
+            alloc,
+            act_day,
+            self.refs.rows.as_slice(),
+            &self.targets,
+            row,
+        )
+    }
+
+    /// The same, shared.
+    pub fn copy(&self) -> Result<KeptWork, Memory>
+        ensures { IfOk result (λ kept. kept ≡ self.now) }
+    {
+        Ok(KeptWork {
+            refs: self.refs.clone()?,
+            targets: self.targets.clone()?,
+        })
+    }
+
+    /// What is kept.
+    pub fn refs(&self) -> &WorkRefs
+        ensures { result.now ≡ self.now }
+    {
+        &self.refs
+    }
+
+    /// What of it stands before a day.
+    #[tactic(auto, using(crate::proofs::Covered::cover_before))]
+    pub fn before(&self, alloc: Global, day: Option<Day>) -> Result<KeptWork, Memory>
+        ensures { IfOk result
+            (λ kept. kept ≡ record { act_day = self.now.act_day; rows = spec.rows_before day self.now.rows }) }
+    {
+        let rows = rows_before(alloc, day, self.refs.rows.as_slice())?;
+        let refs = WorkRefs {
+            act_day: self.refs.act_day,
+            rows,
+        };
+        Ok(KeptWork {
+            refs: Arc::new(alloc, refs)?,
+            targets: self.targets.clone()?,
+        })
+    }
+
+    /// Whether one of its references may name one of these works. Where not, none does.
+    #[tactic(auto, using(crate::proofs::Covered::still_rows))]
+    pub fn may_name(&self, moved: &Works) -> bool
+        ensures { result ≡ false → are_still moved.now self.now.rows ≡ true }
+    {
+        has_one(&self.targets, moved.as_slice())
+    }
+
+    /// The same, where those references are judged again whose target is of a work that moved.
+    #[tactic(auto, using(crate::proofs::Covered::cover_again), unfolding(crate::specs::Rows::again_work))]
+    pub fn again<T: Targets, L: Ledger>(
+        &self,
+        alloc: Global,
+        targets: &T,
+        moved: &Works,
+        steps: &mut Steps<L>,
+    ) -> Result<KeptWork, Memory>
+        ensures kept { IfOk result
+            (λ kept. kept ≡ spec.again_work (T.broken_rule targets.now) moved.now self.now) }
+        ensures steps { steps.new ≤ steps.old + moved_in_rows moved.now self.now.rows }
+    {
+        let rows = rows_again(alloc, targets, moved, self.refs.rows.as_slice(), steps)?;
+        let refs = WorkRefs {
+            act_day: self.refs.act_day,
+            rows,
+        };
+        Ok(KeptWork {
+            refs: Arc::new(alloc, refs)?,
+            targets: self.targets.clone()?,
+        })
+    }
+}
