@@ -3,6 +3,7 @@ mod Reserving
 mod Booked
 mod Asked
 mod Adding
+mod InLine
 mod Following
 mod Openings
 pub mod Images

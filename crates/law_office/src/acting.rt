@@ -11,9 +11,10 @@ ghost use Rattle.law_register.specs.Register.Verdicts.{verdict};
 ghost use Rattle.law_register.specs.declared.register.verdict.Verdict.TheVariants.{Accepted};
 ghost use Rattle.entry_codec.specs.Entries.{spelling};
 ghost use Rattle.law_office.specs.Acting.{Acts, Settles};
-ghost use Rattle.law_office.specs.Crashing.{LeavesLists, SpellsBook, SpellsEither};
+ghost use Rattle.law_office.specs.Crashing.{SpellsBook, SpellsEither};
 ghost use Rattle.law_office.specs.Lists.{EndsOver};
-ghost use Rattle.law_office.specs.Offices.{HoldsBook, IsPendingOn, IsRight, standing_of};
+ghost use Rattle.law_office.specs.Moving.{IsStanding, Leaves, Moves};
+ghost use Rattle.law_office.specs.Offices.{IsPendingOn, IsRight, standing_of};
 
 use crate::book::{Book, Changes, Pending};
 use crate::changes::make_changes;
@@ -34,8 +35,7 @@ pub(crate) fn command<K: Keeper, C: Clock, L: Ledger>(
     sent: Sent,
     steps: &mut Steps<L>,
 ) -> Result<Reply, CommandFault>
-    requires right { IsRight book.old }
-    requires held { HoldsBook (K.holding keeper.old) (K.readiness keeper.old) book.old }
+    requires stands { IsStanding K.holding K.readiness keeper.old book.old }
     requires spelled { is_well_spelled sent.command ≡ true }
     ensures outcome { EndsWithin sent.drafter sent.request sent.command
         (standing_of book.old (C.days clock.old)) (standing_of book.new (C.days clock.new))
@@ -46,9 +46,7 @@ pub(crate) fn command<K: Keeper, C: Clock, L: Ledger>(
     ensures marks { book.new.marks.items ≡ marks_after book.old.marks.items
         (mark_of sent.drafter sent.request book.new.register.entries) result }
     ensures past { book.new.past ≡ book.old.past }
-    ensures right { IsRight book.new }
-    ensures held { HoldsBook (K.holding keeper.new) (K.readiness keeper.new) book.new }
-    ensures crash { LeavesLists (SpellsEither book.old book.new) (K.holding keeper.old) (K.holding keeper.new) }
+    ensures leaves { Leaves K.holding K.readiness (SpellsEither book.old book.new) keeper.old keeper.new book.new }
     ensures cause { HasCommandCause (K.faults keeper.old) (K.faults keeper.new) result }
 {
     match book.reserve_mark(&sent.drafter, sent.request) {
@@ -75,8 +73,7 @@ fn settle_and_act<K: Keeper, C: Clock, L: Ledger>(
     sent: Sent,
     steps: &mut Steps<L>,
 ) -> Result<Reply, CommandFault>
-    requires right { IsRight book.old }
-    requires held { HoldsBook (K.holding keeper.old) (K.readiness keeper.old) book.old }
+    requires stands { IsStanding K.holding K.readiness keeper.old book.old }
     requires spelled { is_well_spelled sent.command ≡ true }
     ensures outcome { EndsWithin sent.drafter sent.request sent.command
         (standing_of book.old (C.days clock.old)) (standing_of book.new (C.days clock.new))
@@ -84,11 +81,8 @@ fn settle_and_act<K: Keeper, C: Clock, L: Ledger>(
     ensures over { EndsOver sent.drafter sent.request sent.command
         (standing_of book.old (C.days clock.old)) (standing_of book.new (C.days clock.new))
         (K.holding keeper.old) (K.holding keeper.new) result }
-    ensures marks { book.new.marks ≡ book.old.marks }
-    ensures past { book.new.past ≡ book.old.past }
-    ensures right { IsRight book.new }
-    ensures held { HoldsBook (K.holding keeper.new) (K.readiness keeper.new) book.new }
-    ensures crash { LeavesLists (SpellsEither book.old book.new) (K.holding keeper.old) (K.holding keeper.new) }
+    ensures moves { Moves book.old book.new }
+    ensures leaves { Leaves K.holding K.readiness (SpellsEither book.old book.new) keeper.old keeper.new book.new }
     ensures cause { HasCommandCause (K.faults keeper.old) (K.faults keeper.new) result }
 {
     match settle_pending(alloc, keeper, book) {
@@ -109,15 +103,11 @@ fn settle_pending<K: Keeper>(
     keeper: &mut K,
     book: &mut Book,
 ) -> Result<(), CommandFault>
-    requires right { IsRight book.old }
-    requires held { HoldsBook (K.holding keeper.old) (K.readiness keeper.old) book.old }
+    requires stands { IsStanding K.holding K.readiness keeper.old book.old }
     ensures settles { Settles book.old book.new result }
     ensures same { Keeps (K.holding keeper.old) (K.holding keeper.new) }
-    ensures marks { book.new.marks ≡ book.old.marks }
-    ensures past { book.new.past ≡ book.old.past }
-    ensures right { IsRight book.new }
-    ensures held { HoldsBook (K.holding keeper.new) (K.readiness keeper.new) book.new }
-    ensures crash { LeavesLists (SpellsBook book.old) (K.holding keeper.old) (K.holding keeper.new) }
+    ensures moves { Moves book.old book.new }
+    ensures leaves { Leaves K.holding K.readiness (SpellsBook book.old) keeper.old keeper.new book.new }
     ensures cause { HasCommandCause (K.faults keeper.old) (K.faults keeper.new) result }
 {
     let found = match &book.pending {
@@ -143,17 +133,13 @@ fn act<K: Keeper, L: Ledger>(
     entry: Entry,
     steps: &mut Steps<L>,
 ) -> Result<Reply, CommandFault>
-    requires right { IsRight book.old }
+    requires stands { IsStanding K.holding K.readiness keeper.old book.old }
     requires settled { book.old.pending ≡ None }
-    requires held { HoldsBook (K.holding keeper.old) (K.readiness keeper.old) book.old }
     requires spelled { is_well_spelled entry.command ≡ true }
     ensures acts { Acts entry book.old book.new result }
     ensures tells { (K.holding keeper.old).tells ↔ (K.holding keeper.new).tells }
-    ensures marks { book.new.marks ≡ book.old.marks }
-    ensures past { book.new.past ≡ book.old.past }
-    ensures right { IsRight book.new }
-    ensures held { HoldsBook (K.holding keeper.new) (K.readiness keeper.new) book.new }
-    ensures crash { LeavesLists (SpellsEither book.old book.new) (K.holding keeper.old) (K.holding keeper.new) }
+    ensures moves { Moves book.old book.new }
+    ensures leaves { Leaves K.holding K.readiness (SpellsEither book.old book.new) keeper.old keeper.new book.new }
     ensures cause { HasCommandCause (K.faults keeper.old) (K.faults keeper.new) result }
     ensures steps { steps.new ≤ steps.old + command_cost book.old.register.entries entry }
 {
@@ -207,19 +193,15 @@ fn keep<K: Keeper, L: Ledger>(
     reply: Reply,
     steps: &mut Steps<L>,
 ) -> Result<Reply, CommandFault>
-    requires right { IsRight book.old }
+    requires stands { IsStanding K.holding K.readiness keeper.old book.old }
     requires settled { book.old.pending ≡ None }
-    requires held { HoldsBook (K.holding keeper.old) (K.readiness keeper.old) book.old }
     requires spelled { is_well_spelled entry.command ≡ true }
     requires accepted { verdict book.old.register.entries entry.drafter entry.request entry.command
         ≡ Accepted entry.law reply }
     ensures acts { Acts entry book.old book.new result }
     ensures tells { (K.holding keeper.old).tells ↔ (K.holding keeper.new).tells }
-    ensures marks { book.new.marks ≡ book.old.marks }
-    ensures past { book.new.past ≡ book.old.past }
-    ensures right { IsRight book.new }
-    ensures held { HoldsBook (K.holding keeper.new) (K.readiness keeper.new) book.new }
-    ensures crash { LeavesLists (SpellsEither book.old book.new) (K.holding keeper.old) (K.holding keeper.new) }
+    ensures moves { Moves book.old book.new }
+    ensures leaves { Leaves K.holding K.readiness (SpellsEither book.old book.new) keeper.old keeper.new book.new }
     ensures cause { HasCommandCause (K.faults keeper.old) (K.faults keeper.new) result }
     ensures steps { steps.new ≤ steps.old + entry_cost book.old.register.entries entry }
 {
@@ -269,19 +251,15 @@ fn append<K: Keeper>(
     pending: Pending,
     reply: Reply,
 ) -> Result<Reply, CommandFault>
-    requires right { IsRight book.old }
+    requires stands { IsStanding K.holding K.readiness keeper.old book.old }
     requires settled { book.old.pending ≡ None }
-    requires held { HoldsBook (K.holding keeper.old) (K.readiness keeper.old) book.old }
     requires follows { IsPendingOn book.old.register book.old.tables pending }
     requires accepted { verdict book.old.register.entries pending.entry.drafter pending.entry.request
         pending.entry.command ≡ Accepted pending.entry.law reply }
     ensures acts { Acts pending.entry book.old book.new result }
     ensures tells { (K.holding keeper.old).tells ↔ (K.holding keeper.new).tells }
-    ensures marks { book.new.marks ≡ book.old.marks }
-    ensures past { book.new.past ≡ book.old.past }
-    ensures right { IsRight book.new }
-    ensures held { HoldsBook (K.holding keeper.new) (K.readiness keeper.new) book.new }
-    ensures crash { LeavesLists (SpellsEither book.old book.new) (K.holding keeper.old) (K.holding keeper.new) }
+    ensures moves { Moves book.old book.new }
+    ensures leaves { Leaves K.holding K.readiness (SpellsEither book.old book.new) keeper.old keeper.new book.new }
     ensures cause { HasCommandCause (K.faults keeper.old) (K.faults keeper.new) result }
 {
     match keeper.append(alloc, pending.bytes.as_slice()) {

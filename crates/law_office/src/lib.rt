@@ -6,6 +6,7 @@ mod acting;
 mod book;
 mod changes;
 pub mod laws;
+mod line;
 mod office;
 mod opening;
 mod renewing;

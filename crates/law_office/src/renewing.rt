@@ -1,8 +1,9 @@
 //! Renewing: changes are made to what is kept. None of it takes memory.
 
-ghost use Rattle.std.specs.Prelude.{◌≡◌, ◌≤◌, List, ℕ, IfSome, map, option_map};
+ghost use Rattle.std.specs.Prelude.{◌≡◌, ◌≤◌, ◌++◌, ◌∷◌, [], List, ℕ, None, Some, IfSome, map, option_map};
+ghost use Rattle.std.specs.Map.{keys_of};
 ghost use Rattle.indexmap.specs.IndexMap.{spare};
-ghost use Rattle.version_cache.specs.Seen.{work_revision_view};
+ghost use Rattle.version_cache.specs.Seen.{work_revision_view, work_view};
 ghost use Rattle.version_cache.specs.Works.{AreRevisionsOf};
 ghost use Rattle.law_office.specs.Tables.{Fit, applied, enacted_view, kept_in, revised_view, with_enacted, with_revision, with_revisions};
 
@@ -36,14 +37,25 @@ fn renew_all(tables: &mut KeptWorks, revised: Vec<(WorkName, WorkRevision)>)
     }
 }
 
-// Keeps a work, if there is one.
-pub(crate) fn add(tables: &mut KeptWorks, enacted: Option<(WorkName, WorkTables)>)
+// Keeps a work, which goes last where nothing is kept of it.
+pub(crate) fn add(tables: &mut KeptWorks, work: WorkName, kept: WorkTables)
+    requires { 1 ≤ spare tables.old }
+    ensures kept { (w : List ℕ) → kept_in tables.new w
+        ≡ with_enacted (Some (work, work_view kept)) w (kept_in tables.old w) }
+    ensures key { kept_in tables.old work ≡ None
+        → keys_of tables.new.entries ≡ keys_of tables.old.entries ++ work ∷ [] }
+{
+    let _ = tables.insert(work, kept);
+}
+
+// Keeps a work that is enacted, if one is.
+fn enact(tables: &mut KeptWorks, enacted: Option<(WorkName, WorkTables)>)
     requires { 1 ≤ spare tables.old }
     ensures { (w : List ℕ) → kept_in tables.new w
         ≡ with_enacted (option_map enacted_view enacted) w (kept_in tables.old w) }
 {
     if let Some((work, kept)) = enacted {
-        let _ = tables.insert(work, kept);
+        add(tables, work, kept);
     }
 }
 
@@ -55,5 +67,5 @@ pub(crate) fn apply(tables: &mut KeptWorks, changes: Changes)
 {
     let Changes { enacted, revised } = changes;
     renew_all(tables, revised);
-    add(tables, enacted);
+    enact(tables, enacted);
 }

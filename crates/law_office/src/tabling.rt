@@ -1,27 +1,29 @@
 //! Tabling: what is kept of each work is made once a keeper is opened.
 
-ghost use Rattle.std.specs.Prelude.{◌≡◌, ◌+◌, ◌≤◌, [], None, Ok, IfErr, IfOk, IsPermutation, OnOk, option_map};
+ghost use Rattle.std.specs.Prelude.{◌≡◌, ◌≢◌, ◌+◌, ◌≤◌, ◌++◌, ◌∷◌, [], None, Ok, IfErr, IfOk, OnOk, map, option_map};
 ghost use Rattle.std.specs.List.{sum_by};
 ghost use Rattle.std.specs.Map.{keys_of};
 ghost use Rattle.law_register.specs.Answer.Renewing.{costs_from, opening_cost};
 ghost use Rattle.law_register.specs.Register.KnownNext.{known_now};
-ghost use Rattle.law_register.specs.Register.LawList.{laws, works_enacted};
 ghost use Rattle.version_cache.specs.Seen.{work_view};
 ghost use Rattle.viewpoints.specs.Right as viewpoints;
 ghost use Rattle.law_keeper.specs.Keepers.{Keeps, LeavesOldOrSame};
 ghost use Rattle.law_register.specs.declared.desk.open_fault.OpenFault.TheVariants as fails;
+ghost use Rattle.law_office.specs.Line.{AreInLine};
 ghost use Rattle.law_office.specs.Offices.{HoldsBook, IsRight};
 ghost use Rattle.law_office.specs.Opening as spec;
 ghost use Rattle.law_office.specs.Opening.{HasOpenCause, Opens, StaysUnlessFailed, TakesRefused, cost_opened, opened_of};
 ghost use Rattle.law_office.specs.Tables.{AddsWork, AreTablesOf, Matches, kept_in, table_on};
 
 use crate::book::{Book, KeptWorks};
+use crate::line::{DatedWork, line_of};
 use crate::opening::Opened;
 use crate::renewing::add;
 use desk_base::{Memory, Steps};
 use frbr_names::WorkName;
 use indexmap::IndexMap;
 use law_keeper::Keeper;
+use law_register::laws::entries_are_legal;
 use law_register::{OpenFault, Register, known_at};
 use replay_core::FromEnacted;
 use std::alloc::Global;
@@ -56,38 +58,42 @@ fn add_work<L: Ledger>(
 ) -> Result<(), Memory>
     ensures kept { OnOk result (AddsWork (known_now register.now.entries work.now) work.now
         (kept_in tables.old) (kept_in tables.new)) }
+    ensures key { OnOk result (known_now register.now.entries work.now ≢ None → kept_in tables.old work.now ≡ None
+        → keys_of tables.new.entries ≡ keys_of tables.old.entries ++ work.now ∷ []) }
     ensures steps { steps.new ≤ steps.old + costs_from (known_now register.now.entries work.now) 0 }
 {
     tables.reserve(1)?;
     let name = work.copy()?;
     match make_work(alloc, register, work, steps)? {
-        Some(made) => add(tables, Some((name, made))),
+        Some(made) => add(tables, name, made),
         None => drop(name),
     }
     Ok(())
 }
 
-// Makes what is kept of these works, which are all that are enacted.
+// Makes what is kept of works in line, of one after another.
 fn add_all<L: Ledger>(
     alloc: Global,
     register: &Register,
-    works: &[WorkName],
+    line: &[DatedWork],
     tables: &mut KeptWorks,
     steps: &mut Steps<L>,
 ) -> Result<(), Memory>
     requires none { tables.old.entries ≡ [] }
-    requires all { IsPermutation (works_enacted (laws register.now.entries)) works.now }
+    requires line { AreInLine register.now.entries (map (λ d. d.work) line.now) }
     ensures right { OnOk result (AreTablesOf register.now.entries (kept_in tables.new)) }
+    ensures keys { OnOk result (keys_of tables.new.entries ≡ map (λ d. d.work) line.now) }
     ensures steps { steps.new ≤ steps.old
-        + sum_by (λ work. costs_from (known_now register.now.entries work) 0) works.now }
+        + sum_by (λ work. costs_from (known_now register.now.entries work) 0) (map (λ d. d.work) line.now) }
 {
-    for work in works {
-        add_work(alloc, register, work, tables, steps)?;
+    entries_are_legal(register);
+    for dated in line {
+        add_work(alloc, register, &dated.work, tables, steps)?;
     }
     Ok(())
 }
 
-// Makes what is kept of all works.
+// Makes what is kept of all works, in line.
 #[tactic(auto, unfolding(law_register::specs::Answer::Renewing::opening_cost))]
 fn make_tables<L: Ledger>(
     alloc: Global,
@@ -95,11 +101,12 @@ fn make_tables<L: Ledger>(
     steps: &mut Steps<L>,
 ) -> Result<KeptWorks, Memory>
     ensures right { IfOk result (λ tables. AreTablesOf register.now.entries (kept_in tables)) }
+    ensures line { IfOk result (λ tables. AreInLine register.now.entries (keys_of tables.entries)) }
     ensures steps { steps.new ≤ steps.old + opening_cost register.now.entries }
 {
-    let works = register.works(alloc)?;
+    let line = line_of(alloc, register)?;
     let mut tables = IndexMap::new(alloc);
-    add_all(alloc, register, works.as_slice(), &mut tables, steps)?;
+    add_all(alloc, register, line.as_slice(), &mut tables, steps)?;
     Ok(tables)
 }
 
@@ -110,6 +117,7 @@ fn make_kept<L: Ledger>(
     steps: &mut Steps<L>,
 ) -> Result<(KeptWorks, PastTables<Table>), Memory>
     ensures tables { IfOk result (λ kept. AreTablesOf register.now.entries (kept_in kept.0)) }
+    ensures line { IfOk result (λ kept. AreInLine register.now.entries (keys_of kept.0.entries)) }
     ensures none { IfOk result (λ kept. kept.1 ≡ []) }
     ensures past { IfOk result (λ kept. viewpoints.IsRight table_on register.now.entries kept.1) }
     ensures steps { steps.new ≤ steps.old + opening_cost register.now.entries }
@@ -130,6 +138,7 @@ fn book_of<L: Ledger>(
     ensures end { IfOk result (λ book. book.end ≡ opened.end) }
     ensures new { IfOk result (λ book. (book.pending ≡ None) × (book.marks.items ≡ []) × (keys_of book.past ≡ [])) }
     ensures right { IfOk result IsRight }
+    ensures line { IfOk result (λ book. AreInLine book.register.entries (keys_of book.tables.entries)) }
     ensures memory { IfErr result (λ fault. fault ≡ fails.Memory) }
     ensures steps { steps.new ≤ steps.old + opening_cost opened.register.entries }
 {
@@ -150,6 +159,7 @@ impl Book {
             → Opens (λ book. book.register.entries) result (opened_of (K.holding keeper.old).list) }
         ensures new { IfOk result (λ book. (book.pending ≡ None) × (book.marks.items ≡ []) × (keys_of book.past ≡ [])) }
         ensures right { IfOk result IsRight }
+        ensures line { IfOk result (λ book. AreInLine book.register.entries (keys_of book.tables.entries)) }
         ensures held { IfOk result (HoldsBook (K.holding keeper.new) (K.readiness keeper.new)) }
         ensures same { Keeps (K.holding keeper.old) (K.holding keeper.new) }
         ensures crash { LeavesOldOrSame (K.holding keeper.old) (K.holding keeper.new) }
@@ -167,8 +177,8 @@ impl Book {
         }
     }
 
-    /// The book of an office, of what was opened: with what is to be kept of each enacted work, which takes one step at most for each
-    /// id that is applied.
+    /// The book of an office, of what was opened: with what is to be kept of each enacted work, made in line, of the latest
+    /// act first. It takes one step at most for each id that is applied.
     pub fn with_tables<L: Ledger>(
         alloc: Global,
         opened: Opened,
@@ -179,6 +189,7 @@ impl Book {
         ensures end { IfOk result (λ book. book.end ≡ opened.end) }
         ensures new { IfOk result (λ book. (book.pending ≡ None) × (book.marks.items ≡ []) × (keys_of book.past ≡ [])) }
         ensures right { IfOk result IsRight }
+        ensures line { IfOk result (λ book. AreInLine book.register.entries (keys_of book.tables.entries)) }
         ensures steps { steps.new ≤ steps.old + opening_cost opened.register.entries }
     {
         match make_kept(alloc, &opened.register, steps) {

@@ -6,6 +6,7 @@ ghost use Rattle.law_register.specs.Desk.Commands.{mark_of};
 ghost use Rattle.viewpoints.specs.Right as viewpoints;
 ghost use Rattle.law_office.specs.Acting.{resolved, resolved_end};
 ghost use Rattle.law_office.specs.Opening.{opened, spellings};
+ghost use Rattle.law_office.specs.Moving.{Moves};
 ghost use Rattle.law_office.specs.Offices.{IsPendingOn, IsRight, pending_of};
 ghost use Rattle.law_office.specs.Tables.{AreTablesOf, kept_in, table_on};
 
@@ -88,8 +89,7 @@ impl Book {
         ensures space { OnOk result (1 ≤ spare self.new.tables) }
         ensures pending { self.new.pending ≡ self.old.pending }
         ensures end { self.new.end ≡ self.old.end }
-        ensures marks { self.new.marks ≡ self.old.marks }
-        ensures past { self.new.past ≡ self.old.past }
+        ensures moves { Moves self.old self.new }
         ensures right { self.old.pending ≡ None → IsRight self.new }
     {
         self.register.reserve(entry)?;
@@ -104,10 +104,9 @@ impl Book {
         ensures entries { self.new.register.entries ≡ self.old.register.entries ++ pending.entry ∷ [] }
         ensures opens { opened (spellings self.new.register.entries) ≡ Ok self.new.register.entries }
         ensures end { self.new.end ≡ end }
-        ensures marks { self.new.marks ≡ self.old.marks }
         ensures pending { self.new.pending ≡ self.old.pending }
+        ensures moves { Moves self.old self.new }
         ensures tables { AreTablesOf self.new.register.entries (kept_in self.new.tables) }
-        ensures past { self.new.past ≡ self.old.past }
         ensures right { viewpoints.IsRight table_on self.new.register.entries self.new.past }
     {
         let Pending {
@@ -127,8 +126,7 @@ impl Book {
             ≡ resolved self.old.register.entries (pending_of self.old.pending) found }
         ensures end { self.new.end ≡ resolved_end self.old.end (pending_of self.old.pending) found }
         ensures pending { self.new.pending ≡ None }
-        ensures marks { self.new.marks ≡ self.old.marks }
-        ensures past { self.new.past ≡ self.old.past }
+        ensures moves { Moves self.old self.new }
         ensures right { IsRight self.new }
     {
         match self.pending.take() {

@@ -17,7 +17,7 @@ returns-in-Ok-clause-over g c =
     (holding c.args.keeper.now) (holding c.settle_pending.new.keeper) (holding c.act.new.keeper)
     (readiness c.settle_pending.new.keeper) (readiness c.act.new.keeper)
     c.in-Ok.ensures.settles.0 c.in-Ok.ensures.settles.1 c.in-Ok.ensures.same c.today-day.ensures
-    c.in-Ok.ensures.held c.act.ensures.held c.act.ensures.tells c.act.result
+    c.in-Ok.ensures.leaves.stands.held c.act.ensures.leaves.stands.held c.act.ensures.tells c.act.result
     (subst (λ (e : Entry). Acts e mid new c.act.result) c.on.ensures c.act.ensures.acts)
 
 pub returns-in-Err-clause-over : goal.returns-in-Err-clause-over
@@ -38,7 +38,7 @@ returns-in-Ok-clause-outcome g c =
     (holding c.args.keeper.now) (holding c.settle_pending.new.keeper) (holding c.act.new.keeper)
     (readiness c.settle_pending.new.keeper) (readiness c.act.new.keeper)
     c.in-Ok.ensures.settles.0 c.in-Ok.ensures.settles.1 c.in-Ok.ensures.same c.today-day.ensures
-    c.in-Ok.ensures.held c.act.ensures.held c.args.steps.now c.act.new.steps c.act.result
+    c.in-Ok.ensures.leaves.stands.held c.act.ensures.leaves.stands.held c.args.steps.now c.act.new.steps c.act.result
     (subst (λ (e : Entry). Acts e mid new c.act.result) c.on.ensures c.act.ensures.acts)
     (subst (λ (e : Entry). c.act.new.steps ≤ c.args.steps.now + command_cost mid.register.entries e) c.on.ensures c.act.ensures.steps)
 

@@ -1,10 +1,15 @@
-use Rattle.std.proofs.Common.{ap, arith, ℕ, List}
-use Rattle.std.proofs.lemmas.List.Sorted.{sum_by-IsPermutation}
+use Rattle.std.proofs.Common.{◌∙◌, sym, subst, ap, arith, ℕ, List}
 use Rattle.std.specs.List.{sum_by}
 use Rattle.law_register.specs.Answer.Renewing.{costs_from, opening_cost}
 use Rattle.law_register.specs.Register.KnownNext.{known_now}
-use Rattle.law_register.specs.Register.LawList.{laws, works_enacted}
+use Rattle.law_office.specs.declared.line.DatedWork.{DatedWork}
+use Rattle.law_office.specs.Line.{AreInLine}
+use Rattle.law_office.proofs.InLine.{sum_in_line, works_of}
 use Rattle.law_office.proofs.tabling.make_tables.Goals as goal
+
+pub add_all-requires-clause-line : goal.add_all-requires-clause-line
+add_all-requires-clause-line g c =
+    subst (λ (line : List DatedWork). AreInLine c.args.register.now.entries (works_of line)) (sym c.as_slice.ensures.value) c.in_ok-line.ensures
 
 pub returns-in_err-add_all-clause-steps : goal.returns-in_err-add_all-clause-steps
 unfolding opening_cost
@@ -14,8 +19,8 @@ returns-in_err-add_all-clause-steps g c =
     omega (
       arith,
       c.add_all.ensures.steps,
-      ap (sum_by cost) c.as_slice.ensures.value,
-      sum_by-IsPermutation cost (works_enacted (laws es)) c.in_ok-works.works.items c.in_ok-works.ensures.all,
+      ap (λ (line : List DatedWork). sum_by cost (works_of line)) c.as_slice.ensures.value,
+      sum_in_line cost es (works_of c.in_ok-line.line.items) c.in_ok-line.ensures,
     )
 
 pub returns-clause-steps : goal.returns-clause-steps
@@ -26,6 +31,11 @@ returns-clause-steps g c =
     omega (
       arith,
       c.add_all.ensures.steps,
-      ap (sum_by cost) c.as_slice.ensures.value,
-      sum_by-IsPermutation cost (works_enacted (laws es)) c.in_ok-works.works.items c.in_ok-works.ensures.all,
+      ap (λ (line : List DatedWork). sum_by cost (works_of line)) c.as_slice.ensures.value,
+      sum_in_line cost es (works_of c.in_ok-line.line.items) c.in_ok-line.ensures,
     )
+
+pub returns-clause-line : goal.returns-clause-line
+returns-clause-line g c =
+    subst (AreInLine c.args.register.now.entries)
+    (ap works_of (sym c.as_slice.ensures.value) ∙ sym c.in_ok-add_all.ensures.keys) c.in_ok-line.ensures

@@ -14,8 +14,8 @@ invariant_of-self g c =
     let faults = g.K.Keeper.faults in
     let drafter = c.in-Ok.drafter in
     let mark = mark_of drafter c.args.request new.register.entries in (
-      c.command.ensures.right,
-      c.command.ensures.held,
+      c.command.ensures.leaves.stands.right,
+      c.command.ensures.leaves.stands.held,
       marked_after drafter c.args.request c.args.command (standing_of old (days office.clock.now)) (standing_of new (days c.command.new.clock))
           old.marks.items new.marks.items mark c.command.result c.command.ensures.outcome.ends c.command.ensures.marks c.self.invariant.2,
       rises_with old.marks.items new.marks.items mark (faults office.opened.value) (faults office.keeper.now) (faults c.command.new.keeper)
@@ -30,7 +30,7 @@ returns-in-Ok-clause-sound g c =
     let days = g.C.Clock.days in
     let drafter = c.in-Ok.drafter in
     let mark = mark_of drafter c.args.request new.register.entries in
-    sound_of new _ _ _ c.command.ensures.right
+    sound_of new _ _ _ c.command.ensures.leaves.stands.right
     (marked_after drafter c.args.request c.args.command (standing_of old (days office.clock.now)) (standing_of new (days c.command.new.clock))
     old.marks.items new.marks.items mark c.command.result c.command.ensures.outcome.ends c.command.ensures.marks c.self.invariant.2)
 
@@ -40,12 +40,12 @@ returns-in-Ok-clause-crash g c =
     let holding = g.K.Keeper.holding in
     rw (sym c.self.view_is)
     (found_between (holding office.keeper.now) (holding c.command.new.keeper) office.book c.command.new.book
-    c.self.invariant.0 c.command.ensures.right c.command.ensures.crash)
+    c.self.invariant.0 c.command.ensures.leaves.stands.right c.command.ensures.leaves.crash)
 
 pub returns-in-Ok-clause-durable : goal.returns-in-Ok-clause-durable
 returns-in-Ok-clause-durable g c =
     let keeper = c.command.new.keeper in
-    found_after c.command.new.book c.command.ensures.right (g.K.Keeper.holding keeper) (g.K.Keeper.readiness keeper) c.command.ensures.held
+    found_after c.command.new.book c.command.ensures.leaves.stands.right (g.K.Keeper.holding keeper) (g.K.Keeper.readiness keeper) c.command.ensures.leaves.stands.held
 
 pub returns-in-Err-clause-crash : goal.returns-in-Err-clause-crash
 returns-in-Err-clause-crash g c =
