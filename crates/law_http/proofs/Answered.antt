@@ -51,19 +51,19 @@ use Rattle.law_http.proofs.Growing.{entries_grow, found_after, kept_on}
 abbrev says_created : List ℕ → Bool
 says_created bytes = starts_with ◌==◌ bytes (codes "HTTP/1.1 201 ")
 
-other_status : (s : Status) → s ≢ status.Created → (allow : Option Allow) (last : Bool) (body : List ℕ) → says_created (reply_bytes (reply s allow last body)) ≡ false
-other_status status.Ok other allow last body = refl
-other_status status.Created other allow last body = absurd (other refl)
-other_status status.BadRequest other allow last body = refl
-other_status status.NotFound other allow last body = refl
-other_status status.MethodNotAllowed other allow last body = refl
-other_status status.Conflict other allow last body = refl
-other_status status.LengthRequired other allow last body = refl
-other_status status.ContentTooLarge other allow last body = refl
-other_status status.FieldsTooLarge other allow last body = refl
-other_status status.InternalServerError other allow last body = refl
-other_status status.NotImplemented other allow last body = refl
-other_status status.ServiceUnavailable other allow last body = refl
+other_status : (s : Status) → s ≢ status.Created → (allow : Option Allow) (closes : Bool) (body : List ℕ) → says_created (reply_bytes (reply s allow closes body)) ≡ false
+other_status status.Ok other allow closes body = refl
+other_status status.Created other allow closes body = absurd (other refl)
+other_status status.BadRequest other allow closes body = refl
+other_status status.NotFound other allow closes body = refl
+other_status status.MethodNotAllowed other allow closes body = refl
+other_status status.Conflict other allow closes body = refl
+other_status status.LengthRequired other allow closes body = refl
+other_status status.ContentTooLarge other allow closes body = refl
+other_status status.FieldsTooLarge other allow closes body = refl
+other_status status.InternalServerError other allow closes body = refl
+other_status status.NotImplemented other allow closes body = refl
+other_status status.ServiceUnavailable other allow closes body = refl
 
 rule_other : (rule : Rule) → rule_status rule ≢ status.Created
 rule_other (rules.UnknownWork work) = λ e. cc
@@ -77,22 +77,22 @@ query_other : (rule : QueryRule) → query_status rule ≢ status.Created
 query_other (query.ViewpointAhead n) = λ e. cc
 query_other rule = λ e. cc
 
-request_other : (refusal : RequestRefusal) (last : Bool) → says_created (reply_bytes (request_reply refusal last)) ≡ false
-request_other NoRoute last = refl
-request_other (WrongMethod allow) last = refl
-request_other (BadForm form place) last = refl
+pub request_other : (refusal : RequestRefusal) (closes : Bool) → says_created (reply_bytes (request_reply refusal closes)) ≡ false
+request_other NoRoute closes = refl
+request_other (WrongMethod allow) closes = refl
+request_other (BadForm form place) closes = refl
 
-answer_other : (last : Bool) (answer : Result Answer QueryRule) → says_created (reply_bytes (answer_reply last answer)) ≡ false
-answer_other last (Ok answer) = refl
-answer_other last (Err rule) = other_status (query_status rule) (query_other rule) None last (compact_text (query_data rule))
+answer_other : (closes : Bool) (answer : Result Answer QueryRule) → says_created (reply_bytes (answer_reply closes answer)) ≡ false
+answer_other closes (Ok answer) = refl
+answer_other closes (Err rule) = other_status (query_status rule) (query_other rule) None closes (compact_text (query_data rule))
 
 memory_other : is_created MemoryFault ≡ false
 memory_other = refl
 
-keeper_other : (last : Bool) → is_created (KeeperFault last) ≡ false
-keeper_other last = refl
+keeper_other : (closes : Bool) → is_created (KeeperFault closes) ≡ false
+keeper_other closes = refl
 
-says_other : (r : Reply) (response : Response) → says_created (reply_bytes r) ≡ false → Says r response → is_created response ≡ false
+pub says_other : (r : Reply) (response : Response) → says_created (reply_bytes r) ≡ false → Says r response → is_created response ≡ false
 says_other r response other (inl made) = ap is_created made ∙ other
 says_other r response other (inr fault) = ap is_created fault ∙ memory_other
 
@@ -180,30 +180,30 @@ entered_holds asked es day now said h = by_found asked es day (request_of es ask
 no_other : {A : Type 0} (response : Response) → is_created response ≡ true → is_created response ≡ false → A
 no_other response is other = absurd (let e : true ≡ false = sym is ∙ other in cc)
 
-outcome_holds : {D : Type 0} (state : D → DeskState) (crashes : D → Crashes Found) (past : D → List PastKey) (last : Bool) (asked : Asked) (old new : D) (result : Result Outcome CommandFault) (response : Response)
-    → Does state crashes past asked old new result → SaysOutcome last result response → is_created response ≡ true → Holds asked (state new).entries
-outcome_holds state crashes past last asked old new (Ok said) response does says is =
+outcome_holds : {D : Type 0} (state : D → DeskState) (crashes : D → Crashes Found) (past : D → List PastKey) (closes : Bool) (asked : Asked) (old new : D) (result : Result Outcome CommandFault) (response : Response)
+    → Does state crashes past asked old new result → SaysOutcome closes result response → is_created response ≡ true → Holds asked (state new).entries
+outcome_holds state crashes past closes asked old new (Ok said) response does says is =
     entered_holds asked does.outcome.settled does.outcome.day (state new).entries said does.outcome.entered
-outcome_holds state crashes past last asked old new (Err (fails.Rule rule)) response does says is =
-    no_other response is (says_other (rule_reply last rule) response (other_status (rule_status rule) (rule_other rule) None last (compact_text (rule_data rule))) says)
-outcome_holds state crashes past last asked old new (Err fails.KeeperFault) response does says is = no_other response is (ap is_created says ∙ keeper_other last)
-outcome_holds state crashes past last asked old new (Err fails.Memory) response does says is = no_other response is (ap is_created says ∙ memory_other)
+outcome_holds state crashes past closes asked old new (Err (fails.Rule rule)) response does says is =
+    no_other response is (says_other (rule_reply closes rule) response (other_status (rule_status rule) (rule_other rule) None closes (compact_text (rule_data rule))) says)
+outcome_holds state crashes past closes asked old new (Err fails.KeeperFault) response does says is = no_other response is (ap is_created says ∙ keeper_other closes)
+outcome_holds state crashes past closes asked old new (Err fails.Memory) response does says is = no_other response is (ap is_created says ∙ memory_other)
 
-pub asking_holds : {D : Type 0} (state : D → DeskState) (crashes : D → Crashes Found) (past : D → List PastKey) (last : Bool) (asking : Result Asking RequestRefusal) (old new : D) (response : Response)
-    → ServesAsking state crashes past last asking old new response → is_created response ≡ true → (asked : Asked) × (asking ≡ Ok (asks.Command asked)) × Holds asked (state new).entries
-asking_holds state crashes past last (Err refusal) old new response (stays, says) is = no_other response is (says_other (request_reply refusal last) response (request_other refusal last) says)
-asking_holds state crashes past last (Ok asks.Front) old new response (stays, says) is =
-    no_other response is (says_other (front_reply last (front (state old).entries)) response refl says)
-asking_holds state crashes past last (Ok (asks.Text text)) old new response (stays, says) is =
-    no_other response is (says_other (answer_reply last (answer_at (state old).entries (question_at (front (state old).entries) text))) response (answer_other last (answer_at (state old).entries (question_at (front (state old).entries) text))) says)
-asking_holds state crashes past last (Ok (asks.Preview preview)) old new response (stays, says) is =
+pub asking_holds : {D : Type 0} (state : D → DeskState) (crashes : D → Crashes Found) (past : D → List PastKey) (closes : Bool) (asking : Result Asking RequestRefusal) (old new : D) (response : Response)
+    → ServesAsking state crashes past closes asking old new response → is_created response ≡ true → (asked : Asked) × (asking ≡ Ok (asks.Command asked)) × Holds asked (state new).entries
+asking_holds state crashes past closes (Err refusal) old new response (stays, says) is = no_other response is (says_other (request_reply refusal closes) response (request_other refusal closes) says)
+asking_holds state crashes past closes (Ok asks.Front) old new response (stays, says) is =
+    no_other response is (says_other (front_reply closes (front (state old).entries)) response refl says)
+asking_holds state crashes past closes (Ok (asks.Text text)) old new response (stays, says) is =
+    no_other response is (says_other (answer_reply closes (answer_at (state old).entries (question_at (front (state old).entries) text))) response (answer_other closes (answer_at (state old).entries (question_at (front (state old).entries) text))) says)
+asking_holds state crashes past closes (Ok (asks.Preview preview)) old new response (stays, says) is =
     let answer = preview_at (state old).entries preview.drafter (question_previewed preview) in
-    no_other response is (says_other (answer_reply last answer) response (answer_other last answer) says)
-asking_holds state crashes past last (Ok (asks.Draft drafter)) old new response (stays, says) is =
-    no_other response is (says_other (draft_reply last (draft_of drafter (state old).entries)) response refl says)
-asking_holds state crashes past last (Ok (asks.Command asked)) old new response (inl (stays, says)) is = no_other response is (ap is_created says ∙ memory_other)
-asking_holds state crashes past last (Ok (asks.Command asked)) old new response (inr (result, does, says)) is =
-    (asked, refl, outcome_holds state crashes past last asked old new result response does says is)
+    no_other response is (says_other (answer_reply closes answer) response (answer_other closes answer) says)
+asking_holds state crashes past closes (Ok (asks.Draft drafter)) old new response (stays, says) is =
+    no_other response is (says_other (draft_reply closes (draft_of drafter (state old).entries)) response refl says)
+asking_holds state crashes past closes (Ok (asks.Command asked)) old new response (inl (stays, says)) is = no_other response is (ap is_created says ∙ memory_other)
+asking_holds state crashes past closes (Ok (asks.Command asked)) old new response (inr (result, does, says)) is =
+    (asked, refl, outcome_holds state crashes past closes asked old new result response does says is)
 
 pub holds_more : (asked : Asked) (a b : List Entry) → BeginWith a b → Holds asked a → Holds asked b
 holds_more asked a b (more, is) h = record {
@@ -227,7 +227,7 @@ pub acknowledged_stand : {D : Type 0} (state : D → DeskState) (crashes : D →
 acknowledged_stand state crashes past [] old new same = tt
 acknowledged_stand state crashes past (e ∷ es) old new (mid, serves, more) = (
   (λ is. asked_more e (state mid).entries (state new).entries (entries_grow state crashes past es mid new more)
-      (asking_holds state crashes past e.request.last (asking_of e.request) old mid e.response serves is)),
+      (asking_holds state crashes past e.request.closes (asking_of e.request) old mid e.response serves is)),
   acknowledged_stand state crashes past es mid new more,
 )
 

@@ -48,28 +48,28 @@ own_draft drafter one other who alike own =
     same_draft who one other mine
 
 -- what is said to what is asked, on any days
-pub same_reply : (drafter : List ℕ) (one other : List Entry) (day later : ℕ) (last : Bool) (asking : Result Asking RequestRefusal)
-    → AreAlike drafter one other → AsksOwn drafter asking → reply_on one day last asking ≡ reply_on other later last asking
-same_reply drafter one other day later last (Err refusal) alike own = refl
-same_reply drafter one other day later last (Ok asks.Front) alike own = ap (front_reply last) (same_front drafter one other alike)
-same_reply drafter one other day later last (Ok (asks.Text text)) alike own =
-    ap (answer_reply last) (same_text drafter one other text alike)
-same_reply drafter one other day later last (Ok (asks.Preview preview)) alike own =
-    ap (answer_reply last) (own_preview drafter one other preview alike own)
-same_reply drafter one other day later last (Ok (asks.Draft who)) alike own =
-    ap (draft_reply last) (own_draft drafter one other who alike own)
-same_reply drafter one other day later last (Ok (asks.Command asked)) alike own = absurd own
+pub same_reply : (drafter : List ℕ) (one other : List Entry) (day later : ℕ) (closes : Bool) (asking : Result Asking RequestRefusal)
+    → AreAlike drafter one other → AsksOwn drafter asking → reply_on one day closes asking ≡ reply_on other later closes asking
+same_reply drafter one other day later closes (Err refusal) alike own = refl
+same_reply drafter one other day later closes (Ok asks.Front) alike own = ap (front_reply closes) (same_front drafter one other alike)
+same_reply drafter one other day later closes (Ok (asks.Text text)) alike own =
+    ap (answer_reply closes) (same_text drafter one other text alike)
+same_reply drafter one other day later closes (Ok (asks.Preview preview)) alike own =
+    ap (answer_reply closes) (own_preview drafter one other preview alike own)
+same_reply drafter one other day later closes (Ok (asks.Draft who)) alike own =
+    ap (draft_reply closes) (own_draft drafter one other who alike own)
+same_reply drafter one other day later closes (Ok (asks.Command asked)) alike own = absurd own
 
 -- what a desk answers, of a request that is no command, is what is said where its entries stand
-said_by : {D : Type 0} (state : D → DeskState) (crashes : D → Crashes Found) (past : D → List PastKey) (drafter : List ℕ) (last : Bool) (asking : Result Asking RequestRefusal)
-    (old new : D) (response : Response) → AsksOwn drafter asking → ServesAsking state crashes past last asking old new response
-    → Says (reply_on (state old).entries 0 last asking) response
-said_by state crashes past drafter last (Err refusal) old new response own serves = serves.1
-said_by state crashes past drafter last (Ok asks.Front) old new response own serves = serves.1
-said_by state crashes past drafter last (Ok (asks.Text text)) old new response own serves = serves.1
-said_by state crashes past drafter last (Ok (asks.Preview preview)) old new response own serves = serves.1
-said_by state crashes past drafter last (Ok (asks.Draft who)) old new response own serves = serves.1
-said_by state crashes past drafter last (Ok (asks.Command asked)) old new response own serves = absurd own
+said_by : {D : Type 0} (state : D → DeskState) (crashes : D → Crashes Found) (past : D → List PastKey) (drafter : List ℕ) (closes : Bool) (asking : Result Asking RequestRefusal)
+    (old new : D) (response : Response) → AsksOwn drafter asking → ServesAsking state crashes past closes asking old new response
+    → Says (reply_on (state old).entries 0 closes asking) response
+said_by state crashes past drafter closes (Err refusal) old new response own serves = serves.1
+said_by state crashes past drafter closes (Ok asks.Front) old new response own serves = serves.1
+said_by state crashes past drafter closes (Ok (asks.Text text)) old new response own serves = serves.1
+said_by state crashes past drafter closes (Ok (asks.Preview preview)) old new response own serves = serves.1
+said_by state crashes past drafter closes (Ok (asks.Draft who)) old new response own serves = serves.1
+said_by state crashes past drafter closes (Ok (asks.Command asked)) old new response own serves = absurd own
 
 bytes_said : (reply : Reply) (response : Response) → Says reply response → response ≢ MemoryFault → response_bytes response ≡ reply_bytes reply
 bytes_said reply response (inl made) had = ap response_bytes made
@@ -77,9 +77,9 @@ bytes_said reply response (inr fault) had = absurd (had fault)
 
 pub same_bytes : (drafter : List ℕ) (one other : List Entry) (day later : ℕ) (request : Request) → AreAlike drafter one other
     → AsksOwn drafter (asking_of request)
-    → reply_bytes (reply_on one day request.last (asking_of request)) ≡ reply_bytes (reply_on other later request.last (asking_of request))
+    → reply_bytes (reply_on one day request.closes (asking_of request)) ≡ reply_bytes (reply_on other later request.closes (asking_of request))
 same_bytes drafter one other day later request alike own =
-    ap reply_bytes (same_reply drafter one other day later request.last (asking_of request) alike own)
+    ap reply_bytes (same_reply drafter one other day later request.closes (asking_of request) alike own)
 
 pub same_response : {D E : Type 0} (state : D → DeskState) (crashes : D → Crashes Found) (past : D → List PastKey) (standing : E → DeskState) (leaving : E → Crashes Found) (keeping : E → List PastKey)
     (drafter : List ℕ) (request : Request) (one next : D) (other after : E) (response answer : Response)
@@ -87,6 +87,6 @@ pub same_response : {D E : Type 0} (state : D → DeskState) (crashes : D → Cr
     → Serves state crashes past request one next response → Serves standing leaving keeping request other after answer
     → response ≢ MemoryFault → answer ≢ MemoryFault → response_bytes response ≡ response_bytes answer
 same_response state crashes past standing leaving keeping drafter request one next other after response answer alike own serves serving had has =
-    bytes_said _ response (said_by state crashes past drafter request.last (asking_of request) one next response own serves) had
+    bytes_said _ response (said_by state crashes past drafter request.closes (asking_of request) one next response own serves) had
     ∙ same_bytes drafter (state one).entries (standing other).entries 0 0 request alike own
-    ∙ sym (bytes_said _ answer (said_by standing leaving keeping drafter request.last (asking_of request) other after answer own serving) has)
+    ∙ sym (bytes_said _ answer (said_by standing leaving keeping drafter request.closes (asking_of request) other after answer own serving) has)

@@ -1,4 +1,4 @@
--- What a whole connection is answered, from what each of its turns is.
+-- What a whole connection is answered, from what each of its requests is.
 use Rattle.std.proofs.Common.{◌≡◌, ◌∙◌, sym, ap, subst, refl, ℕ, ◌+◌, ◌≤◌, Bool, true, false, inl, inr, List, [], ◌∷◌, ◌++◌, map, length, take, drop, Option, None, Some, append_assoc, arith}
 use Rattle.std.specs.Prelude.{IsTrue, IsFalse}
 use Rattle.std.proofs.lemmas.List.{take-append-drop, take-append-le}
@@ -72,9 +72,9 @@ marked_before (e ∷ es) events later (behind, one, more) = (
 -- those of one exchange, and behind them those of others
 marked_both : (response : Response) (e : Exchange) (es : List Exchange) (events later : List Event) → AreMarked (with_faulted response e []) events → AreMarked es later
     → AreMarked (with_faulted response e es) (events ++ later)
-marked_both (Made message last) e es events later one more = marked_behind es events later more
+marked_both (Made message closes) e es events later one more = marked_behind es events later more
 marked_both MemoryFault e es events later one more = marked_behind es events later more
-marked_both (KeeperFault last) e es events later (behind, one, none) more = (
+marked_both (KeeperFault closes) e es events later (behind, one, none) more = (
   behind ++ later,
   record {
     before = one.before;
@@ -92,20 +92,20 @@ taken_more k a b p within = ap (take k) (sym p.1) ∙ take-append-le k a p.0 wit
 
 fits_more : (a b : List Entry) (least lower next : ℕ) (e : Exchange) (response : Response) → IsPrefix a b → lower ≤ least
     → FitsWhereMade a least next e response → FitsWhereMade b lower next e response
-fits_more a b least lower next e (Made message last) p low fits = record {
+fits_more a b least lower next e (Made message closes) p low fits = record {
   k = fits.k;
   not_older = omega (arith, low, fits.not_older);
   not_newer = fits.not_newer;
   within = omega (arith, fits.within, prefix_length a b p);
   said = record {
     day = fits.said.day;
-    said = fits.said.said ∙ ap (λ es. reply_bytes (reply_on es fits.said.day e.request.last (asking_of e.request)))
+    said = fits.said.said ∙ ap (λ es. reply_bytes (reply_on es fits.said.day e.request.closes (asking_of e.request)))
         (sym (taken_more fits.k a b p (omega (arith, fits.not_newer, fits.within))));
   };
   stands = λ is. subst (HoldsAsked e) (sym (taken_more next a b p fits.within)) (fits.stands is);
 }
 fits_more a b least lower next e MemoryFault p low fits = tt
-fits_more a b least lower next e (KeeperFault last) p low fits = tt
+fits_more a b least lower next e (KeeperFault closes) p low fits = tt
 
 all_fit_more : (a b : List Entry) (least lower : ℕ) (es : List Exchange) → IsPrefix a b → lower ≤ least → FitAll a least es → FitAll b lower es
 all_fit_more a b least lower [] p low fit = tt
@@ -123,10 +123,10 @@ never is = absurd (cc)
 
 fits_holds : (entries : List Entry) (least next : ℕ) (e : Exchange) (response : Response) → FitsWhereMade entries least next e response
     → e.response ≡ response → IsTrue (is_created e.response) → HoldsAsked e entries
-fits_holds entries least next e (Made message last) fits is created =
+fits_holds entries least next e (Made message closes) fits is created =
     asked_more e (take next entries) entries (drop next entries, sym (take-append-drop next entries)) (fits.stands created)
 fits_holds entries least next e MemoryFault fits is created = never (sym (ap is_created is) ∙ created)
-fits_holds entries least next e (KeeperFault last) fits is created = never (sym (ap is_created is) ∙ created)
+fits_holds entries least next e (KeeperFault closes) fits is created = never (sym (ap is_created is) ∙ created)
 
 all_hold : (entries : List Entry) (least : ℕ) (es : List Exchange) → FitAll entries least es → AreAcknowledged entries es
 all_hold entries least [] fit = tt
@@ -148,7 +148,7 @@ all_once : (entries : List Entry) (es : List Exchange) → is_legal entries ≡ 
 all_once entries [] legal all = tt
 all_once entries (e ∷ es) legal (first, rest) = ((λ created. asked_once entries e legal (first created)), all_once entries es legal rest)
 
--- turn by turn
+-- request by request
 
 abbrev commands_of : List Request → ℕ
 commands_of [] = 0
@@ -207,30 +207,30 @@ commands_all : (bytes : List ℕ) (requests : List Request) (more members : List
 commands_all bytes requests more members all others =
     subst (λ l. commands_of requests ≤ commands_heard l) (all_same bytes (map heard.Request requests ++ more) members all others) (commands_said requests more)
 
-alone_if : (requests : List Request) (last : Bool) (m : ℕ) → (IsTrue last → requests ≡ []) → (IsFalse last → commands_of requests ≤ m) → commands_of requests ≤ m
+alone_if : (requests : List Request) (closes : Bool) (m : ℕ) → (IsTrue closes → requests ≡ []) → (IsFalse closes → commands_of requests ≤ m) → commands_of requests ≤ m
 alone_if requests true m none more = omega (arith, ap commands_of (none refl))
 alone_if requests false m none more = more refl
 
 commands_first : (bytes : List ℕ) (requests : List Request) (closing : List Response) (members : List Heard) → AreHeardFirst bytes requests closing → AreHeard bytes members
     → commands_of requests ≤ commands_heard members
 commands_first bytes [] closing members first all = omega arith
-commands_first bytes (request ∷ requests) closing [] (rest, is, closes, more) all =
+commands_first bytes (request ∷ requests) closing [] (rest, is, alone, more) all =
     absurd (cc (one_first bytes rest [] (heard.Request request) heard.End is all).0)
-commands_first bytes (request ∷ requests) closing (heard.End ∷ members) (rest, is, closes, more) all = absurd all
-commands_first bytes (request ∷ requests) closing (heard.Refused refusal ∷ members) (rest, is, closes, more) (later, other, none) =
+commands_first bytes (request ∷ requests) closing (heard.End ∷ members) (rest, is, alone, more) all = absurd all
+commands_first bytes (request ∷ requests) closing (heard.Refused refusal ∷ members) (rest, is, alone, more) (later, other, none) =
     absurd (cc (one_first bytes rest later (heard.Request request) (heard.Refused refusal) is other).0)
-commands_first bytes (request ∷ requests) closing (heard.Request one ∷ members) (rest, is, closes, more) (later, other, ended, goes) =
+commands_first bytes (request ∷ requests) closing (heard.Request one ∷ members) (rest, is, alone, more) (later, other, ended, goes) =
     let (same, behind) = one_first bytes rest later (heard.Request request) (heard.Request one) is other in
     let it : request ≡ one = cc (same) in
-    let others = alone_if requests request.last (commands_heard members) (λ last. (closes last).0)
+    let others = alone_if requests request.closes (commands_heard members) (λ closes. (alone closes).0)
     (λ open_. commands_first rest requests closing members more
-    (subst (λ b. AreHeard b members) (sym behind) (goes (subst (λ (r : Request). IsFalse r.last) it open_)))) in
+    (subst (λ b. AreHeard b members) (sym behind) (goes (subst (λ (r : Request). IsFalse r.closes) it open_)))) in
     omega (arith, others, ap (λ r. commands_in (asking_of r)) it)
 
 broken_first : (bytes : List ℕ) (requests : List Request) (left : List ℕ) → BreaksOff bytes requests left → AreHeardFirst bytes requests []
 broken_first bytes [] left breaks = tt
 broken_first bytes (request ∷ requests) left (rest, is, open_, more) =
-    (rest, is, (λ last. not_both request.last open_ last), broken_first rest requests left more)
+    (rest, is, (λ closes. not_both request.closes open_ closes), broken_first rest requests left more)
 
 commands_until : (end : StreamEnd) (bytes : List ℕ) (over : Option (List ℕ)) (requests : List Request) (closing : List Response) (members : List Heard)
     → EndsAs end (Some bytes) over requests closing → AreHeard bytes members → commands_of requests ≤ commands_heard members
@@ -299,7 +299,7 @@ stays_well front seen later more left over before now served w earlier goes_on l
           (marked_behind (faulted_in w.exchanges) (drop (length front) seen) (drop (length seen) later) w.marked)));
     }
 
--- a pass of the same turns, turn by turn
+-- a pass of the same turns, member by member
 pub stays_on : {T I : Type 0} (turns : Turns T I) (a b c : Pass T I) → StaysPass turns a b → StaysPass turns b c → StaysPass turns a c
 stays_on turns a b c p q =
     record { own = q.own; share = q.share ∙ p.share; began = (q.began.0 ∙ p.began.0, q.began.1 ∙ p.began.1) }

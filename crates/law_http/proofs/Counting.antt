@@ -5,7 +5,7 @@ use Rattle.law_register.specs.Desk.States.{DeskState, Found}
 use Rattle.law_register.specs.declared.answer.past_key.PastKey.{PastKey}
 use Rattle.law_http.specs.Exchanges.{AreAnswered, IsServed}
 use Rattle.law_http.specs.Streaming.{AreServed, Exchange, IsStreamed, serving_costs}
-use Rattle.law_http.specs.Turns.{ServesCounted}
+use Rattle.law_http.specs.ServedMembers.{ServesCounted}
 use Rattle.law_http.specs.declared.streaming.Served.{Served}
 use Rattle.law_http.proofs.Rising.{faults_rise, origin_stays}
 

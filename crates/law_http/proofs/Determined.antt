@@ -61,10 +61,10 @@ all_same bytes (heard.Request a ∷ hs) (heard.Request b ∷ ks) x y =
     let (rest, first, ends, goes) = x in let (later, second, stops, follows) = y in
     let same = one_first bytes rest later (heard.Request a) (heard.Request b) first second in
     let request : a ≡ b = same_request a b same.0 in
-    let more = by_last a.last refl ends goes (λ last. stops (sym (ap (λ r. r.last) request) ∙ last))
-    (λ on. subst (λ l. AreHeard l ks) (sym same.1) (follows (sym (ap (λ r. r.last) request) ∙ on))) (all_same rest hs ks) in
+    let more = by_closing a.closes refl ends goes (λ closes. stops (sym (ap (λ r. r.closes) request) ∙ closes))
+    (λ on. subst (λ l. AreHeard l ks) (sym same.1) (follows (sym (ap (λ r. r.closes) request) ∙ on))) (all_same rest hs ks) in
     λ i. same.0 i ∷ more i
   where
-    by_last : {A B : Type 0} (t : Bool) → a.last ≡ t → (a.last ≡ true → hs ≡ []) → (a.last ≡ false → A) → (a.last ≡ true → ks ≡ []) → (a.last ≡ false → B) → (A → B → hs ≡ ks) → hs ≡ ks
-    by_last true is ends goes stops follows later = ends is ∙ sym (stops is)
-    by_last false is ends goes stops follows later = later (goes is) (follows is)
+    by_closing : {A B : Type 0} (t : Bool) → a.closes ≡ t → (a.closes ≡ true → hs ≡ []) → (a.closes ≡ false → A) → (a.closes ≡ true → ks ≡ []) → (a.closes ≡ false → B) → (A → B → hs ≡ ks) → hs ≡ ks
+    by_closing true is ends goes stops follows later = ends is ∙ sym (stops is)
+    by_closing false is ends goes stops follows later = later (goes is) (follows is)

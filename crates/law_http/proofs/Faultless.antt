@@ -62,22 +62,22 @@ given_days (Some told) now day later (first, behind) are = λ i n. by n i
     by (suc n) = ap (λ (days : ℕ → ℕ). days n) rest ∙ ap told (one_more n)
 
 -- a request is answered without a fault, on the first of these days where it takes one; then later days are to come
-record IsSaidOn {D : Type 0} (state : D → DeskState) (last : Bool) (asking : Result Asking RequestRefusal) (old new : D) (response : Response) (later : ℕ → ℕ) : Type 0 where
+record IsSaidOn {D : Type 0} (state : D → DeskState) (closes : Bool) (asking : Result Asking RequestRefusal) (old new : D) (response : Response) (later : ℕ → ℕ) : Type 0 where
   pub days : ℕ → ℕ
   pub are_days : AreDays (state old).days days
   pub goes_on : days_on days asking ≡ later
-  pub said : response_bytes response ≡ reply_bytes (reply_on (state old).entries (days 0) last asking)
+  pub said : response_bytes response ≡ reply_bytes (reply_on (state old).entries (days 0) closes asking)
   pub entries : (state new).entries ≡ entries_on (state old).entries (days 0) asking
 
-record IsOn {D : Type 0} (state : D → DeskState) (last : Bool) (asking : Result Asking RequestRefusal) (old new : D) (response : Response) : Type 0 where
+record IsOn {D : Type 0} (state : D → DeskState) (closes : Bool) (asking : Result Asking RequestRefusal) (old new : D) (response : Response) : Type 0 where
   pub none_pending : (state new).pending ≡ None
-  pub with_days : (later : ℕ → ℕ) → AreDays (state new).days later → IsSaidOn state last asking old new response later
+  pub with_days : (later : ℕ → ℕ) → AreDays (state new).days later → IsSaidOn state closes asking old new response later
 
 module _ {D : Type 0} (state : D → DeskState) (crashes : D → Crashes Found) (past : D → List PastKey) where
-  outcome_on : (last : Bool) (asked : Asked) (old new : D) (result : Result Outcome CommandFault) (response : Response)
-      → Ends asked.drafter asked.request asked.command (standing (state old)) (standing (state new)) result → SaysOutcome last result response
-      → (state old).pending ≡ None → response ≢ MemoryFault → fault_told response ≡ 0 → IsOn state last (Ok (asks.Command asked)) old new response
-  outcome_on last asked old new (Ok outcome) response is says none had quiet =
+  outcome_on : (closes : Bool) (asked : Asked) (old new : D) (result : Result Outcome CommandFault) (response : Response)
+      → Ends asked.drafter asked.request asked.command (standing (state old)) (standing (state new)) result → SaysOutcome closes result response
+      → (state old).pending ≡ None → response ≢ MemoryFault → fault_told response ≡ 0 → IsOn state closes (Ok (asks.Command asked)) old new response
+  outcome_on closes asked old new (Ok outcome) response is says none had quiet =
       let before : is.settled ≡ (state old).entries = nothing_settled (state old).entries (state old).pending is.settled none is.begins.settles in
       let enters : entered (state old).entries asked.drafter asked.request is.day asked.command ≡ Ok ((state new).entries, outcome) =
       subst (λ es. entered es asked.drafter asked.request is.day asked.command ≡ Ok ((state new).entries, outcome)) before is.entered in record {
@@ -86,11 +86,11 @@ module _ {D : Type 0} (state : D → DeskState) (crashes : D → Crashes Found) 
           days = first_then is.day later;
           are_days = given_days (state old).days (state new).days is.day later is.begins.gives are;
           goes_on = behind_first is.day later;
-          said = ap response_bytes says ∙ ap (λ t. reply_bytes (entered_reply last t)) (sym enters);
+          said = ap response_bytes says ∙ ap (λ t. reply_bytes (entered_reply closes t)) (sym enters);
           entries = sym (ap (entries_behind (state old).entries) enters);
         };
       }
-  outcome_on last asked old new (Err (fails.Rule rule)) response is says none had quiet =
+  outcome_on closes asked old new (Err (fails.Rule rule)) response is says none had quiet =
       let before : (state new).entries ≡ (state old).entries = nothing_settled (state old).entries (state old).pending (state new).entries none is.begins.settles in
       let refuses : entered (state old).entries asked.drafter asked.request is.day asked.command ≡ Err rule =
       subst (λ es. entered es asked.drafter asked.request is.day asked.command ≡ Err rule) before is.refused in record {
@@ -99,29 +99,29 @@ module _ {D : Type 0} (state : D → DeskState) (crashes : D → Crashes Found) 
           days = first_then is.day later;
           are_days = given_days (state old).days (state new).days is.day later is.begins.gives are;
           goes_on = behind_first is.day later;
-          said = said_whole (rule_reply last rule) response says had ∙ ap (λ t. reply_bytes (entered_reply last t)) (sym refuses);
+          said = said_whole (rule_reply closes rule) response says had ∙ ap (λ t. reply_bytes (entered_reply closes t)) (sym refuses);
           entries = before ∙ sym (ap (entries_behind (state old).entries) refuses);
         };
       }
-  outcome_on last asked old new (Err fails.KeeperFault) response is says none had quiet = absurd (omega (arith, quiet, ap fault_told says))
-  outcome_on last asked old new (Err fails.Memory) response is says none had quiet = absurd (had says)
+  outcome_on closes asked old new (Err fails.KeeperFault) response is says none had quiet = absurd (omega (arith, quiet, ap fault_told says))
+  outcome_on closes asked old new (Err fails.Memory) response is says none had quiet = absurd (had says)
 
-  command_on : (last : Bool) (asked : Asked) (old new : D) (response : Response) → ServesCommand state crashes past last asked old new response
-      → (state old).pending ≡ None → response ≢ MemoryFault → fault_told response ≡ 0 → IsOn state last (Ok (asks.Command asked)) old new response
-  command_on last asked old new response (inl (stays, fault)) none had quiet = absurd (had fault)
-  command_on last asked old new response (inr (result, does, says)) none had quiet =
-      outcome_on last asked old new result response does.outcome says none had quiet
+  command_on : (closes : Bool) (asked : Asked) (old new : D) (response : Response) → ServesCommand state crashes past closes asked old new response
+      → (state old).pending ≡ None → response ≢ MemoryFault → fault_told response ≡ 0 → IsOn state closes (Ok (asks.Command asked)) old new response
+  command_on closes asked old new response (inl (stays, fault)) none had quiet = absurd (had fault)
+  command_on closes asked old new response (inr (result, does, says)) none had quiet =
+      outcome_on closes asked old new result response does.outcome says none had quiet
 
-  asking_on : (last : Bool) (asking : Result Asking RequestRefusal) (old new : D) (response : Response) → ServesAsking state crashes past last asking old new response
-      → (state old).pending ≡ None → response ≢ MemoryFault → fault_told response ≡ 0 → IsOn state last asking old new response
-  asking_on last (Ok (asks.Command asked)) old new response serves none had quiet = command_on last asked old new response serves none had quiet
-  asking_on last asking old new response (stays, says) none had quiet = record {
+  asking_on : (closes : Bool) (asking : Result Asking RequestRefusal) (old new : D) (response : Response) → ServesAsking state crashes past closes asking old new response
+      → (state old).pending ≡ None → response ≢ MemoryFault → fault_told response ≡ 0 → IsOn state closes asking old new response
+  asking_on closes (Ok (asks.Command asked)) old new response serves none had quiet = command_on closes asked old new response serves none had quiet
+  asking_on closes asking old new response (stays, says) none had quiet = record {
     none_pending = ap (λ (s : DeskState). s.pending) stays.same ∙ none;
     with_days = λ later are. record {
       days = later;
       are_days = subst (λ (s : DeskState). AreDays s.days later) stays.same are;
       goes_on = refl;
-      said = said_whole (reply_on (state old).entries (later 0) last asking) response says had;
+      said = said_whole (reply_on (state old).entries (later 0) closes asking) response says had;
       entries = ap (λ (s : DeskState). s.entries) stays.same;
     };
   }
@@ -149,7 +149,7 @@ some_are_days (Some told) = refl
 
 -- one more in front
 joined : {D : Type 0} (state : D → DeskState) (request : Request) (response : Response) (old mid new : D) (responses : List Response) (members : List Heard)
-    (others : AreSaidTo state mid new responses members) → IsSaidOn state request.last (asking_of request) old mid response others.days
+    (others : AreSaidTo state mid new responses members) → IsSaidOn state request.closes (asking_of request) old mid response others.days
     → AreSaidTo state old new (response ∷ responses) (heard.Request request ∷ members)
 joined state request response old mid new responses members others on = record {
   days = on.days;
@@ -170,7 +170,7 @@ all_said state crashes past [] old new closing more same none had quiet closes =
   none_pending = ap (λ d. (state d).pending) same ∙ none;
 }
 all_said state crashes past (e ∷ es) old new closing more (mid, serves, rest) none (had, have) quiet closes =
-    let one = asking_on state crashes past e.request.last (asking_of e.request) old mid e.response serves none had (omega (arith, quiet)) in
+    let one = asking_on state crashes past e.request.closes (asking_of e.request) old mid e.response serves none had (omega (arith, quiet)) in
     let others = all_said state crashes past es mid new closing more rest one.none_pending have (omega (arith, quiet)) closes in
     joined state e.request e.response old mid new (responses_of es ++ closing) (map heard.Request (requests_of es) ++ more) others (one.with_days others.days others.are_days)
 

@@ -100,18 +100,18 @@ does_step state crashes past asked old new result does =
       left = λ k. ((only k).any_moment k.tells_moments).before;
     }
 
-asking_step : {D : Type 0} (state : D → DeskState) (crashes : D → Crashes Found) (past : D → List PastKey) (last : Bool) (asking : Result Asking RequestRefusal) (old new : D) (response : Response)
-    → ServesAsking state crashes past last asking old new response → Step state crashes old new
-asking_step state crashes past last (Err refusal) old new response (stays, says) = same_step state crashes old new stays.same stays.crash
-asking_step state crashes past last (Ok asks.Front) old new response (stays, says) = same_step state crashes old new stays.same stays.crash
-asking_step state crashes past last (Ok (asks.Text text)) old new response (stays, says) = same_step state crashes old new stays.same stays.crash
-asking_step state crashes past last (Ok (asks.Preview preview)) old new response (stays, says) = same_step state crashes old new stays.same stays.crash
-asking_step state crashes past last (Ok (asks.Draft drafter)) old new response (stays, says) = same_step state crashes old new stays.same stays.crash
-asking_step state crashes past last (Ok (asks.Command asked)) old new response (inl (stays, says)) = same_step state crashes old new stays.same stays.crash
-asking_step state crashes past last (Ok (asks.Command asked)) old new response (inr (result, does, says)) = does_step state crashes past asked old new result does
+pub asking_step : {D : Type 0} (state : D → DeskState) (crashes : D → Crashes Found) (past : D → List PastKey) (closes : Bool) (asking : Result Asking RequestRefusal) (old new : D) (response : Response)
+    → ServesAsking state crashes past closes asking old new response → Step state crashes old new
+asking_step state crashes past closes (Err refusal) old new response (stays, says) = same_step state crashes old new stays.same stays.crash
+asking_step state crashes past closes (Ok asks.Front) old new response (stays, says) = same_step state crashes old new stays.same stays.crash
+asking_step state crashes past closes (Ok (asks.Text text)) old new response (stays, says) = same_step state crashes old new stays.same stays.crash
+asking_step state crashes past closes (Ok (asks.Preview preview)) old new response (stays, says) = same_step state crashes old new stays.same stays.crash
+asking_step state crashes past closes (Ok (asks.Draft drafter)) old new response (stays, says) = same_step state crashes old new stays.same stays.crash
+asking_step state crashes past closes (Ok (asks.Command asked)) old new response (inl (stays, says)) = same_step state crashes old new stays.same stays.crash
+asking_step state crashes past closes (Ok (asks.Command asked)) old new response (inr (result, does, says)) = does_step state crashes past asked old new result does
 
 pub step_of : {D : Type 0} (state : D → DeskState) (crashes : D → Crashes Found) (past : D → List PastKey) (e : Exchange) (old new : D) → Serves state crashes past e.request old new e.response → Step state crashes old new
-step_of state crashes past e old new serves = asking_step state crashes past e.request.last (asking_of e.request) old new e.response serves
+step_of state crashes past e old new serves = asking_step state crashes past e.request.closes (asking_of e.request) old new e.response serves
 
 pub entries_grow : {D : Type 0} (state : D → DeskState) (crashes : D → Crashes Found) (past : D → List PastKey) (es : List Exchange) (old new : D) → AreServed state crashes past es old new → BeginWith (state old).entries (state new).entries
 entries_grow state crashes past [] old new same = begins_same (state old).entries (state new).entries (ap (λ d. (state d).entries) same)

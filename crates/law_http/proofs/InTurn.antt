@@ -1,5 +1,5 @@
 -- What one turn makes of a desk's history.
-use Rattle.std.proofs.Common.{◌≡◌, ◌∙◌, sym, ap, subst, refl, ℕ, ◌+◌, ◌*◌, ◌≤◌, ◌≢◌, true, Bool, inl, inr, List, [], ◌∷◌, ◌++◌, length, take, drop, Option, None, Some, Result, Ok, Err, append_assoc, append-nil, length-append, arith}
+use Rattle.std.proofs.Common.{◌≡◌, ◌∙◌, sym, ap, subst, refl, ℕ, ◌+◌, ◌*◌, ◌≤◌, ◌≢◌, true, false, Bool, inl, inr, List, [], ◌∷◌, ◌++◌, length, take, drop, Option, None, Some, Result, Ok, Err, append_assoc, append-nil, length-append, arith}
 use Rattle.std.specs.Prelude.{IsSome}
 use Rattle.std.proofs.lemmas.List.{take_all}
 use Rattle.std.proofs.Math.Seq.{drop-append_seam, take-append_seam}
@@ -26,20 +26,24 @@ use Rattle.law_register.specs.declared.register.verdict.Verdict.TheVariants.{Acc
 use Rattle.law_http.specs.Asking.{asking_of}
 use Rattle.law_http.specs.Connections.{AnswersSeen, AreMarked, Fits, FitsWhereMade, IsAnswered, IsMadeOf, IsTurnOf, commands_in, faulted_in}
 use Rattle.law_http.specs.Faultless.{entered_reply, reply_on}
-use Rattle.law_http.specs.Lasting.{BeginWith, HoldsAsked}
+use Rattle.law_http.specs.Lasting.{BeginWith, HoldsAsked, is_created}
+use Rattle.law_http.specs.Refusals.{request_reply}
 use Rattle.law_http.specs.Responses.{Reply, Says, reply_bytes, response_bytes}
 use Rattle.law_http.specs.Serving.{Does, SaysOutcome, Serves, ServesAsking, ServesCommand, rule_reply}
 use Rattle.law_http.specs.Streaming.{AreServed, Exchange, fault_told}
+use Rattle.law_http.specs.Telling.{SaysTold, Tells}
 use Rattle.law_http.specs.declared.asking.Asking.{Asking}
 use Rattle.law_http.specs.declared.asking.Asking.TheVariants as asks
 use Rattle.law_http.specs.declared.heard.Request.{Request}
 use Rattle.law_http.specs.declared.refusal.RequestRefusal.{RequestRefusal}
 use Rattle.law_http.specs.declared.response.Response.{Response}
 use Rattle.law_http.specs.declared.response.Response.TheVariants.{Made, MemoryFault, KeeperFault}
-use Rattle.law_http.proofs.Answered.{asking_holds}
+use Rattle.law_http.specs.declared.telling.DeskTold.{DeskTold}
+use Rattle.law_http.proofs.Answered.{asking_holds, request_other, says_other}
 use Rattle.law_http.proofs.Faultless.{said_whole}
-use Rattle.law_http.proofs.Growing.{entered_begin, settled_begin, step_of}
-use Rattle.law_http.proofs.Rising.{origin_stays}
+use Rattle.law_http.proofs.Growing.{asking_step, entered_begin, settled_begin}
+use Rattle.law_http.proofs.Rising.{asking_origin, origin_stays}
+use Rattle.law_http.proofs.ToldWithin.{some_response, told_serves}
 use Rattle.law_http.proofs.Histories.{entries_begin, entries_from, mark_more, more_entries, none_before, prefix_length, prefix_on, prefix_self, sized, unmarked}
 
 -- what a command adds
@@ -98,21 +102,21 @@ ends_fewer d r c old new (Err fails.Memory) (inr is) none = omega (arith, settle
 -- what is said
 
 -- a response is said on the first k of these entries
-record IsSaidAmong (last : Bool) (asking : Result Asking RequestRefusal) (response : Response) (old new : List Entry) : Type 0 where
+record IsSaidAmong (closes : Bool) (asking : Result Asking RequestRefusal) (response : Response) (old new : List Entry) : Type 0 where
   pub k : ℕ
   pub day : ℕ
   pub not_older : length old ≤ k
   pub not_newer : k ≤ length new
-  pub said : response_bytes response ≡ reply_bytes (reply_on (take k new) day last asking)
+  pub said : response_bytes response ≡ reply_bytes (reply_on (take k new) day closes asking)
 
 whole : (es : List Entry) → take (length es) es ≡ es
 whole es = take_all (length es) es (omega arith)
 
 module _ {D : Type 0} (state : D → DeskState) (crashes : D → Crashes Found) (past : D → List PastKey) where
-  outcome_said : (last : Bool) (asked : Asked) (old new : D) (result : Result Outcome CommandFault) (response : Response)
-      → Ends asked.drafter asked.request asked.command (standing (state old)) (standing (state new)) result → SaysOutcome last result response
-      → response ≢ MemoryFault → fault_told response ≡ 0 → IsSaidAmong last (Ok (asks.Command asked)) response (state old).entries (state new).entries
-  outcome_said last asked old new (Ok outcome) response is says had quiet =
+  outcome_said : (closes : Bool) (asked : Asked) (old new : D) (result : Result Outcome CommandFault) (response : Response)
+      → Ends asked.drafter asked.request asked.command (standing (state old)) (standing (state new)) result → SaysOutcome closes result response
+      → response ≢ MemoryFault → fault_told response ≡ 0 → IsSaidAmong closes (Ok (asks.Command asked)) response (state old).entries (state new).entries
+  outcome_said closes asked old new (Ok outcome) response is says had quiet =
       let older = settled_begin (state old).entries (state old).pending is.settled is.begins.settles in
       let newer = entered_begin is.settled asked.drafter asked.request is.day asked.command (state new).entries outcome is.entered in
       let front : take (length is.settled) (state new).entries ≡ is.settled = ap (take (length is.settled)) newer.1 ∙ take-append_seam is.settled newer.0 in record {
@@ -120,46 +124,46 @@ module _ {D : Type 0} (state : D → DeskState) (crashes : D → Crashes Found) 
         day = is.day;
         not_older = omega (arith, ap length older.1, length-append (state old).entries older.0);
         not_newer = omega (arith, ap length newer.1, length-append is.settled newer.0);
-        said = ap response_bytes says ∙ ap (λ t. reply_bytes (entered_reply last t)) (sym is.entered)
-            ∙ ap (λ es. reply_bytes (reply_on es is.day last (Ok (asks.Command asked)))) (sym front);
+        said = ap response_bytes says ∙ ap (λ t. reply_bytes (entered_reply closes t)) (sym is.entered)
+            ∙ ap (λ es. reply_bytes (reply_on es is.day closes (Ok (asks.Command asked)))) (sym front);
       }
-  outcome_said last asked old new (Err (fails.Rule rule)) response is says had quiet =
+  outcome_said closes asked old new (Err (fails.Rule rule)) response is says had quiet =
       let older = settled_begin (state old).entries (state old).pending (state new).entries is.begins.settles in record {
         k = length (state new).entries;
         day = is.day;
         not_older = omega (arith, ap length older.1, length-append (state old).entries older.0);
         not_newer = omega arith;
-        said = said_whole (rule_reply last rule) response says had ∙ ap (λ t. reply_bytes (entered_reply last t)) (sym is.refused)
-            ∙ ap (λ es. reply_bytes (reply_on es is.day last (Ok (asks.Command asked)))) (sym (whole (state new).entries));
+        said = said_whole (rule_reply closes rule) response says had ∙ ap (λ t. reply_bytes (entered_reply closes t)) (sym is.refused)
+            ∙ ap (λ es. reply_bytes (reply_on es is.day closes (Ok (asks.Command asked)))) (sym (whole (state new).entries));
       }
-  outcome_said last asked old new (Err fails.KeeperFault) response is says had quiet = absurd (omega (arith, quiet, ap fault_told says))
-  outcome_said last asked old new (Err fails.Memory) response is says had quiet = absurd (had says)
+  outcome_said closes asked old new (Err fails.KeeperFault) response is says had quiet = absurd (omega (arith, quiet, ap fault_told says))
+  outcome_said closes asked old new (Err fails.Memory) response is says had quiet = absurd (had says)
 
-  command_said : (last : Bool) (asked : Asked) (old new : D) (response : Response) → ServesCommand state crashes past last asked old new response
-      → response ≢ MemoryFault → fault_told response ≡ 0 → IsSaidAmong last (Ok (asks.Command asked)) response (state old).entries (state new).entries
-  command_said last asked old new response (inl (stays, fault)) had quiet = absurd (had fault)
-  command_said last asked old new response (inr (result, does, says)) had quiet = outcome_said last asked old new result response does.outcome says had quiet
+  command_said : (closes : Bool) (asked : Asked) (old new : D) (response : Response) → ServesCommand state crashes past closes asked old new response
+      → response ≢ MemoryFault → fault_told response ≡ 0 → IsSaidAmong closes (Ok (asks.Command asked)) response (state old).entries (state new).entries
+  command_said closes asked old new response (inl (stays, fault)) had quiet = absurd (had fault)
+  command_said closes asked old new response (inr (result, does, says)) had quiet = outcome_said closes asked old new result response does.outcome says had quiet
 
-  asking_said : (last : Bool) (asking : Result Asking RequestRefusal) (old new : D) (response : Response) → ServesAsking state crashes past last asking old new response
-      → response ≢ MemoryFault → fault_told response ≡ 0 → IsSaidAmong last asking response (state old).entries (state new).entries
-  asking_said last (Ok (asks.Command asked)) old new response serves had quiet = command_said last asked old new response serves had quiet
-  asking_said last asking old new response (stays, says) had quiet =
+  asking_said : (closes : Bool) (asking : Result Asking RequestRefusal) (old new : D) (response : Response) → ServesAsking state crashes past closes asking old new response
+      → response ≢ MemoryFault → fault_told response ≡ 0 → IsSaidAmong closes asking response (state old).entries (state new).entries
+  asking_said closes (Ok (asks.Command asked)) old new response serves had quiet = command_said closes asked old new response serves had quiet
+  asking_said closes asking old new response (stays, says) had quiet =
       let same : (state new).entries ≡ (state old).entries = ap (λ (s : DeskState). s.entries) stays.same in record {
         k = length (state old).entries;
         day = 0;
         not_older = omega arith;
         not_newer = omega (arith, ap length same);
-        said = said_whole (reply_on (state old).entries 0 last asking) response says had
-            ∙ ap (λ es. reply_bytes (reply_on es 0 last asking)) (sym (ap (take (length (state old).entries)) same ∙ whole (state old).entries));
+        said = said_whole (reply_on (state old).entries 0 closes asking) response says had
+            ∙ ap (λ es. reply_bytes (reply_on es 0 closes asking)) (sym (ap (take (length (state old).entries)) same ∙ whole (state old).entries));
       }
 
 -- what moves
 
 -- the marks behind an answer: one more where the response says that the keeper failed
 abbrev MarksMove : Result Asking RequestRefusal → DeskState → DeskState → Response → Type 0
-MarksMove asking old new (Made message last) = new.marks ≡ old.marks
+MarksMove asking old new (Made message closes) = new.marks ≡ old.marks
 MarksMove asking old new MemoryFault = new.marks ≡ old.marks
-MarksMove asking old new (KeeperFault last) =
+MarksMove asking old new (KeeperFault closes) =
     (asked : Asked) × (asking ≡ Ok (asks.Command asked)) × (new.marks ≡ old.marks ++ mark_of asked.drafter asked.request new.entries ∷ [])
 
 record Moves (asking : Result Asking RequestRefusal) (response : Response) (old new : DeskState) : Type 0 where
@@ -176,27 +180,27 @@ stay_moves : (asking : Result Asking RequestRefusal) (s : DeskState) (response :
 stay_moves asking s response marks =
     record { marks = marks; most = omega arith; fewer = λ none. omega arith; sound = λ sound. sound }
 
-outcome_marks : (last : Bool) (asked : Asked) (old new : DeskState) (result : Result Outcome CommandFault) (response : Response) → SaysOutcome last result response
+outcome_marks : (closes : Bool) (asked : Asked) (old new : DeskState) (result : Result Outcome CommandFault) (response : Response) → SaysOutcome closes result response
     → new.marks ≡ marks_after old.marks (mark_of asked.drafter asked.request new.entries) result
     → MarksMove (Ok (asks.Command asked)) old new response × (length new.marks ≡ length old.marks + told result)
-outcome_marks last asked old new (Ok outcome) response says is =
+outcome_marks closes asked old new (Ok outcome) response says is =
     (subst (MarksMove (Ok (asks.Command asked)) old new) (sym says) is, omega (arith, ap length is))
-outcome_marks last asked old new (Err (fails.Rule rule)) response (inl made) is =
+outcome_marks closes asked old new (Err (fails.Rule rule)) response (inl made) is =
     (subst (MarksMove (Ok (asks.Command asked)) old new) (sym made) is, omega (arith, ap length is))
-outcome_marks last asked old new (Err (fails.Rule rule)) response (inr fault) is =
+outcome_marks closes asked old new (Err (fails.Rule rule)) response (inr fault) is =
     (subst (MarksMove (Ok (asks.Command asked)) old new) (sym fault) is, omega (arith, ap length is))
-outcome_marks last asked old new (Err fails.KeeperFault) response says is = (
+outcome_marks closes asked old new (Err fails.KeeperFault) response says is = (
   subst (MarksMove (Ok (asks.Command asked)) old new) (sym says) (asked, refl, is),
   omega (arith, ap length is, length-append old.marks (mark_of asked.drafter asked.request new.entries ∷ [])),
 )
-outcome_marks last asked old new (Err fails.Memory) response says is =
+outcome_marks closes asked old new (Err fails.Memory) response says is =
     (subst (MarksMove (Ok (asks.Command asked)) old new) (sym says) is, omega (arith, ap length is))
 
 module _ {D : Type 0} (state : D → DeskState) (crashes : D → Crashes Found) (past : D → List PastKey) where
-  does_moves : (last : Bool) (asked : Asked) (old new : D) (result : Result Outcome CommandFault) (response : Response)
-      → Does state crashes past asked old new result → SaysOutcome last result response → Moves (Ok (asks.Command asked)) response (state old) (state new)
-  does_moves last asked old new result response does says =
-      let (marks, count) = outcome_marks last asked (state old) (state new) result response says does.marks in
+  does_moves : (closes : Bool) (asked : Asked) (old new : D) (result : Result Outcome CommandFault) (response : Response)
+      → Does state crashes past asked old new result → SaysOutcome closes result response → Moves (Ok (asks.Command asked)) response (state old) (state new)
+  does_moves closes asked old new result response does says =
+      let (marks, count) = outcome_marks closes asked (state old) (state new) result response says does.marks in
       let ends = does.outcome in record {
         marks = marks;
         most = omega (arith, count, ends_most asked.drafter asked.request asked.command (standing (state old)) (standing (state new)) result ends);
@@ -208,17 +212,17 @@ module _ {D : Type 0} (state : D → DeskState) (crashes : D → Crashes Found) 
   stays_moves asking old new r response same says =
       subst (λ (s : DeskState). Moves asking response (state old) s) (sym same) (stay_moves asking (state old) response (said_marks asking (state old) r response says))
 
-  command_moves : (last : Bool) (asked : Asked) (old new : D) (response : Response) → ServesCommand state crashes past last asked old new response
+  command_moves : (closes : Bool) (asked : Asked) (old new : D) (response : Response) → ServesCommand state crashes past closes asked old new response
       → Moves (Ok (asks.Command asked)) response (state old) (state new)
-  command_moves last asked old new response (inl (stays, fault)) =
+  command_moves closes asked old new response (inl (stays, fault)) =
       subst (λ (s : DeskState). Moves (Ok (asks.Command asked)) response (state old) s) (sym stays.same)
       (stay_moves (Ok (asks.Command asked)) (state old) response (subst (MarksMove (Ok (asks.Command asked)) (state old) (state old)) (sym fault) refl))
-  command_moves last asked old new response (inr (result, does, says)) = does_moves last asked old new result response does says
+  command_moves closes asked old new response (inr (result, does, says)) = does_moves closes asked old new result response does says
 
-  asking_moves : (last : Bool) (asking : Result Asking RequestRefusal) (old new : D) (response : Response) → ServesAsking state crashes past last asking old new response
+  asking_moves : (closes : Bool) (asking : Result Asking RequestRefusal) (old new : D) (response : Response) → ServesAsking state crashes past closes asking old new response
       → Moves asking response (state old) (state new)
-  asking_moves last (Ok (asks.Command asked)) old new response serves = command_moves last asked old new response serves
-  asking_moves last asking old new response (stays, says) = stays_moves asking old new (reply_on (state old).entries 0 last asking) response stays.same says
+  asking_moves closes (Ok (asks.Command asked)) old new response serves = command_moves closes asked old new response serves
+  asking_moves closes asking old new response (stays, says) = stays_moves asking old new (reply_on (state old).entries 0 closes asking) response stays.same says
 
 -- a history grows by the entries, and then by the mark
 
@@ -226,49 +230,54 @@ prefix_of : (a b : List Entry) (marks : List FaultMark) → BeginWith a b → Is
 prefix_of a b marks (more, is) = subst (λ es. IsPrefix (events_from 0 a marks) (events_from 0 es marks)) (sym is) (more_entries 0 a more marks)
 
 -- a history is that of the entries with the older marks, and behind it the mark
-record IsMarkedBy (request : Request) (response : Response) (old new : DeskState) : Type 0 where
+record IsMarkedBy (asking : Result Asking RequestRefusal) (response : Response) (old new : DeskState) : Type 0 where
   pub more : List Event
   pub are : history_of new ≡ events_from 0 new.entries old.marks ++ more
-  pub marked : (front : List Event) → AreMarked (faulted_in (record { request = request; response = response } ∷ [])) (front ++ more)
+  pub marked : (request : Request) → asking_of request ≡ asking → (front : List Event)
+      → AreMarked (faulted_in (record { request = request; response = response } ∷ [])) (front ++ more)
 
-marks_moved : (request : Request) (response : Response) (old new : DeskState) → MarksMove (asking_of request) old new response → IsMarkedBy request response old new
-marks_moved request (Made message last) old new same = record {
+marks_moved : (asking : Result Asking RequestRefusal) (response : Response) (old new : DeskState) → MarksMove asking old new response → IsMarkedBy asking response old new
+marks_moved asking (Made message closes) old new same = record {
   more = [];
   are = ap (events_from 0 new.entries) same ∙ sym (append-nil (events_from 0 new.entries old.marks));
-  marked = λ front. tt;
+  marked = λ request is front. tt;
 }
-marks_moved request MemoryFault old new same = record {
+marks_moved asking MemoryFault old new same = record {
   more = [];
   are = ap (events_from 0 new.entries) same ∙ sym (append-nil (events_from 0 new.entries old.marks));
-  marked = λ front. tt;
+  marked = λ request is front. tt;
 }
-marks_moved request (KeeperFault last) old new (asked, asks_, marks) =
+marks_moved asking (KeeperFault closes) old new (asked, asks_, marks) =
     let mark = mark_of asked.drafter asked.request new.entries in record {
       more = Faulted mark ∷ [];
       are = ap (events_from 0 new.entries) marks ∙ mark_more 0 new.entries old.marks mark (omega arith);
-      marked = λ front. ([], record { before = front; mark = mark; are = refl; is_mark = (asked, asks_, refl, refl) }, tt);
+      marked = λ request is front. ([], record { before = front; mark = mark; are = refl; is_mark = (asked, is ∙ asks_, refl, refl) }, tt);
     }
 
 fits_by : (entries : List Entry) (least : ℕ) (e : Exchange) (response : Response) → e.response ≡ response
     → (response ≢ MemoryFault → fault_told response ≡ 0 → Fits entries least (length entries) e)
     → FitsWhereMade entries least (length entries) e response
-fits_by entries least e (Made message last) is fits = fits (λ no. cc) refl
+fits_by entries least e (Made message closes) is fits = fits (λ no. cc) refl
 fits_by entries least e MemoryFault is fits = tt
-fits_by entries least e (KeeperFault last) is fits = tt
+fits_by entries least e (KeeperFault closes) is fits = tt
 
 none_pending : (pending : Option Entry) (marks : List FaultMark) → (IsSome pending → marks ≢ []) → marks ≡ [] → pending ≡ None
 none_pending None marks some none = refl
 none_pending (Some e) marks some none = absurd (some refl none)
 
 module _ {D : Type 0} (state : D → DeskState) (crashes : D → Crashes Found) (past : D → List PastKey) where
-  pub history_grows : (request : Request) (old new : D) (response : Response) → Serves state crashes past request old new response
+  asking_grows : (closes : Bool) (asking : Result Asking RequestRefusal) (old new : D) (response : Response) → ServesAsking state crashes past closes asking old new response
       → IsPrefix (history_of (state old)) (history_of (state new))
-  history_grows request old new response serves =
-      let moves = asking_moves state crashes past request.last (asking_of request) old new response serves in
-      let marked = marks_moved request response (state old) (state new) moves.marks in
-      let grows = (step_of state crashes past (record { request = request; response = response }) old new serves).grows in
+  asking_grows closes asking old new response serves =
+      let moves = asking_moves state crashes past closes asking old new response serves in
+      let marked = marks_moved asking response (state old) (state new) moves.marks in
+      let grows = (asking_step state crashes past closes asking old new response serves).grows in
       prefix_on (history_of (state old)) (events_from 0 (state new).entries (state old).marks) (history_of (state new))
       (prefix_of (state old).entries (state new).entries (state old).marks grows) (marked.more, sym marked.are)
+
+  history_grows : (request : Request) (old new : D) (response : Response) → Serves state crashes past request old new response
+      → IsPrefix (history_of (state old)) (history_of (state new))
+  history_grows request old new response serves = asking_grows request.closes (asking_of request) old new response serves
 
   fits_at : (request : Request) (old new : D) (seen : List Event) (response : Response) → Serves state crashes past request old new response
       → IsPrefix seen (history_of (state old))
@@ -282,34 +291,34 @@ module _ {D : Type 0} (state : D → DeskState) (crashes : D → Crashes Found) 
         ap length (entries_from 0 (state old).entries (state old).marks),
       ) in
       fits_by (state new).entries (length (entries_of seen)) e response refl
-      (λ had quiet. let said = asking_said state crashes past request.last (asking_of request) old new response serves had quiet in record {
+      (λ had quiet. let said = asking_said state crashes past request.closes (asking_of request) old new response serves had quiet in record {
         k = said.k;
         not_older = omega (arith, before, said.not_older);
         not_newer = said.not_newer;
         within = omega arith;
         said = record { day = said.day; said = said.said };
         stands = λ is. subst (HoldsAsked e) (sym (whole (state new).entries))
-            (asking_holds state crashes past request.last (asking_of request) old new response serves is);
+            (asking_holds state crashes past request.closes (asking_of request) old new response serves is);
       })
 
   marked_at : (request : Request) (old new : D) (seen : List Event) (response : Response) → Serves state crashes past request old new response
       → IsPrefix seen (history_of (state old))
       → AreMarked (faulted_in (record { request = request; response = response } ∷ [])) (drop (length seen) (history_of (state new)))
   marked_at request old new seen response serves begins =
-      let moves = asking_moves state crashes past request.last (asking_of request) old new response serves in
-      let marked = marks_moved request response (state old) (state new) moves.marks in
-      let grows = (step_of state crashes past (record { request = request; response = response }) old new serves).grows in
+      let moves = asking_moves state crashes past request.closes (asking_of request) old new response serves in
+      let marked = marks_moved (asking_of request) response (state old) (state new) moves.marks in
+      let grows = (asking_step state crashes past request.closes (asking_of request) old new response serves).grows in
       let p = prefix_on seen (history_of (state old)) (events_from 0 (state new).entries (state old).marks) begins
       (prefix_of (state old).entries (state new).entries (state old).marks grows) in
       let all : history_of (state new) ≡ seen ++ (p.0 ++ marked.more) = marked.are ∙ ap (λ l. l ++ marked.more) (sym p.1) ∙ append_assoc seen p.0 marked.more in
       subst (AreMarked (faulted_in (record { request = request; response = response } ∷ [])))
-      (sym (ap (drop (length seen)) all ∙ drop-append_seam seen (p.0 ++ marked.more))) (marked.marked p.0)
+      (sym (ap (drop (length seen)) all ∙ drop-append_seam seen (p.0 ++ marked.more))) (marked.marked request refl p.0)
 
   makes_at : (request : Request) (old new : D) (made now : ℕ) (response : Response) → Serves state crashes past request old new response → IsSound (state old)
       → now + length (history_of (state old)) ≡ made + length (history_of (state new))
       → IsMadeOf (commands_in (asking_of request)) (history_of (state new)) made now
   makes_at request old new made now response serves sound count =
-      let moves = asking_moves state crashes past request.last (asking_of request) old new response serves in
+      let moves = asking_moves state crashes past request.closes (asking_of request) old new response serves in
       let before = sized (state old).entries (state old).marks sound.marks in
       let behind = sized (state new).entries (state new).marks (moves.sound sound).marks in record {
         most = omega (arith, count, before, behind, moves.most);
@@ -333,13 +342,6 @@ module _ {D : Type 0} (state : D → DeskState) (crashes : D → Crashes Found) 
         makes = makes_at request old new made now response serves sound count;
       }
 
-  pub answered_at : (history : D → List Event) → ((desk : D) → history desk ≡ history_of (state desk)) → (request : Request) (old new : List Event × ℕ) (response : Response)
-      → IsTurnOf state crashes past history request old new response → AnswersSeen request old new response
-  answered_at history are request old new response turn =
-      subst (λ l. IsAnswered request old.0 l old.1 new.1 response) (sym (turn.has_seen ∙ are turn.left))
-      (answered_here request turn.found turn.left old.0 old.1 new.1 response turn.serves turn.sound turn.legal (subst (IsPrefix old.0) (are turn.found) turn.begins)
-      (ap (λ l. new.1 + length l) (sym (are turn.found)) ∙ turn.has_made ∙ ap (λ l. old.1 + length l) (are turn.left)))
-
   -- along requests that are answered
 
   histories_grow : (es : List Exchange) (old new : D) → AreServed state crashes past es old new → IsPrefix (history_of (state old)) (history_of (state new))
@@ -357,14 +359,71 @@ module _ {D : Type 0} (state : D → DeskState) (crashes : D → Crashes Found) 
       → AreServed state crashes past es old new → origin new ≡ origin old
   all_keep_origin origin are es old new served = are new ∙ origin_stays state crashes past es old new served ∙ sym (are old)
 
-  -- along one request
+  -- of what is told
 
-  pub one_grows : (history : D → List Event) → ((desk : D) → history desk ≡ history_of (state desk)) → (request : Request) (old new : D) (response : Response)
-      → Serves state crashes past request old new response → IsPrefix (history old) (history new)
-  one_grows history are request old new response serves =
-      all_grow history are (record { request = request; response = response } ∷ []) old new (new, serves, refl)
+  pub tells_grow : (history : D → List Event) → ((desk : D) → history desk ≡ history_of (state desk)) → (asking : Asking) (old new : D) (t : DeskTold)
+      → Tells state crashes past asking old new t → IsPrefix (history old) (history new)
+  tells_grow history are asking old new t tells =
+      let (response, says) = some_response true t in
+      subst (λ l. IsPrefix l (history new)) (sym (are old))
+      (subst (IsPrefix (history_of (state old))) (sym (are new))
+      (asking_grows true (Ok asking) old new response (told_serves state crashes past true asking old new t response tells says)))
 
-  pub one_keeps_origin : (origin : D → List ℕ) → ((desk : D) → origin desk ≡ (state desk).origin) → (request : Request) (old new : D) (response : Response)
-      → Serves state crashes past request old new response → origin new ≡ origin old
-  one_keeps_origin origin are request old new response serves =
-      all_keep_origin origin are (record { request = request; response = response } ∷ []) old new (new, serves, refl)
+  pub tells_keep_origin : (origin : D → List ℕ) → ((desk : D) → origin desk ≡ (state desk).origin) → (asking : Asking) (old new : D) (t : DeskTold)
+      → Tells state crashes past asking old new t → origin new ≡ origin old
+  tells_keep_origin origin are asking old new t tells =
+      let (response, says) = some_response true t in
+      are new ∙ asking_origin state crashes past true (Ok asking) old new response (told_serves state crashes past true asking old new t response tells says) ∙ sym (are old)
+
+  -- what is asked is told in a turn, and said outside it
+  pub told_answered : (history : D → List Event) → ((desk : D) → history desk ≡ history_of (state desk))
+      → (request : Request) (closes : Bool) (asking : Asking) (old new : List Event × ℕ) (t : DeskTold) (response : Response)
+      → request.closes ≡ closes → asking_of request ≡ Ok asking → IsTurnOf state crashes past history asking old new t → SaysTold closes t response
+      → AnswersSeen request old new response
+  told_answered history are request closes asking old new t response closes_is asks_is turn says =
+      let serves : Serves state crashes past request turn.found turn.left response =
+      subst (λ l. ServesAsking state crashes past l (asking_of request) turn.found turn.left response) (sym closes_is)
+      (subst (λ a. ServesAsking state crashes past closes a turn.found turn.left response) (sym asks_is)
+      (told_serves state crashes past closes asking turn.found turn.left t response turn.tells says)) in
+      subst (λ l. IsAnswered request old.0 l old.1 new.1 response) (sym (turn.has_seen ∙ are turn.left))
+      (answered_here request turn.found turn.left old.0 old.1 new.1 response serves turn.sound turn.legal (subst (IsPrefix old.0) (are turn.found) turn.begins)
+      (ap (λ l. new.1 + length l) (sym (are turn.found)) ∙ turn.has_made ∙ ap (λ l. old.1 + length l) (are turn.left)))
+
+-- nothing is asked of the desk
+
+pub nothing_answered : (request : Request) (seen : List Event) (made : ℕ) → IsAnswered request seen seen made made MemoryFault
+nothing_answered request seen made = record {
+  grows = prefix_self seen;
+  legal = λ legal. legal;
+  fits = tt;
+  marked = tt;
+  makes = record { most = omega arith; unmarked = λ none. omega arith };
+}
+
+not_created : {A : Type 0} (response : Response) → is_created response ≡ false → is_created response ≡ true → A
+not_created response isnt is = absurd (let no : false ≡ true = sym isnt ∙ is in cc)
+
+pub refused_answered : (request : Request) (seen : List Event) (made : ℕ) (refusal : RequestRefusal) (response : Response) → asking_of request ≡ Err refusal
+    → Says (request_reply refusal request.closes) response → IsAnswered request seen seen made made response
+refused_answered request seen made refusal response is (inr fault) =
+    subst (λ r. IsAnswered request seen seen made made r) (sym fault) (nothing_answered request seen made)
+refused_answered request seen made refusal response is (inl said) =
+    let entries = entries_of seen in
+    let e : Exchange = record { request = request; response = response } in record {
+      grows = prefix_self seen;
+      legal = λ legal. legal;
+      fits = fits_by entries (length entries) e response refl (λ had quiet. record {
+        k = length entries;
+        not_older = omega arith;
+        not_newer = omega arith;
+        within = omega arith;
+        said = record {
+          day = 0;
+          said = ap response_bytes said ∙ ap (λ a. reply_bytes (reply_on (take (length entries) entries) 0 request.closes a)) (sym is);
+        };
+        stands = λ created. not_created response
+            (says_other (request_reply refusal request.closes) response (request_other refusal request.closes) (inl said)) created;
+      });
+      marked = subst (λ r. AreMarked (faulted_in (record { request = request; response = r } ∷ [])) (drop (length seen) seen)) (sym said) tt;
+      makes = record { most = omega arith; unmarked = λ none. omega arith };
+    }

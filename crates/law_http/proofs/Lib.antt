@@ -23,4 +23,5 @@ pub mod Repeating
 pub mod Rising
 pub mod Said
 pub mod SaidHeads
-pub mod Turning
+pub mod ServedMembers
+pub mod ToldWithin

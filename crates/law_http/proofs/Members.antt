@@ -16,7 +16,7 @@ use Rattle.law_http.specs.declared.refusal.MessageRefusal.TheVariants.{Truncated
 
 -- a request and the bytes behind it, of a stream that has more bytes behind
 abbrev pub requested : ℕ → Framing → List ℕ → Heard × List ℕ
-requested n f bytes = (heard.Request (record { method = f.method; target = f.target; body = take f.length (drop n bytes); last = f.last }), drop (n + f.length) bytes)
+requested n f bytes = (heard.Request (record { method = f.method; target = f.target; body = take f.length (drop n bytes); closes = f.closes }), drop (n + f.length) bytes)
 
 abbrev pub made : ℕ → Framing → List ℕ → Bool → Heard × List ℕ
 made n f bytes t = if t then requested n f bytes else (heard.Refused Truncated, bytes)
@@ -27,7 +27,7 @@ more_behind n f bytes left whole =
     let body : take f.length (drop n (bytes ++ left)) ≡ take f.length (drop n bytes) =
     ap (take f.length) (drop-append-le n bytes left (omega (arith, whole))) ∙ take-append-le f.length (drop n bytes) left (omega (arith, whole, length-drop n bytes)) in
     let behind : drop (n + f.length) (bytes ++ left) ≡ drop (n + f.length) bytes ++ left = drop-append-le (n + f.length) bytes left whole in
-    λ i. (heard.Request (record { method = f.method; target = f.target; body = body i; last = f.last }), behind i)
+    λ i. (heard.Request (record { method = f.method; target = f.target; body = body i; closes = f.closes }), behind i)
 
 heard_whole : (n : ℕ) (f : Framing) (bytes left rest : List ℕ) (h : Heard) → (length bytes < n + f.length → left ≡ [])
     → (h, rest) ≡ with_body n f bytes → (h, rest ++ left) ≡ with_body n f (bytes ++ left)

@@ -76,7 +76,7 @@ same_allow None = refl
 same_allow (Some Get) = refl
 same_allow (Some Post) = refl
 
-same_close : (last : Bool) → close_field last ≡ print_headers (close_fields last)
+same_close : (closes : Bool) → close_field closes ≡ print_headers (close_fields closes)
 same_close true = refl
 same_close false = refl
 
@@ -89,15 +89,15 @@ same_body_lines n = ap (λ l. codes "Content-Length: " ++ l) (three (decimal n) 
 regroup : (a s e al cl pb last body : List ℕ) → (((((a ++ s) ++ e) ++ al) ++ cl) ++ (pb ++ last)) ++ body ≡ ((a ++ (s ++ e)) ++ ((al ++ (cl ++ pb)) ++ last)) ++ body
 regroup a s e al cl pb last body = simp append_assoc
 
-printed : (r : Reply) → print_headers (fields_of r) ≡ print_headers (allow_fields r.allow) ++ (print_headers (close_fields r.last) ++ print_headers (body_fields (length r.body)))
+printed : (r : Reply) → print_headers (fields_of r) ≡ print_headers (allow_fields r.allow) ++ (print_headers (close_fields r.closes) ++ print_headers (body_fields (length r.body)))
 printed r =
-    flat_map-append print_header (allow_fields r.allow) (close_fields r.last ++ body_fields (length r.body))
-    ∙ ap (λ t. print_headers (allow_fields r.allow) ++ t) (flat_map-append print_header (close_fields r.last) (body_fields (length r.body)))
+    flat_map-append print_header (allow_fields r.allow) (close_fields r.closes ++ body_fields (length r.body))
+    ∙ ap (λ t. print_headers (allow_fields r.allow) ++ t) (flat_map-append print_header (close_fields r.closes) (body_fields (length r.body)))
 
 same_reply : (r : Reply) → reply_bytes r ≡ response_text 1 (status_number r.status) (status_phrase r.status) (fields_of r) ++ r.body
 same_reply r =
-    (λ i. (((((codes "HTTP/1.1 " ++ status_text r.status) ++ codes "\r\n") ++ same_allow r.allow i) ++ same_close r.last i) ++ same_body_lines (length r.body) i) ++ r.body)
-    ∙ regroup (codes "HTTP/1.1 ") (status_text r.status) (codes "\r\n") (print_headers (allow_fields r.allow)) (print_headers (close_fields r.last)) (print_headers (body_fields (length r.body))) (13 ∷ 10 ∷ []) r.body
+    (λ i. (((((codes "HTTP/1.1 " ++ status_text r.status) ++ codes "\r\n") ++ same_allow r.allow i) ++ same_close r.closes i) ++ same_body_lines (length r.body) i) ++ r.body)
+    ∙ regroup (codes "HTTP/1.1 ") (status_text r.status) (codes "\r\n") (print_headers (allow_fields r.allow)) (print_headers (close_fields r.closes)) (print_headers (body_fields (length r.body))) (13 ∷ 10 ∷ []) r.body
     ∙ (λ i. (same_line r.status i ++ (sym (printed r) i ++ (13 ∷ 10 ∷ []))) ++ r.body)
     ∙ ap (λ t. t ++ r.body) (response_text_is 1 (status_number r.status) (status_phrase r.status) (fields_of r))
 
@@ -123,7 +123,7 @@ allow_is_sent None = refl
 allow_is_sent (Some Get) = refl
 allow_is_sent (Some Post) = refl
 
-close_is_sent : (last : Bool) → are_headers (close_fields last) ≡ true
+close_is_sent : (closes : Bool) → are_headers (close_fields closes) ≡ true
 unfolding are_headers is_token_byte
 close_is_sent true = refl
 close_is_sent false = refl
@@ -134,9 +134,9 @@ length_is_sent n fits = and_from _ _ (length_may_be_sent n fits) refl
 
 fields_are_sent : (r : Reply) → length r.body < 2 ^ 64 → are_headers (fields_of r) ≡ true
 fields_are_sent r fits =
-    are_headers-append (allow_fields r.allow) (close_fields r.last ++ body_fields (length r.body))
+    are_headers-append (allow_fields r.allow) (close_fields r.closes ++ body_fields (length r.body))
     ∙ and_from _ _ (allow_is_sent r.allow)
-    (are_headers-append (close_fields r.last) (body_fields (length r.body)) ∙ and_from _ _ (close_is_sent r.last) (length_is_sent (length r.body) fits))
+    (are_headers-append (close_fields r.closes) (body_fields (length r.body)) ∙ and_from _ _ (close_is_sent r.closes) (length_is_sent (length r.body) fits))
 
 accepted : (r : Reply) → length r.body < 2 ^ 64 → head_refusal (is_status_line 1 (status_number r.status) (status_phrase r.status)) (fields_of r) ≡ None
 accepted r fits = λ i. if line_is_sent r.status i then (if fields_are_sent r fits i then None else Some InvalidHeader) else Some InvalidStartLine

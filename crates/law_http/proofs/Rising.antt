@@ -35,60 +35,60 @@ risen most n before now one rose = omega (arith, one, rose)
 then_risen : (most m n a b c : ℕ) → b ≡ max a (min (a + m) most) → c ≡ max b (min (b + n) most) → c ≡ max a (min (a + (m + n)) most)
 then_risen most m n a b c first second = omega (arith, first, second)
 
-outcome_rises : (last : Bool) (result : Result Outcome CommandFault) (response : Response) (before now : ℕ)
-    → HasCommandCause before now result → SaysOutcome last result response → RoseBy (fault_told response) before now
-outcome_rises last (Ok outcome) response before now cause says = unmoved (2 ^ 64 - 1) (fault_told response) before now (ap fault_told says) cause
-outcome_rises last (Err (fails.Rule rule)) response before now cause says = unmoved (2 ^ 64 - 1) (fault_told response) before now (quiet (rule_reply last rule) response says) cause
-outcome_rises last (Err fails.KeeperFault) response before now cause says = risen (2 ^ 64 - 1) (fault_told response) before now (ap fault_told says) cause
-outcome_rises last (Err fails.Memory) response before now cause says = unmoved (2 ^ 64 - 1) (fault_told response) before now (ap fault_told says) cause
+outcome_rises : (closes : Bool) (result : Result Outcome CommandFault) (response : Response) (before now : ℕ)
+    → HasCommandCause before now result → SaysOutcome closes result response → RoseBy (fault_told response) before now
+outcome_rises closes (Ok outcome) response before now cause says = unmoved (2 ^ 64 - 1) (fault_told response) before now (ap fault_told says) cause
+outcome_rises closes (Err (fails.Rule rule)) response before now cause says = unmoved (2 ^ 64 - 1) (fault_told response) before now (quiet (rule_reply closes rule) response says) cause
+outcome_rises closes (Err fails.KeeperFault) response before now cause says = risen (2 ^ 64 - 1) (fault_told response) before now (ap fault_told says) cause
+outcome_rises closes (Err fails.Memory) response before now cause says = unmoved (2 ^ 64 - 1) (fault_told response) before now (ap fault_told says) cause
 
-command_rises : {D : Type 0} (state : D → DeskState) (crashes : D → Crashes Found) (past : D → List PastKey) (last : Bool) (asked : Asked) (old new : D) (response : Response)
-    → ServesCommand state crashes past last asked old new response → RoseBy (fault_told response) (state old).faults (state new).faults
-command_rises state crashes past last asked old new response (inl (stays, fault)) =
+command_rises : {D : Type 0} (state : D → DeskState) (crashes : D → Crashes Found) (past : D → List PastKey) (closes : Bool) (asked : Asked) (old new : D) (response : Response)
+    → ServesCommand state crashes past closes asked old new response → RoseBy (fault_told response) (state old).faults (state new).faults
+command_rises state crashes past closes asked old new response (inl (stays, fault)) =
     unmoved (2 ^ 64 - 1) (fault_told response) (state old).faults (state new).faults (ap fault_told fault) (ap (λ (s : DeskState). s.faults) stays.same)
-command_rises state crashes past last asked old new response (inr (result, does, says)) =
-    outcome_rises last result response (state old).faults (state new).faults does.cause says
+command_rises state crashes past closes asked old new response (inr (result, does, says)) =
+    outcome_rises closes result response (state old).faults (state new).faults does.cause says
 
-asking_rises : {D : Type 0} (state : D → DeskState) (crashes : D → Crashes Found) (past : D → List PastKey) (last : Bool) (asking : Result Asking RequestRefusal) (old new : D) (response : Response)
-    → ServesAsking state crashes past last asking old new response → RoseBy (fault_told response) (state old).faults (state new).faults
-asking_rises state crashes past last (Err refusal) old new response (stays, says) =
-    unmoved (2 ^ 64 - 1) (fault_told response) (state old).faults (state new).faults (quiet (request_reply refusal last) response says) (ap (λ (s : DeskState). s.faults) stays.same)
-asking_rises state crashes past last (Ok asks.Front) old new response (stays, says) =
-    unmoved (2 ^ 64 - 1) (fault_told response) (state old).faults (state new).faults (quiet (front_reply last (front (state old).entries)) response says) (ap (λ (s : DeskState). s.faults) stays.same)
-asking_rises state crashes past last (Ok (asks.Text text)) old new response (stays, says) =
-    unmoved (2 ^ 64 - 1) (fault_told response) (state old).faults (state new).faults (quiet (answer_reply last (answer_at (state old).entries (question_at (front (state old).entries) text))) response says) (ap (λ (s : DeskState). s.faults) stays.same)
-asking_rises state crashes past last (Ok (asks.Preview preview)) old new response (stays, says) =
+asking_rises : {D : Type 0} (state : D → DeskState) (crashes : D → Crashes Found) (past : D → List PastKey) (closes : Bool) (asking : Result Asking RequestRefusal) (old new : D) (response : Response)
+    → ServesAsking state crashes past closes asking old new response → RoseBy (fault_told response) (state old).faults (state new).faults
+asking_rises state crashes past closes (Err refusal) old new response (stays, says) =
+    unmoved (2 ^ 64 - 1) (fault_told response) (state old).faults (state new).faults (quiet (request_reply refusal closes) response says) (ap (λ (s : DeskState). s.faults) stays.same)
+asking_rises state crashes past closes (Ok asks.Front) old new response (stays, says) =
+    unmoved (2 ^ 64 - 1) (fault_told response) (state old).faults (state new).faults (quiet (front_reply closes (front (state old).entries)) response says) (ap (λ (s : DeskState). s.faults) stays.same)
+asking_rises state crashes past closes (Ok (asks.Text text)) old new response (stays, says) =
+    unmoved (2 ^ 64 - 1) (fault_told response) (state old).faults (state new).faults (quiet (answer_reply closes (answer_at (state old).entries (question_at (front (state old).entries) text))) response says) (ap (λ (s : DeskState). s.faults) stays.same)
+asking_rises state crashes past closes (Ok (asks.Preview preview)) old new response (stays, says) =
     let answer = preview_at (state old).entries preview.drafter (question_previewed preview) in
-    unmoved (2 ^ 64 - 1) (fault_told response) (state old).faults (state new).faults (quiet (answer_reply last answer) response says) (ap (λ (s : DeskState). s.faults) stays.same)
-asking_rises state crashes past last (Ok (asks.Draft drafter)) old new response (stays, says) =
-    unmoved (2 ^ 64 - 1) (fault_told response) (state old).faults (state new).faults (quiet (draft_reply last (draft_of drafter (state old).entries)) response says) (ap (λ (s : DeskState). s.faults) stays.same)
-asking_rises state crashes past last (Ok (asks.Command asked)) old new response serves = command_rises state crashes past last asked old new response serves
+    unmoved (2 ^ 64 - 1) (fault_told response) (state old).faults (state new).faults (quiet (answer_reply closes answer) response says) (ap (λ (s : DeskState). s.faults) stays.same)
+asking_rises state crashes past closes (Ok (asks.Draft drafter)) old new response (stays, says) =
+    unmoved (2 ^ 64 - 1) (fault_told response) (state old).faults (state new).faults (quiet (draft_reply closes (draft_of drafter (state old).entries)) response says) (ap (λ (s : DeskState). s.faults) stays.same)
+asking_rises state crashes past closes (Ok (asks.Command asked)) old new response serves = command_rises state crashes past closes asked old new response serves
 
 pub faults_rise : {D : Type 0} (state : D → DeskState) (crashes : D → Crashes Found) (past : D → List PastKey) (exchanges : List Exchange) (old new : D)
     → AreServed state crashes past exchanges old new → RoseBy (faults_told exchanges) (state old).faults (state new).faults
 faults_rise state crashes past [] old new same = unmoved (2 ^ 64 - 1) 0 (state old).faults (state new).faults refl (ap (λ d. (state d).faults) same)
 faults_rise state crashes past (e ∷ es) old new (mid, serves, more) =
     then_risen (2 ^ 64 - 1) (fault_told e.response) (faults_told es) (state old).faults (state mid).faults (state new).faults
-    (asking_rises state crashes past e.request.last (asking_of e.request) old mid e.response serves) (faults_rise state crashes past es mid new more)
+    (asking_rises state crashes past e.request.closes (asking_of e.request) old mid e.response serves) (faults_rise state crashes past es mid new more)
 
 -- the names of what the desk was lent
 
-command_origin : {D : Type 0} (state : D → DeskState) (crashes : D → Crashes Found) (past : D → List PastKey) (last : Bool) (asked : Asked) (old new : D) (response : Response)
-    → ServesCommand state crashes past last asked old new response → (state new).origin ≡ (state old).origin
-command_origin state crashes past last asked old new response (inl (stays, fault)) = ap (λ (s : DeskState). s.origin) stays.same
-command_origin state crashes past last asked old new response (inr (result, does, says)) = does.origin
+command_origin : {D : Type 0} (state : D → DeskState) (crashes : D → Crashes Found) (past : D → List PastKey) (closes : Bool) (asked : Asked) (old new : D) (response : Response)
+    → ServesCommand state crashes past closes asked old new response → (state new).origin ≡ (state old).origin
+command_origin state crashes past closes asked old new response (inl (stays, fault)) = ap (λ (s : DeskState). s.origin) stays.same
+command_origin state crashes past closes asked old new response (inr (result, does, says)) = does.origin
 
-asking_origin : {D : Type 0} (state : D → DeskState) (crashes : D → Crashes Found) (past : D → List PastKey) (last : Bool) (asking : Result Asking RequestRefusal) (old new : D) (response : Response)
-    → ServesAsking state crashes past last asking old new response → (state new).origin ≡ (state old).origin
-asking_origin state crashes past last (Err refusal) old new response (stays, says) = ap (λ (s : DeskState). s.origin) stays.same
-asking_origin state crashes past last (Ok asks.Front) old new response (stays, says) = ap (λ (s : DeskState). s.origin) stays.same
-asking_origin state crashes past last (Ok (asks.Text text)) old new response (stays, says) = ap (λ (s : DeskState). s.origin) stays.same
-asking_origin state crashes past last (Ok (asks.Preview preview)) old new response (stays, says) = ap (λ (s : DeskState). s.origin) stays.same
-asking_origin state crashes past last (Ok (asks.Draft drafter)) old new response (stays, says) = ap (λ (s : DeskState). s.origin) stays.same
-asking_origin state crashes past last (Ok (asks.Command asked)) old new response serves = command_origin state crashes past last asked old new response serves
+pub asking_origin : {D : Type 0} (state : D → DeskState) (crashes : D → Crashes Found) (past : D → List PastKey) (closes : Bool) (asking : Result Asking RequestRefusal) (old new : D) (response : Response)
+    → ServesAsking state crashes past closes asking old new response → (state new).origin ≡ (state old).origin
+asking_origin state crashes past closes (Err refusal) old new response (stays, says) = ap (λ (s : DeskState). s.origin) stays.same
+asking_origin state crashes past closes (Ok asks.Front) old new response (stays, says) = ap (λ (s : DeskState). s.origin) stays.same
+asking_origin state crashes past closes (Ok (asks.Text text)) old new response (stays, says) = ap (λ (s : DeskState). s.origin) stays.same
+asking_origin state crashes past closes (Ok (asks.Preview preview)) old new response (stays, says) = ap (λ (s : DeskState). s.origin) stays.same
+asking_origin state crashes past closes (Ok (asks.Draft drafter)) old new response (stays, says) = ap (λ (s : DeskState). s.origin) stays.same
+asking_origin state crashes past closes (Ok (asks.Command asked)) old new response serves = command_origin state crashes past closes asked old new response serves
 
 pub origin_stays : {D : Type 0} (state : D → DeskState) (crashes : D → Crashes Found) (past : D → List PastKey) (exchanges : List Exchange) (old new : D)
     → AreServed state crashes past exchanges old new → (state new).origin ≡ (state old).origin
 origin_stays state crashes past [] old new same = ap (λ d. (state d).origin) same
 origin_stays state crashes past (e ∷ es) old new (mid, serves, more) =
-    origin_stays state crashes past es mid new more ∙ asking_origin state crashes past e.request.last (asking_of e.request) old mid e.response serves
+    origin_stays state crashes past es mid new more ∙ asking_origin state crashes past e.request.closes (asking_of e.request) old mid e.response serves

@@ -9,7 +9,7 @@ use Rattle.law_http.specs.Hearing.{HoldsNoRequest, IsHeardOf}
 use Rattle.law_http.specs.Responses.{response_bytes}
 use Rattle.law_http.specs.Streaming.{AppendsAll, AreCut, ArePut, EndsAs, HearsAll, HearsFirst, HearsUntil, responses_bytes}
 use Rattle.law_http.specs.Streams.{KeepsRequest}
-use Rattle.law_http.specs.Turns.{PutsBefore, end_after, end_behind}
+use Rattle.law_http.specs.ServedMembers.{PutsBefore, end_after, end_behind}
 use Rattle.law_http.specs.declared.heard.Heard.{Heard}
 use Rattle.law_http.specs.declared.heard.Heard.TheVariants as heard
 use Rattle.law_http.specs.declared.heard.Request.{Request}
@@ -105,19 +105,19 @@ put_by before now response count later end result (Err fault) written cause is =
 -- what is heard
 
 pub all_then : (left rest : Option (List ℕ)) (request : Request) (requests : List Request) (more : List Heard) → IsHeardOf left rest (heard.Request request)
-    → IsFalse request.last → HearsAll rest requests more → HearsAll left (request ∷ requests) more
+    → IsFalse request.closes → HearsAll rest requests more → HearsAll left (request ∷ requests) more
 all_then None rest request requests more first goes_on then_ = tt
 all_then (Some bytes) None request requests more first goes_on then_ = absurd first
-all_then (Some bytes) (Some behind) request requests more first goes_on then_ = (behind, first, λ is. not_both request.last goes_on is, λ _. then_)
+all_then (Some bytes) (Some behind) request requests more first goes_on then_ = (behind, first, λ is. not_both request.closes goes_on is, λ _. then_)
 
 pub first_then : (left rest : Option (List ℕ)) (request : Request) (requests : List Request) (closing : List Response) → IsHeardOf left rest (heard.Request request)
-    → IsFalse request.last → HearsFirst rest requests closing → HearsFirst left (request ∷ requests) closing
+    → IsFalse request.closes → HearsFirst rest requests closing → HearsFirst left (request ∷ requests) closing
 first_then None rest request requests closing first goes_on then_ = tt
 first_then (Some bytes) None request requests closing first goes_on then_ = absurd first
-first_then (Some bytes) (Some behind) request requests closing first goes_on then_ = (behind, first, λ is. not_both request.last goes_on is, then_)
+first_then (Some bytes) (Some behind) request requests closing first goes_on then_ = (behind, first, λ is. not_both request.closes goes_on is, then_)
 
 pub until_then : (left rest over : Option (List ℕ)) (request : Request) (requests : List Request) → IsHeardOf left rest (heard.Request request)
-    → IsFalse request.last → HearsUntil rest requests over → HearsUntil left (request ∷ requests) over
+    → IsFalse request.closes → HearsUntil rest requests over → HearsUntil left (request ∷ requests) over
 until_then None rest over request requests first goes_on then_ = tt
 until_then (Some bytes) None over request requests first goes_on then_ = absurd first
 until_then (Some bytes) (Some behind) None request requests first goes_on then_ = absurd then_
@@ -130,7 +130,7 @@ until_here (Some bytes) None part kept holds = absurd kept
 until_here (Some bytes) (Some later) part kept holds = (part, holds, kept)
 
 pub ends_then : (end : StreamEnd) (left rest over : Option (List ℕ)) (request : Request) (requests : List Request) (closing : List Response)
-    → IsHeardOf left rest (heard.Request request) → IsFalse request.last → EndsAs end rest over requests closing → EndsAs end left over (request ∷ requests) closing
+    → IsHeardOf left rest (heard.Request request) → IsFalse request.closes → EndsAs end rest over requests closing → EndsAs end left over (request ∷ requests) closing
 ends_then ends.End left rest over request requests closing first goes_on (hears, none) =
     (all_then left rest request requests [] first goes_on hears, none)
 ends_then (ends.Refused refusal) left rest over request requests closing first goes_on (hears, said) =
@@ -145,10 +145,10 @@ ends_then ends.Memory left rest over request requests closing first goes_on (hea
     (first_then left rest request requests closing first goes_on hears, said)
 
 -- the last request
-pub all_alone : (left rest : Option (List ℕ)) (request : Request) → IsHeardOf left rest (heard.Request request) → IsTrue request.last → HearsAll left (request ∷ []) []
-all_alone None rest request first last = tt
-all_alone (Some bytes) None request first last = absurd first
-all_alone (Some bytes) (Some behind) request first last = (behind, first, λ _. refl, λ isnt. not_both request.last isnt last)
+pub all_alone : (left rest : Option (List ℕ)) (request : Request) → IsHeardOf left rest (heard.Request request) → IsTrue request.closes → HearsAll left (request ∷ []) []
+all_alone None rest request first closes = tt
+all_alone (Some bytes) None request first closes = absurd first
+all_alone (Some bytes) (Some behind) request first closes = (behind, first, λ _. refl, λ isnt. not_both request.closes isnt closes)
 
 pub first_alone : (left rest : Option (List ℕ)) (request : Request) → IsHeardOf left rest (heard.Request request) → HearsFirst left (request ∷ []) []
 first_alone None rest request first = tt

@@ -20,7 +20,6 @@ use Rattle.law_http.specs.Asking.{asking_of}
 use Rattle.law_http.specs.Faultless.{reply_on}
 use Rattle.law_http.specs.Lasting.{Holds, HoldsAsked, is_created}
 use Rattle.law_http.specs.Responses.{reply_bytes, response_bytes}
-use Rattle.law_http.specs.Serving.{Serves}
 use Rattle.law_http.specs.Streaming.{ArePut, EndsAs, Exchange, faults_told, requests_of, responses_of}
 use Rattle.law_http.specs.declared.asking.Asking.{Asking}
 use Rattle.law_http.specs.declared.asking.Asking.TheVariants as asks
@@ -30,13 +29,15 @@ use Rattle.law_http.specs.declared.heard.Request.{Request}
 use Rattle.law_http.specs.declared.refusal.RequestRefusal.{RequestRefusal}
 use Rattle.law_http.specs.declared.response.Response.{Response}
 use Rattle.law_http.specs.declared.response.Response.TheVariants.{Made, MemoryFault, KeeperFault}
+use Rattle.law_http.specs.Telling.{Tells}
 use Rattle.law_http.specs.declared.streaming.Served.{Served}
+use Rattle.law_http.specs.declared.telling.DeskTold.{DeskTold}
 
 -- the response is what is said where the first k of these entries stand; a command comes on some day
 pub record IsSaidOn (entries : List Entry) (k : ℕ) (e : Exchange) : Type 0 where
   pub day : ℕ
   pub said : response_bytes e.response
-      ≡ reply_bytes (reply_on (take k entries) day e.request.last (asking_of e.request))
+      ≡ reply_bytes (reply_on (take k entries) day e.request.closes (asking_of e.request))
 
 -- a response is said on the first k of these entries: not on fewer than `least`, and not on more than `next`. What it
 -- acknowledges, if it does, stands among the first `next`
@@ -50,9 +51,9 @@ pub record Fits (entries : List Entry) (least next : ℕ) (e : Exchange) : Type 
 
 -- the same of a response that was made; a fixed one says nothing of entries
 abbrev pub FitsWhereMade : List Entry → ℕ → ℕ → Exchange → Response → Type 0
-FitsWhereMade entries least next e (Made message last) = Fits entries least next e
+FitsWhereMade entries least next e (Made message closes) = Fits entries least next e
 FitsWhereMade entries least next e MemoryFault = ⊤
-FitsWhereMade entries least next e (KeeperFault last) = ⊤
+FitsWhereMade entries least next e (KeeperFault closes) = ⊤
 
 -- the responses are said on first parts of these entries, each of them not shorter than `least`, than the one before it,
 -- and than what holds all that was acknowledged before it
@@ -78,9 +79,9 @@ AreOnce entries exchanges = AllByRecursion (λ e. IsTrue (is_created e.response)
 
 -- one of the exchanges, where its response says that the keeper failed, with those of the others
 abbrev pub with_faulted : Response → Exchange → List Exchange → List Exchange
-with_faulted (Made message last) e es = es
+with_faulted (Made message closes) e es = es
 with_faulted MemoryFault e es = es
-with_faulted (KeeperFault last) e es = e ∷ es
+with_faulted (KeeperFault closes) e es = e ∷ es
 
 -- the exchanges whose response says that the keeper failed
 abbrev pub faulted_in : List Exchange → List Exchange
@@ -142,20 +143,20 @@ pub record IsMadeOf (commands : ℕ) (seen : List Event) (before now : ℕ) : Ty
   pub unmarked : marks_of seen ≡ [] → now ≤ before + commands
 
 module _ {D : Type 0} (state : D → DeskState) (crashes : D → Crashes Found) (past : D → List PastKey) (history : D → List Event) where
-  -- in a turn a desk is found whose history begins with what was seen, it answers a request, and what it left has been
+  -- in a turn a desk is found whose history begins with what was seen, it tells what is asked, and what it left has been
   -- seen then; what its history grew by has been made
-  pub record IsTurnOf (request : Request) (old new : List Event × ℕ) (response : Response) : Type 0 where
+  pub record IsTurnOf (asking : Asking) (old new : List Event × ℕ) (told : DeskTold) : Type 0 where
     pub found : D
     pub left : D
     pub begins : IsPrefix old.0 (history found)
     pub sound : IsSound (state found)
-    pub serves : Serves state crashes past request found left response
+    pub tells : Tells state crashes past asking found left told
     pub legal : is_legal (state left).entries ≡ true
     pub has_seen : new.0 ≡ history left
     pub has_made : new.1 + length (history found) ≡ old.1 + length (history left)
 
--- A request is answered in one turn: from what was seen before to what was seen later, and from so many events made to
--- so many
+-- A request is answered, in one turn where it asks something of the desk, and else in none: from what was seen before
+-- to what was seen later, and from so many events made to so many
 pub record IsAnswered (request : Request) (seen later : List Event) (made now : ℕ) (response : Response) : Type 0 where
   pub grows : IsPrefix seen later
   pub legal : is_legal (entries_of seen) ≡ true → is_legal (entries_of later) ≡ true

@@ -27,8 +27,8 @@ use Rattle.law_http.specs.declared.streaming.StreamEnd.TheVariants as ends
 
 -- what is said of a command: that it was accepted, now or before, or the rule that it breaks
 abbrev pub entered_reply : Bool → Result (List Entry × Outcome) Rule → Reply
-entered_reply last (Ok (entries, outcome)) = accepted_reply last outcome
-entered_reply last (Err rule) = rule_reply last rule
+entered_reply closes (Ok (entries, outcome)) = accepted_reply closes outcome
+entered_reply closes (Err rule) = rule_reply closes rule
 
 -- the entries behind a command
 abbrev pub entries_behind : List Entry → Result (List Entry × Outcome) Rule → List Entry
@@ -37,15 +37,15 @@ entries_behind entries (Err rule) = entries
 
 -- what is said to what is asked, where these entries stand; a command comes on this day
 abbrev pub reply_on : List Entry → ℕ → Bool → Result Asking RequestRefusal → Reply
-reply_on entries day last (Err refusal) = request_reply refusal last
-reply_on entries day last (Ok asks.Front) = front_reply last (front entries)
-reply_on entries day last (Ok (asks.Text text)) =
-    answer_reply last (answer_at entries (question_at (front entries) text))
-reply_on entries day last (Ok (asks.Preview preview)) =
-    answer_reply last (preview_at entries preview.drafter (question_previewed preview))
-reply_on entries day last (Ok (asks.Draft drafter)) = draft_reply last (draft_of drafter entries)
-reply_on entries day last (Ok (asks.Command asked)) =
-    entered_reply last (entered entries asked.drafter asked.request day asked.command)
+reply_on entries day closes (Err refusal) = request_reply refusal closes
+reply_on entries day closes (Ok asks.Front) = front_reply closes (front entries)
+reply_on entries day closes (Ok (asks.Text text)) =
+    answer_reply closes (answer_at entries (question_at (front entries) text))
+reply_on entries day closes (Ok (asks.Preview preview)) =
+    answer_reply closes (preview_at entries preview.drafter (question_previewed preview))
+reply_on entries day closes (Ok (asks.Draft drafter)) = draft_reply closes (draft_of drafter entries)
+reply_on entries day closes (Ok (asks.Command asked)) =
+    entered_reply closes (entered entries asked.drafter asked.request day asked.command)
 
 -- the entries behind it: a command alone may change them
 abbrev pub entries_on : List Entry → ℕ → Result Asking RequestRefusal → List Entry
@@ -62,7 +62,7 @@ days_on days asking = days
 abbrev pub output : List Entry → (ℕ → ℕ) → List Heard → List ℕ
 output entries days [] = []
 output entries days (heard.Request request ∷ more) =
-    reply_bytes (reply_on entries (days 0) request.last (asking_of request))
+    reply_bytes (reply_on entries (days 0) request.closes (asking_of request))
     ++ output (entries_on entries (days 0) (asking_of request)) (days_on days (asking_of request)) more
 output entries days (heard.Refused refusal ∷ more) = reply_bytes (message_reply refusal) ++ output entries days more
 output entries days (heard.End ∷ more) = output entries days more

@@ -17,8 +17,8 @@ IsHead bytes (Some head) = ReadsRequest bytes head [] × (length head.fields ≤
 
 -- the request but for its body, where the fields give that a length
 abbrev pub with_length : List ℕ → List ℕ → Bool → Result ℕ MessageRefusal → Result Framing MessageRefusal
-with_length method target last (Ok n) = Ok (record { method = method; target = target; last = last; length = n })
-with_length method target last (Err refusal) = Err refusal
+with_length method target closes (Ok n) = Ok (record { method = method; target = target; closes = closes; length = n })
+with_length method target closes (Err refusal) = Err refusal
 
 -- the stream is closed after a request of HTTP/1.0, and after one whose Connection fields list `close`
 abbrev pub framed : List ℕ → List ℕ → ℕ → List Header → Result Framing MessageRefusal

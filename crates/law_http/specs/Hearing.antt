@@ -14,7 +14,7 @@ use Rattle.law_http.specs.declared.refusal.MessageRefusal.TheVariants.{Truncated
 
 -- the request that a head and a body make
 abbrev pub request_of : Framing → List ℕ → Request
-request_of f body = record { method = f.method; target = f.target; body = body; last = f.last }
+request_of f body = record { method = f.method; target = f.target; body = body; closes = f.closes }
 
 -- a request whose head is n bytes, with its body behind, and the bytes behind that
 abbrev pub with_body : ℕ → Framing → List ℕ → Heard × List ℕ
@@ -80,7 +80,7 @@ abbrev pub AreHeard : List ℕ → List Heard → Type 0
 AreHeard bytes [] = IsFirstHeard bytes heard.End []
 AreHeard bytes (heard.Request request ∷ more) =
     (rest : List ℕ) × IsFirstHeard bytes (heard.Request request) rest
-    × (IsTrue request.last → more ≡ []) × (IsFalse request.last → AreHeard rest more)
+    × (IsTrue request.closes → more ≡ []) × (IsFalse request.closes → AreHeard rest more)
 AreHeard bytes (heard.End ∷ more) = ⊥
 AreHeard bytes (heard.Refused refusal ∷ more) =
     (rest : List ℕ) × IsFirstHeard bytes (heard.Refused refusal) rest × (more ≡ [])

@@ -14,6 +14,7 @@ pub mod Streams
 pub mod Serving
 pub mod Streaming
 pub mod Exchanges
-pub mod Turns
+pub mod ServedMembers
 pub mod Lasting
 pub mod Connections
+pub mod Telling

@@ -49,7 +49,7 @@ message_reply r = reply (message_status r) None true (object_text (message_numbe
 
 -- what is said where a request gets no answer of the desk
 abbrev pub request_reply : RequestRefusal → Bool → Reply
-request_reply NoRoute last = reply status.NotFound None last (object_text 6 (codes "NoRoute"))
-request_reply (WrongMethod allow) last =
-    reply status.MethodNotAllowed (Some allow) last (object_text 7 (codes "WrongMethod"))
-request_reply (BadForm form place) last = reply status.BadRequest None last (form_text form place)
+request_reply NoRoute closes = reply status.NotFound None closes (object_text 6 (codes "NoRoute"))
+request_reply (WrongMethod allow) closes =
+    reply status.MethodNotAllowed (Some allow) closes (object_text 7 (codes "WrongMethod"))
+request_reply (BadForm form place) closes = reply status.BadRequest None closes (form_text form place)

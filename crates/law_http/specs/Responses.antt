@@ -71,16 +71,16 @@ close_field false = []
 pub record Reply : Type 0 where
   pub status : Status
   pub allow : Option Allow
-  pub last : Bool
+  pub closes : Bool
   pub body : List ℕ
 
 abbrev pub reply : Status → Option Allow → Bool → List ℕ → Reply
-reply status allow last body = record { status = status; allow = allow; last = last; body = body }
+reply status allow closes body = record { status = status; allow = allow; closes = closes; body = body }
 
 -- the lines of a head that depend on more than the body
 abbrev pub first_lines : Status → Option Allow → Bool → List ℕ
-first_lines status allow last =
-    codes "HTTP/1.1 " ++ status_text status ++ codes "\r\n" ++ allow_field allow ++ close_field last
+first_lines status allow closes =
+    codes "HTTP/1.1 " ++ status_text status ++ codes "\r\n" ++ allow_field allow ++ close_field closes
 
 -- the lines of a head that say of the body how long it is and that it is JSON, and the empty line
 abbrev pub body_lines : ℕ → List ℕ
@@ -88,7 +88,7 @@ body_lines n = codes "Content-Length: " ++ decimal n ++ codes "\r\nContent-Type:
 
 -- the bytes of a response
 abbrev pub reply_bytes : Reply → List ℕ
-reply_bytes r = first_lines r.status r.allow r.last ++ body_lines (length r.body) ++ r.body
+reply_bytes r = first_lines r.status r.allow r.closes ++ body_lines (length r.body) ++ r.body
 
 -- what is said where there was not enough memory
 abbrev pub memory_fault : Reply
@@ -96,23 +96,23 @@ memory_fault = reply status.InternalServerError None true (codes "{\"fault\":\"m
 
 -- what is said where the keeper failed
 abbrev pub keeper_fault : Bool → Reply
-keeper_fault last = reply status.ServiceUnavailable None last (codes "{\"fault\":\"keeper\"}")
+keeper_fault closes = reply status.ServiceUnavailable None closes (codes "{\"fault\":\"keeper\"}")
 
 -- the bytes of what was made, or of the fixed responses
 abbrev pub response_bytes : Response → List ℕ
-response_bytes (Made message last) = message
+response_bytes (Made message closes) = message
 response_bytes MemoryFault = reply_bytes memory_fault
-response_bytes (KeeperFault last) = reply_bytes (keeper_fault last)
+response_bytes (KeeperFault closes) = reply_bytes (keeper_fault closes)
 
 -- the stream is closed after the response
-abbrev pub is_last : Response → Bool
-is_last (Made message last) = last
-is_last MemoryFault = true
-is_last (KeeperFault last) = last
+abbrev pub is_closing : Response → Bool
+is_closing (Made message closes) = closes
+is_closing MemoryFault = true
+is_closing (KeeperFault closes) = closes
 
 -- the response says this, or that there was not enough memory
 abbrev pub Says : Reply → Response → Type 0
-Says reply response = (response ≡ Made (reply_bytes reply) reply.last) ⊎ (response ≡ MemoryFault)
+Says reply response = (response ≡ Made (reply_bytes reply) reply.closes) ⊎ (response ≡ MemoryFault)
 
 -- the same fields as names and values
 abbrev pub allow_fields : Option Allow → List Header
@@ -128,7 +128,7 @@ abbrev pub body_fields : ℕ → List Header
 body_fields n = (codes "Content-Length", decimal n) ∷ (codes "Content-Type", codes "application/json") ∷ []
 
 abbrev pub fields_of : Reply → List Header
-fields_of r = allow_fields r.allow ++ (close_fields r.last ++ body_fields (length r.body))
+fields_of r = allow_fields r.allow ++ (close_fields r.closes ++ body_fields (length r.body))
 
 -- the head that a client of httparse reads: HTTP/1.1, the status, its phrase and the fields
 abbrev pub head_of : Reply → ResponseHead

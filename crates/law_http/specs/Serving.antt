@@ -59,24 +59,24 @@ abbrev pub front_text : ℕ → List ℕ
 front_text n = codes "{\"front\":" ++ decimal n ++ codes "}"
 
 abbrev pub front_reply : Bool → ℕ → Reply
-front_reply last n = reply status.Ok None last (front_text n)
+front_reply closes n = reply status.Ok None closes (front_text n)
 
 -- an answer
 abbrev pub shown_reply : Bool → Answer → Reply
-shown_reply last answer = reply status.Ok None last (compact_text (answer_data answer))
+shown_reply closes answer = reply status.Ok None closes (compact_text (answer_data answer))
 
 -- a question that is refused
 abbrev pub query_reply : Bool → QueryRule → Reply
-query_reply last rule = reply (query_status rule) None last (compact_text (query_data rule))
+query_reply closes rule = reply (query_status rule) None closes (compact_text (query_data rule))
 
 -- an answer, or the rule that the question breaks
 abbrev pub answer_reply : Bool → Result Answer QueryRule → Reply
-answer_reply last (Ok answer) = shown_reply last answer
-answer_reply last (Err rule) = query_reply last rule
+answer_reply closes (Ok answer) = shown_reply closes answer
+answer_reply closes (Err rule) = query_reply closes rule
 
 -- the items of a draft
 abbrev pub draft_reply : Bool → List DraftItem → Reply
-draft_reply last draft = reply status.Ok None last (compact_text (draft_value draft))
+draft_reply closes draft = reply status.Ok None closes (compact_text (draft_value draft))
 
 -- the law number of a law entry, or the item number of an entry of a draft
 abbrev pub outcome_text : Outcome → List ℕ
@@ -85,18 +85,18 @@ outcome_text (outcome.Draft number) = codes "{\"draft\":" ++ decimal number ++ c
 
 -- a command that is accepted, or was before
 abbrev pub accepted_reply : Bool → Outcome → Reply
-accepted_reply last outcome = reply status.Created None last (outcome_text outcome)
+accepted_reply closes outcome = reply status.Created None closes (outcome_text outcome)
 
 -- a command that is refused
 abbrev pub rule_reply : Bool → Rule → Reply
-rule_reply last rule = reply (rule_status rule) None last (compact_text (rule_data rule))
+rule_reply closes rule = reply (rule_status rule) None closes (compact_text (rule_data rule))
 
 -- what is said of a command; of one that is accepted nothing else can be said, also for want of memory
 abbrev pub SaysOutcome : Bool → Result Outcome CommandFault → Response → Type 0
-SaysOutcome last (Ok outcome) response = response ≡ Made (reply_bytes (accepted_reply last outcome)) last
-SaysOutcome last (Err (fails.Rule rule)) response = Says (rule_reply last rule) response
-SaysOutcome last (Err fails.KeeperFault) response = response ≡ KeeperFault last
-SaysOutcome last (Err fails.Memory) response = response ≡ MemoryFault
+SaysOutcome closes (Ok outcome) response = response ≡ Made (reply_bytes (accepted_reply closes outcome)) closes
+SaysOutcome closes (Err (fails.Rule rule)) response = Says (rule_reply closes rule) response
+SaysOutcome closes (Err fails.KeeperFault) response = response ≡ KeeperFault closes
+SaysOutcome closes (Err fails.Memory) response = response ≡ MemoryFault
 
 -- a question asks for a viewpoint before the front
 abbrev pub is_past : List Entry → Question → Bool
@@ -140,54 +140,54 @@ module _ {D : Type 0} (state : D → DeskState) (crashes : D → Crashes Found) 
 
   -- a command is done and its outcome said, or there was no memory for it before anything was done
   abbrev pub ServesCommand : Bool → Asked → D → D → Response → Type 0
-  ServesCommand last asked old new response =
+  ServesCommand closes asked old new response =
       (Stays old new × (response ≡ MemoryFault))
-      ⊎ ((result : Result Outcome CommandFault) × Does asked old new result × SaysOutcome last result response)
+      ⊎ ((result : Result Outcome CommandFault) × Does asked old new result × SaysOutcome closes result response)
 
   -- what is asked is answered
   abbrev pub ServesAsking : Bool → Result Asking RequestRefusal → D → D → Response → Type 0
-  ServesAsking last (Err refusal) old new response = Stays old new × Says (request_reply refusal last) response
-  ServesAsking last (Ok asks.Front) old new response =
-      Stays old new × Says (front_reply last (front (state old).entries)) response
-  ServesAsking last (Ok (asks.Text text)) old new response =
+  ServesAsking closes (Err refusal) old new response = Stays old new × Says (request_reply refusal closes) response
+  ServesAsking closes (Ok asks.Front) old new response =
+      Stays old new × Says (front_reply closes (front (state old).entries)) response
+  ServesAsking closes (Ok (asks.Text text)) old new response =
       Asks (question_at (front (state old).entries) text) old new response
-      × Says (answer_reply last (answer_at (state old).entries (question_at (front (state old).entries) text))) response
-  ServesAsking last (Ok (asks.Preview preview)) old new response = Stays old new
-      × Says (answer_reply last (preview_at (state old).entries preview.drafter (question_previewed preview))) response
-  ServesAsking last (Ok (asks.Draft drafter)) old new response = Stays old new
-      × Says (draft_reply last (draft_of drafter (state old).entries)) response
-  ServesAsking last (Ok (asks.Command asked)) old new response = ServesCommand last asked old new response
+      × Says (answer_reply closes (answer_at (state old).entries (question_at (front (state old).entries) text))) response
+  ServesAsking closes (Ok (asks.Preview preview)) old new response = Stays old new
+      × Says (answer_reply closes (preview_at (state old).entries preview.drafter (question_previewed preview))) response
+  ServesAsking closes (Ok (asks.Draft drafter)) old new response = Stays old new
+      × Says (draft_reply closes (draft_of drafter (state old).entries)) response
+  ServesAsking closes (Ok (asks.Command asked)) old new response = ServesCommand closes asked old new response
 
   -- a request is answered by a response, and the desk goes from old to new
   abbrev pub Serves : Request → D → D → Response → Type 0
-  Serves request old new response = ServesAsking request.last (asking_of request) old new response
+  Serves request old new response = ServesAsking request.closes (asking_of request) old new response
 
   -- the steps that a command may take, by what came of it
-  abbrev pub commanding_cost : (last : Bool) (asked : Asked) (old new : D) (response : Response)
-      → ServesCommand last asked old new response → ℕ
-  commanding_cost last asked old new response (inl nothing) = 0
-  commanding_cost last asked old new response (inr (result, does, says)) =
+  abbrev pub commanding_cost : (closes : Bool) (asked : Asked) (old new : D) (response : Response)
+      → ServesCommand closes asked old new response → ℕ
+  commanding_cost closes asked old new response (inl nothing) = 0
+  commanding_cost closes asked old new response (inr (result, does, says)) =
       spending asked.drafter asked.request asked.command (standing (state old)) (standing (state new)) result does.outcome
 
   -- the steps that an answer may take, by what is answered
-  abbrev pub asking_cost : (last : Bool) (asking : Result Asking RequestRefusal) (old new : D) (response : Response)
-      → ServesAsking last asking old new response → ℕ
-  asking_cost last (Err refusal) old new response served = 0
-  asking_cost last (Ok asks.Front) old new response served = 0
-  asking_cost last (Ok (asks.Text text)) old new response served =
+  abbrev pub asking_cost : (closes : Bool) (asking : Result Asking RequestRefusal) (old new : D) (response : Response)
+      → ServesAsking closes asking old new response → ℕ
+  asking_cost closes (Err refusal) old new response served = 0
+  asking_cost closes (Ok asks.Front) old new response served = 0
+  asking_cost closes (Ok (asks.Text text)) old new response served =
       answering_cost (state old).entries (question_at (front (state old).entries) text) (past old)
-  asking_cost last (Ok (asks.Preview preview)) old new response served =
+  asking_cost closes (Ok (asks.Preview preview)) old new response served =
       previewing_at (state old).entries preview.drafter (question_previewed preview)
-  asking_cost last (Ok (asks.Draft drafter)) old new response served = 0
-  asking_cost last (Ok (asks.Command asked)) old new response served =
-      commanding_cost last asked old new response served
+  asking_cost closes (Ok (asks.Draft drafter)) old new response served = 0
+  asking_cost closes (Ok (asks.Command asked)) old new response served =
+      commanding_cost closes asked old new response served
 
   -- the steps that the answer to a request may take
   abbrev pub serving_cost : (request : Request) (old new : D) (response : Response) → Serves request old new response → ℕ
-  serving_cost request old new response served = asking_cost request.last (asking_of request) old new response served
+  serving_cost request old new response served = asking_cost request.closes (asking_of request) old new response served
 
   -- what is asked is answered, and so many steps were taken before it, and after
-  pub record ServesWithin (last : Bool) (asking : Result Asking RequestRefusal) (old new : D) (response : Response)
+  pub record ServesWithin (closes : Bool) (asking : Result Asking RequestRefusal) (old new : D) (response : Response)
       (before after : ℕ) : Type 0 where
-    pub serves : ServesAsking last asking old new response
-    pub within : after ≤ before + asking_cost last asking old new response serves
+    pub serves : ServesAsking closes asking old new response
+    pub within : after ≤ before + asking_cost closes asking old new response serves

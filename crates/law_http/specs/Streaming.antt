@@ -39,9 +39,9 @@ responses_bytes (response ∷ responses) = response_bytes response ++ responses_
 
 -- 1 where a response says that the keeper failed
 abbrev pub fault_told : Response → ℕ
-fault_told (Made message last) = 0
+fault_told (Made message closes) = 0
 fault_told MemoryFault = 0
-fault_told (KeeperFault last) = 1
+fault_told (KeeperFault closes) = 1
 
 -- how many of the responses say that the keeper failed
 abbrev pub faults_told : List Exchange → ℕ
@@ -63,7 +63,7 @@ abbrev pub AreHeardFirst : List ℕ → List Request → List Response → Type 
 AreHeardFirst bytes [] closing = ⊤
 AreHeardFirst bytes (request ∷ requests) closing = (rest : List ℕ)
     × IsFirstHeard bytes (heard.Request request) rest
-    × (IsTrue request.last → (requests ≡ []) × (closing ≡ []))
+    × (IsTrue request.closes → (requests ≡ []) × (closing ≡ []))
     × AreHeardFirst rest requests closing
 
 -- the same where the link told the bytes
@@ -77,7 +77,7 @@ abbrev pub BreaksOff : List ℕ → List Request → List ℕ → Type 0
 BreaksOff bytes [] left =
     (part : List ℕ) × HoldsNoRequest part × (after_empty_lines (part ++ left) ≡ after_empty_lines bytes)
 BreaksOff bytes (request ∷ requests) left = (rest : List ℕ)
-    × IsFirstHeard bytes (heard.Request request) rest × IsFalse request.last × BreaksOff rest requests left
+    × IsFirstHeard bytes (heard.Request request) rest × IsFalse request.closes × BreaksOff rest requests left
 
 -- the same where the link told the bytes, and what it has left
 abbrev pub HearsUntil : Option (List ℕ) → List Request → Option (List ℕ) → Type 0

@@ -16,12 +16,12 @@ use law_register::Reply;
 use std::alloc::Global;
 
 /// The first lines of a response whose body is an object of one number, with room for what comes behind them.
-pub(crate) fn begun(alloc: Global, status: Status, last: bool) -> Result<Vec<u8>, Memory>
-    ensures lines { IfOk result (λ message. message.items ≡ spec.first_lines status None last) }
+pub(crate) fn begun(alloc: Global, status: Status, closes: bool) -> Result<Vec<u8>, Memory>
+    ensures lines { IfOk result (λ message. message.items ≡ spec.first_lines status None closes) }
     ensures room { IfOk result (λ message. length message.items + 160 ≤ vec_capacity message) }
 {
     let mut message = Vec::with_capacity(alloc, ROOM)?;
-    put_first_lines(&mut message, status, None, last)?;
+    put_first_lines(&mut message, status, None, closes)?;
     message.reserve(160)?;
     Ok(message)
 }
@@ -54,15 +54,15 @@ fn put_body_lines(message: &mut Vec<u8>, size: usize)
 pub(crate) fn numbered(
     message: Vec<u8>,
     status: Status,
-    last: bool,
+    closes: bool,
     key: &str,
     number: u32,
 ) -> Response
     requires key { length key.now ≤ 10 }
     requires room { length message.items + 160 ≤ vec_capacity message }
-    requires begun { message.items ≡ spec.first_lines status None last }
+    requires begun { message.items ≡ spec.first_lines status None closes }
     ensures { result ≡ Made (spec.reply_bytes
-        (spec.reply status None last (key.now ++ decimal number ++ codes "}"))) last }
+        (spec.reply status None closes (key.now ++ decimal number ++ codes "}"))) closes }
 {
     let mut message = message;
     let mut buffer = Buffer::new();
@@ -73,18 +73,18 @@ pub(crate) fn numbered(
     put_behind(&mut message, b"}");
     Response::Made {
         message: Bytes::from_vec(message),
-        last,
+        closes,
     }
 }
 
 /// The response to a command that is accepted, in the room that was made for it. It takes no memory.
-pub(crate) fn acknowledged(message: Vec<u8>, last: bool, reply: Reply) -> Response
+pub(crate) fn acknowledged(message: Vec<u8>, closes: bool, reply: Reply) -> Response
     requires room { length message.items + 160 ≤ vec_capacity message }
-    requires begun { message.items ≡ spec.first_lines status.Created None last }
-    ensures { result ≡ Made (spec.reply_bytes (accepted_reply last reply)) last }
+    requires begun { message.items ≡ spec.first_lines status.Created None closes }
+    ensures { result ≡ Made (spec.reply_bytes (accepted_reply closes reply)) closes }
 {
     match reply {
-        Reply::Law(number) => numbered(message, Status::Created, last, "{\"law\":", number),
-        Reply::Draft(number) => numbered(message, Status::Created, last, "{\"draft\":", number),
+        Reply::Law(number) => numbered(message, Status::Created, closes, "{\"law\":", number),
+        Reply::Draft(number) => numbered(message, Status::Created, closes, "{\"draft\":", number),
     }
 }

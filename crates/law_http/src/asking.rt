@@ -219,4 +219,19 @@ impl Request {
             Err(AskFail::Memory) => Err(Memory),
         }
     }
+
+    /// The same by paths that were made before. `None`: there was not enough memory for them.
+    pub(crate) fn asking_by(
+        &self,
+        alloc: Global,
+        routes: Option<&Routes>,
+    ) -> Result<Result<Asking, RequestRefusal>, Memory>
+        ensures value { IfOk result (λ asked. asked ≡ spec.asking_of self.now) }
+        ensures spelled { IfOk result spec.IfSpelled }
+    {
+        let Some(routes) = routes else {
+            return Err(Memory);
+        };
+        self.asking(alloc, routes)
+    }
 }

@@ -24,7 +24,7 @@ pub(crate) const MAX_FIELDS: usize = 64;
 pub(crate) struct Framing {
     pub method: Method,
     pub target: Target,
-    pub last: bool,
+    pub closes: bool,
     pub length: u64,
 }
 
@@ -65,7 +65,7 @@ fn framed(
     Ok(Ok(Framing {
         method: method_of(alloc, method)?,
         target: target_of(alloc, target)?,
-        last: minor == 0 || known.close,
+        closes: minor == 0 || known.close,
         length,
     }))
 }

@@ -18,7 +18,7 @@ pub struct Request {
     pub body: Bytes,
     /// Whether the stream is closed after the response: a request of HTTP/1.0, or one whose Connection fields list
     /// `close`.
-    pub last: bool,
+    pub closes: bool,
 }
 
 /// What stands in a stream where a request would begin.

@@ -39,7 +39,7 @@ fn take_request(
         method: framing.method,
         target: framing.target,
         body,
-        last: framing.last,
+        closes: framing.closes,
     }))
 }
 

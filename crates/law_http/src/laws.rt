@@ -162,8 +162,8 @@ pub fn same_stream_is_served_alike()
 pub fn drafters_are_apart()
     ensures { (drafter : List ℕ) (one other : List Entry) (day later : ℕ) (request : Request)
         → AreAlike drafter one other → AsksOwn drafter (asking_of request)
-        → reply_bytes (reply_on one day request.last (asking_of request))
-        ≡ reply_bytes (reply_on other later request.last (asking_of request)) }
+        → reply_bytes (reply_on one day request.closes (asking_of request))
+        ≡ reply_bytes (reply_on other later request.closes (asking_of request)) }
 {}
 
 /// The same of two desks, of whatever kind, whose entries are alike for a drafter: where there was memory for it, both

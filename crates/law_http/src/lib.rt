@@ -24,6 +24,7 @@ mod route;
 mod status;
 mod streaming;
 mod target;
+mod telling;
 
 pub use asking::{Asking, TextAsked};
 pub use bytes::Bytes;

@@ -3,7 +3,7 @@
 ghost use Rattle.std.specs.Prelude.{◌≡◌, ◌≢◌, ◌↔◌, ◌||◌, IsTrue};
 ghost use Rattle.std.specs.Bool.{then_some};
 ghost use Rattle.law_http.specs.Streaming as stream;
-ghost use Rattle.law_http.specs.Turns as spec;
+ghost use Rattle.law_http.specs.ServedMembers as spec;
 ghost use Rattle.law_http.specs.declared.streaming.StreamEnd.TheVariants as ends;
 
 use crate::streaming::StreamEnd;
@@ -11,9 +11,9 @@ use crate::{HearFault, MessageRefusal, Response, put_response, refused_message};
 use desk_base::{Failed, Link};
 use std::alloc::Global;
 
-/// What came of a turn: how the stream ended, if it did, and whether the response said that the keeper failed.
+/// What came of a member of the stream: how the stream ended, if it did, and whether the response said that the keeper failed.
 #[derive(Clone, Copy)]
-pub(crate) struct Turn {
+pub(crate) struct MemberServed {
     pub(crate) end: Option<StreamEnd>,
     pub(crate) faulted: bool,
 }
@@ -38,10 +38,10 @@ fn end_after(put: Result<(), Failed>, end: Option<StreamEnd>) -> Option<StreamEn
 }
 
 /// How the stream ends behind a request, if it is closed after it.
-pub(crate) fn end_where(last: bool) -> Option<StreamEnd>
-    ensures { result ≡ then_some last ends.End }
+pub(crate) fn end_where(closes: bool) -> Option<StreamEnd>
+    ensures { result ≡ then_some closes ends.End }
 {
-    last.then_some(StreamEnd::End)
+    closes.then_some(StreamEnd::End)
 }
 
 /// Whether the response says that the keeper failed.

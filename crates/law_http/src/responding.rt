@@ -1,31 +1,24 @@
 //! Responding: what a desk answers to a request.
 
-ghost use Rattle.std.specs.Prelude.{◌≡◌, ◌≤◌, ◌+◌, true, None, List, Result, Ok, Err, length, vec_capacity};
+ghost use Rattle.std.specs.Prelude.{◌≡◌, ◌≤◌, ◌+◌, None, Result, Ok, Err, IfOk, length, vec_capacity};
 ghost use Rattle.law_register.specs.Answer.Answers.{Answers};
-ghost use Rattle.law_register.specs.Answer.Asking.{answer_at};
-ghost use Rattle.law_register.specs.Answer.PastAsking.{AreKeysAfter};
-ghost use Rattle.law_register.specs.Answer.Previews.{preview_at, previewing_at};
-ghost use Rattle.law_register.specs.Desk.Commands.{LeavesNoMore};
-ghost use Rattle.law_register.specs.Law.Spelling.{is_well_spelled};
-ghost use Rattle.law_register.specs.Register.Drafts.{draft_of};
-ghost use Rattle.law_register.specs.Register.LawList.{front};
 ghost use Rattle.law_register.specs.declared.answer.answer.Answer.{Answer as AnswerValue};
 ghost use Rattle.law_register.specs.declared.answer.queries.QueryRule.{QueryRule as RuleOfQuestion};
 ghost use Rattle.law_register.specs.declared.answer.queries.AskFault.TheVariants as ask;
-ghost use Rattle.law_http.specs.Asking.{IsSpelled, asking_of, question_at, question_previewed};
+ghost use Rattle.law_http.specs.Asking.{IsSpelled, asking_of};
 ghost use Rattle.law_http.specs.Responses.{Says, first_lines};
 ghost use Rattle.law_http.specs.Serving as spec;
-ghost use Rattle.law_http.specs.declared.asking.Asking.TheVariants as asks;
+ghost use Rattle.law_http.specs.Telling as telling;
 ghost use Rattle.law_http.specs.declared.response.Response.TheVariants.{MemoryFault};
 ghost use Rattle.law_http.specs.declared.status.Status.TheVariants as status;
+ghost use Rattle.law_http.specs.declared.telling.DeskTold.TheVariants as told;
 
 use crate::acknowledging::{acknowledged, begun, numbered};
-use crate::{Asking, PreviewAsked, Request, Response, Routes, Status, TextAsked, refused_request};
-use akn_json::{Asked, put_answer, put_draft, put_query_rule, put_rule};
-use desk_base::Steps;
-use law_register::{
-    Answer, AskFault, CommandFault, Desk, Draft, Drafter, QueryRule, Question, Reply, Rule,
-};
+use crate::telling::{DeskTold, tell};
+use crate::{Asking, Request, Response, Routes, Status, refused_request};
+use akn_json::{put_answer, put_draft, put_query_rule, put_rule};
+use desk_base::{Memory, Steps};
+use law_register::{Answer, AskFault, CommandFault, Desk, Draft, QueryRule, Reply, Rule};
 use std::alloc::Global;
 use std::sync::ledger::Ledger;
 
@@ -48,50 +41,50 @@ fn rule_status(rule: &Rule) -> Status
     }
 }
 
-fn front_response(alloc: Global, number: u32, last: bool) -> Response
-    ensures { Says (spec.front_reply last number) result }
+fn front_response(alloc: Global, number: u32, closes: bool) -> Response
+    ensures { Says (spec.front_reply closes number) result }
 {
-    match begun(alloc, Status::Ok, last) {
-        Ok(message) => numbered(message, Status::Ok, last, "{\"front\":", number),
+    match begun(alloc, Status::Ok, closes) {
+        Ok(message) => numbered(message, Status::Ok, closes, "{\"front\":", number),
         Err(_) => Response::MemoryFault,
     }
 }
 
-fn query_response(alloc: Global, rule: &QueryRule, last: bool) -> Response
-    ensures { Says (spec.query_reply last rule.now) result }
+fn query_response(alloc: Global, rule: &QueryRule, closes: bool) -> Response
+    ensures { Says (spec.query_reply closes rule.now) result }
 {
     match put_query_rule(alloc, rule) {
-        Ok(object) => Response::of(alloc, query_status(rule), None, last, object.as_slice()),
+        Ok(object) => Response::of(alloc, query_status(rule), None, closes, object.as_slice()),
         Err(_) => Response::MemoryFault,
     }
 }
 
-fn shown(alloc: Global, answer: &Answer, last: bool) -> Response
-    ensures { Says (spec.shown_reply last answer.now) result }
+fn shown(alloc: Global, answer: &Answer, closes: bool) -> Response
+    ensures { Says (spec.shown_reply closes answer.now) result }
 {
     match put_answer(alloc, answer) {
-        Ok(object) => Response::of(alloc, Status::Ok, None, last, object.as_slice()),
+        Ok(object) => Response::of(alloc, Status::Ok, None, closes, object.as_slice()),
         Err(_) => Response::MemoryFault,
     }
 }
 
-fn answer_response(alloc: Global, told: Result<Answer, AskFault>, last: bool) -> Response
+fn answer_response(alloc: Global, told: Result<Answer, AskFault>, closes: bool) -> Response
     ensures says { (answer : Result AnswerValue RuleOfQuestion) → Answers told answer
-        → Says (spec.answer_reply last answer) result }
+        → Says (spec.answer_reply closes answer) result }
     ensures memory { told ≡ Err ask.Memory → result ≡ MemoryFault }
 {
     match told {
-        Ok(answer) => shown(alloc, &answer, last),
-        Err(AskFault::Query(rule)) => query_response(alloc, &rule, last),
+        Ok(answer) => shown(alloc, &answer, closes),
+        Err(AskFault::Query(rule)) => query_response(alloc, &rule, closes),
         Err(AskFault::Memory) => Response::MemoryFault,
     }
 }
 
-fn rule_response(alloc: Global, rule: &Rule, last: bool) -> Response
-    ensures { Says (spec.rule_reply last rule.now) result }
+fn rule_response(alloc: Global, rule: &Rule, closes: bool) -> Response
+    ensures { Says (spec.rule_reply closes rule.now) result }
 {
     match put_rule(alloc, rule) {
-        Ok(object) => Response::of(alloc, rule_status(rule), None, last, object.as_slice()),
+        Ok(object) => Response::of(alloc, rule_status(rule), None, closes, object.as_slice()),
         Err(_) => Response::MemoryFault,
     }
 }
@@ -100,141 +93,90 @@ fn rule_response(alloc: Global, rule: &Rule, last: bool) -> Response
 fn outcome_response(
     alloc: Global,
     message: Vec<u8>,
-    last: bool,
+    closes: bool,
     done: Result<Reply, CommandFault>,
 ) -> Response
     requires room { length message.items + 160 ≤ vec_capacity message }
-    requires begun { message.items ≡ first_lines status.Created None last }
-    ensures { spec.SaysOutcome last done result }
+    requires begun { message.items ≡ first_lines status.Created None closes }
+    ensures { spec.SaysOutcome closes done result }
 {
     match done {
-        Ok(reply) => acknowledged(message, last, reply),
-        Err(CommandFault::Rule(rule)) => rule_response(alloc, &rule, last),
-        Err(CommandFault::KeeperFault) => Response::KeeperFault { last },
+        Ok(reply) => acknowledged(message, closes, reply),
+        Err(CommandFault::Rule(rule)) => rule_response(alloc, &rule, closes),
+        Err(CommandFault::KeeperFault) => Response::KeeperFault { closes },
         Err(CommandFault::Memory) => Response::MemoryFault,
     }
 }
 
-// The answer of a desk to a question, at its front or before it.
-fn answer_of<D: Desk, L: Ledger>(
-    alloc: Global,
-    desk: &mut D,
-    question: &Question,
-    steps: &mut Steps<L>,
-) -> Result<Answer, AskFault>
-    ensures answer { Answers result (answer_at (D.state desk.old).entries question.now) }
-    ensures same { D.state desk.new ≡ D.state desk.old }
-    ensures crash { LeavesNoMore (D.crashes desk.old) (D.crashes desk.new) }
-    ensures keys { AreKeysAfter result (D.past desk.old)
-        (spec.keys_answered (D.state desk.old).entries question.now (D.past desk.old)) (D.past desk.new) }
-    ensures steps { steps.new ≤ steps.old
-        + spec.answering_cost (D.state desk.old).entries question.now (D.past desk.old) }
-{
-    if question.viewpoint < desk.front() {
-        desk.ask_past(alloc, question, steps)
-    } else {
-        desk.ask(alloc, question)
-    }
-}
-
-fn text_response<D: Desk, L: Ledger>(
-    alloc: Global,
-    desk: &mut D,
-    text: TextAsked,
-    last: bool,
-    steps: &mut Steps<L>,
-) -> Response
-    ensures says { Says (spec.answer_reply last (answer_at (D.state desk.old).entries
-        (question_at (front (D.state desk.old).entries) text))) result }
-    ensures asks { spec.Asks D.state D.crashes D.past
-        (question_at (front (D.state desk.old).entries) text) desk.old desk.new result }
-    ensures steps { steps.new ≤ steps.old + spec.answering_cost (D.state desk.old).entries
-        (question_at (front (D.state desk.old).entries) text) (D.past desk.old) }
-{
-    let question = text.question(desk.front());
-    let told = answer_of(alloc, desk, &question, steps);
-    answer_response(alloc, told, last)
-}
-
-fn preview_response<D: Desk, L: Ledger>(
-    alloc: Global,
-    desk: &mut D,
-    preview: PreviewAsked,
-    last: bool,
-    steps: &mut Steps<L>,
-) -> Response
-    ensures says { Says (spec.answer_reply last (preview_at (D.state desk.old).entries preview.drafter
-        (question_previewed preview))) result }
-    ensures stays { spec.Stays D.state D.crashes D.past desk.old desk.new }
-    ensures steps { steps.new ≤ steps.old + previewing_at (D.state desk.old).entries preview.drafter
-        (question_previewed preview) }
-{
-    let (drafter, question) = preview.question();
-    let told = desk.preview(alloc, &drafter, &question, steps);
-    answer_response(alloc, told, last)
-}
-
-fn items_response(alloc: Global, draft: &Draft, last: bool) -> Response
-    ensures { Says (spec.draft_reply last draft.now) result }
+fn items_response(alloc: Global, draft: &Draft, closes: bool) -> Response
+    ensures { Says (spec.draft_reply closes draft.now) result }
 {
     match put_draft(alloc, draft) {
-        Ok(object) => Response::of(alloc, Status::Ok, None, last, object.as_slice()),
+        Ok(object) => Response::of(alloc, Status::Ok, None, closes, object.as_slice()),
         Err(_) => Response::MemoryFault,
     }
 }
 
-fn draft_response<D: Desk>(alloc: Global, desk: &mut D, drafter: Drafter, last: bool) -> Response
-    ensures says { Says (spec.draft_reply last (draft_of drafter (D.state desk.old).entries)) result }
-    ensures stays { spec.Stays D.state D.crashes D.past desk.old desk.new }
+fn draft_response(alloc: Global, listed: Result<Draft, Memory>, closes: bool) -> Response
+    ensures { telling.SaysTold closes (told.Draft listed) result }
 {
-    match desk.draft(alloc, &drafter) {
-        Ok(draft) => items_response(alloc, &draft, last),
+    match listed {
+        Ok(draft) => items_response(alloc, &draft, closes),
         Err(_) => Response::MemoryFault,
     }
 }
 
-// Makes the room for the response to a command that is accepted, and then has the command done.
-fn command_response<D: Desk, L: Ledger>(
+/// The room for the response to a command that is accepted, where one is asked for.
+pub(crate) fn room_for(
     alloc: Global,
-    desk: &mut D,
-    asked: Asked,
-    last: bool,
-    steps: &mut Steps<L>,
-) -> Response
-    requires { is_well_spelled asked.command ≡ true }
-    ensures { spec.ServesWithin D.state D.crashes D.past last (Ok (asks.Command asked)) desk.old desk.new result
-        steps.old steps.new }
+    asking: &Asking,
+    closes: bool,
+) -> Result<Option<Vec<u8>>, Memory>
+    ensures { IfOk result (telling.HasRoom asking.now closes) }
 {
-    let Ok(message) = begun(alloc, Status::Created, last) else {
-        return Response::MemoryFault;
-    };
-    let Asked {
-        drafter,
-        request,
-        command,
-    } = asked;
-    let done = desk.command(alloc, &drafter, request, command, steps);
-    outcome_response(alloc, message, last, done)
+    match asking {
+        Asking::Command(_) => Ok(Some(begun(alloc, Status::Created, closes)?)),
+        _ => Ok(None),
+    }
+}
+
+/// The response that says what a desk told, in the room that was made for it.
+pub(crate) fn response_of(
+    alloc: Global,
+    told: DeskTold,
+    room: Option<Vec<u8>>,
+    closes: bool,
+) -> Response
+    requires { telling.HasRoomFor told closes room }
+    ensures { telling.SaysTold closes told result }
+{
+    match told {
+        DeskTold::Front(number) => front_response(alloc, number, closes),
+        DeskTold::Answer(answer) => answer_response(alloc, answer, closes),
+        DeskTold::Draft(draft) => draft_response(alloc, draft, closes),
+        DeskTold::Outcome(done) => match room {
+            Some(message) => outcome_response(alloc, message, closes, done),
+            None => unreachable!(),
+        },
+    }
 }
 
 fn answered<D: Desk, L: Ledger>(
     alloc: Global,
     desk: &mut D,
     asking: Asking,
-    last: bool,
+    closes: bool,
     steps: &mut Steps<L>,
 ) -> Response
     requires { IsSpelled asking }
-    ensures { spec.ServesWithin D.state D.crashes D.past last (Ok asking) desk.old desk.new result
+    ensures { spec.ServesWithin D.state D.crashes D.past closes (Ok asking) desk.old desk.new result
         steps.old steps.new }
 {
-    match asking {
-        Asking::Front => front_response(alloc, desk.front(), last),
-        Asking::Text(text) => text_response(alloc, desk, text, last, steps),
-        Asking::Preview(preview) => preview_response(alloc, desk, preview, last, steps),
-        Asking::Draft(drafter) => draft_response(alloc, desk, drafter, last),
-        Asking::Command(asked) => command_response(alloc, desk, asked, last, steps),
-    }
+    let Ok(room) = room_for(alloc, &asking, closes) else {
+        return Response::MemoryFault;
+    };
+    let told = tell(alloc, desk, asking, steps);
+    response_of(alloc, told, room, closes)
 }
 
 /// The response of a desk to a request, as `respond` gives it, by paths that were made before. `None`: there was not enough
@@ -246,15 +188,12 @@ pub(crate) fn respond_by<D: Desk, L: Ledger>(
     request: &Request,
     steps: &mut Steps<L>,
 ) -> Response
-    ensures { spec.ServesWithin D.state D.crashes D.past request.now.last (asking_of request.now) desk.old desk.new result
+    ensures { spec.ServesWithin D.state D.crashes D.past request.now.closes (asking_of request.now) desk.old desk.new result
         steps.old steps.new }
 {
-    let Some(routes) = routes else {
-        return Response::MemoryFault;
-    };
-    match request.asking(alloc, routes) {
-        Ok(Ok(asking)) => answered(alloc, desk, asking, request.last, steps),
-        Ok(Err(refusal)) => refused_request(alloc, refusal, request.last),
+    match request.asking_by(alloc, routes) {
+        Ok(Ok(asking)) => answered(alloc, desk, asking, request.closes, steps),
+        Ok(Err(refusal)) => refused_request(alloc, refusal, request.closes),
         Err(_) => Response::MemoryFault,
     }
 }
@@ -267,7 +206,7 @@ pub fn respond<D: Desk, L: Ledger>(
     request: &Request,
     steps: &mut Steps<L>,
 ) -> Response
-    ensures { spec.ServesWithin D.state D.crashes D.past request.now.last (asking_of request.now) desk.old desk.new result
+    ensures { spec.ServesWithin D.state D.crashes D.past request.now.closes (asking_of request.now) desk.old desk.new result
         steps.old steps.new }
 {
     let routes = Routes::new(alloc).ok();

@@ -20,31 +20,31 @@ const MEMORY_FAULT: &[u8] = b"HTTP/1.1 500 Internal Server Error\r\nConnection: 
 const KEEPER_FAULT: &[u8] = b"HTTP/1.1 503 Service Unavailable\r\n\
     Content-Length: 18\r\nContent-Type: application/json\r\n\r\n{\"fault\":\"keeper\"}";
 
-const LAST_KEEPER_FAULT: &[u8] = b"HTTP/1.1 503 Service Unavailable\r\nConnection: close\r\n\
+const CLOSING_KEEPER_FAULT: &[u8] = b"HTTP/1.1 503 Service Unavailable\r\nConnection: close\r\n\
     Content-Length: 18\r\nContent-Type: application/json\r\n\r\n{\"fault\":\"keeper\"}";
 
 /// A response (RFC 9110), laid out so that it is put by one call that takes no memory.
 #[derive(Debug, Drop)]
 pub enum Response {
     /// Its head and its body, and whether the stream is closed after it.
-    Made { message: Bytes, last: bool },
+    Made { message: Bytes, closes: bool },
     /// 500: there was not enough memory. The stream is closed.
     MemoryFault,
     /// 503: the keeper failed.
-    KeeperFault { last: bool },
+    KeeperFault { closes: bool },
 }
 
 pub(crate) fn put_first_lines(
     message: &mut Vec<u8>,
     status: Status,
     allow: Option<Allow>,
-    last: bool,
+    closes: bool,
 ) -> Result<(), Memory>
-    ensures { OnOk result (message.new.items ≡ message.old.items ++ spec.first_lines status allow last) }
+    ensures { OnOk result (message.new.items ≡ message.old.items ++ spec.first_lines status allow closes) }
 {
     message.extend_from_slice(status.line())?;
     put_field(message, allow_field(allow).as_bytes())?;
-    put_field(message, close_field(last).as_bytes())?;
+    put_field(message, close_field(closes).as_bytes())?;
     Ok(())
 }
 
@@ -68,10 +68,10 @@ fn allow_field(allow: Option<Allow>) -> &'static str
     }
 }
 
-fn close_field(last: bool) -> &'static str
-    ensures { result.now ≡ spec.close_field last }
+fn close_field(closes: bool) -> &'static str
+    ensures { result.now ≡ spec.close_field closes }
 {
-    if last { "Connection: close\r\n" } else { "" }
+    if closes { "Connection: close\r\n" } else { "" }
 }
 
 fn put_body_lines(message: &mut Vec<u8>, length: usize) -> Result<(), Memory>
@@ -87,14 +87,14 @@ fn laid_out(
     alloc: Global,
     status: Status,
     allow: Option<Allow>,
-    last: bool,
+    closes: bool,
     body: &[u8],
 ) -> Result<Bytes, Memory>
     ensures { IfOk result (λ message. message
-        ≡ spec.reply_bytes (spec.reply status allow last body.now)) }
+        ≡ spec.reply_bytes (spec.reply status allow closes body.now)) }
 {
     let mut message = Vec::with_capacity(alloc, ROOM)?;
-    put_first_lines(&mut message, status, allow, last)?;
+    put_first_lines(&mut message, status, allow, closes)?;
     put_body_lines(&mut message, body.len())?;
     message.extend_from_slice(body)?;
     Ok(Bytes::from_vec(message))
@@ -106,11 +106,11 @@ fn memory_fault() -> &'static [u8]
     MEMORY_FAULT
 }
 
-fn keeper_fault(last: bool) -> &'static [u8]
-    ensures { result.now ≡ spec.reply_bytes (spec.keeper_fault last) }
+fn keeper_fault(closes: bool) -> &'static [u8]
+    ensures { result.now ≡ spec.reply_bytes (spec.keeper_fault closes) }
 {
-    if last {
-        LAST_KEEPER_FAULT
+    if closes {
+        CLOSING_KEEPER_FAULT
     } else {
         KEEPER_FAULT
     }
@@ -118,30 +118,30 @@ fn keeper_fault(last: bool) -> &'static [u8]
 
 impl Response {
     /// A response with a status, the method that the path has where the request had another, and a body that is JSON;
-    /// `last` says whether the stream is closed after it. It is the fixed 500 where there is not enough memory.
+    /// `closes` says whether the stream is closed after it. It is the fixed 500 where there is not enough memory.
     pub fn of(
         alloc: Global,
         status: Status,
         allow: Option<Allow>,
-        last: bool,
+        closes: bool,
         body: &[u8],
     ) -> Response
-        ensures { spec.Says (spec.reply status allow last body.now) result }
+        ensures { spec.Says (spec.reply status allow closes body.now) result }
     {
-        match laid_out(alloc, status, allow, last, body) {
-            Ok(message) => Response::Made { message, last },
+        match laid_out(alloc, status, allow, closes, body) {
+            Ok(message) => Response::Made { message, closes },
             Err(_) => Response::MemoryFault,
         }
     }
 
     /// Whether the stream is closed after it.
-    pub fn is_last(&self) -> bool
-        ensures { result ≡ spec.is_last self.now }
+    pub fn is_closing(&self) -> bool
+        ensures { result ≡ spec.is_closing self.now }
     {
         match self {
-            Response::Made { last, .. } => *last,
+            Response::Made { closes, .. } => *closes,
             Response::MemoryFault => true,
-            Response::KeeperFault { last } => *last,
+            Response::KeeperFault { closes } => *closes,
         }
     }
 
@@ -152,7 +152,7 @@ impl Response {
         match self {
             Response::Made { message, .. } => message.as_slice(),
             Response::MemoryFault => memory_fault(),
-            Response::KeeperFault { last } => keeper_fault(*last),
+            Response::KeeperFault { closes } => keeper_fault(*closes),
         }
     }
 }
@@ -192,8 +192,8 @@ pub fn refused_message(alloc: Global, refusal: MessageRefusal) -> Response
 }
 
 /// The response to a request that gets no answer of the desk.
-pub fn refused_request(alloc: Global, refusal: RequestRefusal, last: bool) -> Response
-    ensures { spec.Says (request_reply refusal last) result }
+pub fn refused_request(alloc: Global, refusal: RequestRefusal, closes: bool) -> Response
+    ensures { spec.Says (request_reply refusal closes) result }
 {
     let (status, allow, object) = match refusal {
         RequestRefusal::NoRoute => (Status::NotFound, None, object_of(alloc, 6, "NoRoute")),
@@ -207,7 +207,7 @@ pub fn refused_request(alloc: Global, refusal: RequestRefusal, last: bool) -> Re
         }
     };
     match object {
-        Ok(object) => Response::of(alloc, status, allow, last, object.as_bytes()),
+        Ok(object) => Response::of(alloc, status, allow, closes, object.as_bytes()),
         Err(_) => Response::MemoryFault,
     }
 }

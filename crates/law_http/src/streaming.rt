@@ -4,9 +4,9 @@ ghost use Rattle.std.specs.Prelude.{◌≡◌, ◌≤◌, ◌+◌, ℕ, List, Op
 ghost use Rattle.std.specs.Io.KnownBytes.{prepend_known};
 ghost use Rattle.law_http.specs.Hearing.{IsHeardOf, Spends};
 ghost use Rattle.law_http.specs.Streaming as stream;
-ghost use Rattle.law_http.specs.Turns as spec;
+ghost use Rattle.law_http.specs.ServedMembers as spec;
 
-use crate::putting::{Turn, either, end_where, is_fault, leave, put_before, refuse};
+use crate::putting::{MemberServed, either, end_where, is_fault, leave, put_before, refuse};
 use crate::responding::respond_by;
 use crate::{Heard, MessageRefusal, Request, Rest, Routes, read_request};
 use desk_base::{Link, Steps};
@@ -45,22 +45,22 @@ fn answer<K: Link, D: Desk, L: Ledger>(
     desk: &mut D,
     request: &Request,
     steps: &mut Steps<L>,
-) -> Turn
-    ensures turn { (left rest over : Option (List ℕ)) → IsHeardOf left rest (Heard.Request request.now)
-        → spec.IsTurn (spec.ServesCounted D.state D.crashes D.past) left rest over (K.written link.old) (K.written link.new)
+) -> MemberServed
+    ensures served { (left rest over : Option (List ℕ)) → IsHeardOf left rest (Heard.Request request.now)
+        → spec.IsMemberServed (spec.ServesCounted D.state D.crashes D.past) left rest over (K.written link.old) (K.written link.new)
         (desk.old, steps.old) (desk.new, steps.new) result.faulted result.end }
-    ensures reads { spec.HasTurnCause stream.HasReadCause result.end
+    ensures reads { spec.HasMemberCause stream.HasReadCause result.end
         (K.read_faults link.old) (K.read_faults link.new) }
-    ensures writes { spec.HasTurnCause stream.HasWriteCause result.end
+    ensures writes { spec.HasMemberCause stream.HasWriteCause result.end
         (K.write_faults link.old) (K.write_faults link.new) }
     ensures left { K.left link.new ≡ K.left link.old }
     ensures room { K.room link.new ≡ K.room link.old }
     ensures origin { K.origin link.new ≡ K.origin link.old }
 {
     let response = respond_by(alloc, routes, desk, request, steps);
-    let end = put_before(link, &response, end_where(request.last));
+    let end = put_before(link, &response, end_where(request.closes));
     let faulted = is_fault(&response);
-    Turn { end, faulted }
+    MemberServed { end, faulted }
 }
 
 // What comes of a member of the stream.
@@ -71,14 +71,14 @@ fn act_on<K: Link, D: Desk, L: Ledger>(
     desk: &mut D,
     heard: &Heard,
     steps: &mut Steps<L>,
-) -> Turn
-    ensures turn { (left rest over : Option (List ℕ)) → IsHeardOf left rest heard.now
-        → spec.IsTurn (spec.ServesCounted D.state D.crashes D.past) left rest over (K.written link.old) (K.written link.new)
+) -> MemberServed
+    ensures served { (left rest over : Option (List ℕ)) → IsHeardOf left rest heard.now
+        → spec.IsMemberServed (spec.ServesCounted D.state D.crashes D.past) left rest over (K.written link.old) (K.written link.new)
         (desk.old, steps.old) (desk.new, steps.new) result.faulted result.end }
-    ensures spent { (before now : ℕ) → Spends before now heard.now → spec.SpendsTurn result.end before now }
-    ensures reads { spec.HasTurnCause stream.HasReadCause result.end
+    ensures spent { (before now : ℕ) → Spends before now heard.now → spec.SpendsMember result.end before now }
+    ensures reads { spec.HasMemberCause stream.HasReadCause result.end
         (K.read_faults link.old) (K.read_faults link.new) }
-    ensures writes { spec.HasTurnCause stream.HasWriteCause result.end
+    ensures writes { spec.HasMemberCause stream.HasWriteCause result.end
         (K.write_faults link.old) (K.write_faults link.new) }
     ensures left { K.left link.new ≡ K.left link.old }
     ensures room { K.room link.new ≡ K.room link.old }
@@ -86,39 +86,39 @@ fn act_on<K: Link, D: Desk, L: Ledger>(
 {
     match heard {
         Heard::Request(request) => answer(alloc, routes, link, desk, request, steps),
-        Heard::End => Turn {
+        Heard::End => MemberServed {
             end: Some(StreamEnd::End),
             faulted: false,
         },
-        Heard::Refused(refusal) => Turn {
+        Heard::Refused(refusal) => MemberServed {
             end: refuse(alloc, link, *refusal),
             faulted: false,
         },
     }
 }
 
-fn take_turn<K: Link, D: Desk, L: Ledger>(
+fn serve_member<K: Link, D: Desk, L: Ledger>(
     alloc: Global,
     routes: Option<&Routes>,
     link: &mut K,
     rest: &mut Rest,
     desk: &mut D,
     steps: &mut Steps<L>,
-) -> Turn
-    ensures turn { spec.IsTurn (spec.ServesCounted D.state D.crashes D.past)
+) -> MemberServed
+    ensures served { spec.IsMemberServed (spec.ServesCounted D.state D.crashes D.past)
         (prepend_known rest.old (K.left link.old)) (prepend_known rest.new (K.left link.new)) (K.left link.new)
         (K.written link.old) (K.written link.new) (desk.old, steps.old) (desk.new, steps.new) result.faulted result.end }
-    ensures spent { spec.SpendsTurn result.end
+    ensures spent { spec.SpendsMember result.end
         (length rest.old + K.room link.old) (length rest.new + K.room link.new) }
-    ensures reads { spec.HasTurnCause stream.HasReadCause result.end
+    ensures reads { spec.HasMemberCause stream.HasReadCause result.end
         (K.read_faults link.old) (K.read_faults link.new) }
-    ensures writes { spec.HasTurnCause stream.HasWriteCause result.end
+    ensures writes { spec.HasMemberCause stream.HasWriteCause result.end
         (K.write_faults link.old) (K.write_faults link.new) }
     ensures origin { K.origin link.new ≡ K.origin link.old }
 {
     match read_request(alloc, link, rest) {
         Ok(heard) => act_on(alloc, routes, link, desk, &heard, steps),
-        Err(fault) => Turn {
+        Err(fault) => MemberServed {
             end: leave(link, fault),
             faulted: false,
         },
@@ -145,10 +145,10 @@ pub fn serve_stream<K: Link, D: Desk, L: Ledger>(
     let routes = Routes::new(alloc).ok();
     let mut rest = Rest::new();
     let mut faulted = false;
-    'turns: loop {
-        let turn = take_turn(alloc, routes.as_ref(), link, &mut rest, desk, steps);
-        faulted = either(faulted, turn.faulted);
-        match turn.end {
+    'members: loop {
+        let member = serve_member(alloc, routes.as_ref(), link, &mut rest, desk, steps);
+        faulted = either(faulted, member.faulted);
+        match member.end {
             Some(end) => return Served { end, faulted },
             None => continue,
         }

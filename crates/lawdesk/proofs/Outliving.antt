@@ -88,24 +88,24 @@ module _ (all : List Exchange) where
       (follows, subst (SomeFaulted all) (sym same) faulted)
 
   -- after a command
-  owed_after : (asked : Asked) (last : Bool) (old new : Standing) (result : Result Reply CommandFault)
+  owed_after : (asked : Asked) (closes : Bool) (old new : Standing) (result : Result Reply CommandFault)
       (response : Response) → Ends asked.drafter asked.request asked.command old new result
-      → SaysOutcome last result response → IsOwed old.entries old.pending
+      → SaysOutcome closes result response → IsOwed old.entries old.pending
       → IfSome new.pending (MayFollow new.entries)
       → ((entry : Entry) → entry.drafter ≡ asked.drafter → entry.request ≡ asked.request
       → entry.command ≡ asked.command → fault_told response ≡ 1 → SomeFaulted all entry)
       → IsOwed new.entries new.pending
-  owed_after asked last old new (Ok reply) response ends says owed sound faulted =
+  owed_after asked closes old new (Ok reply) response ends says owed sound faulted =
       owed_none new.entries new.pending ends.pending
-  owed_after asked last old new (Err (fails.Rule rule)) response ends says owed sound faulted =
+  owed_after asked closes old new (Err (fails.Rule rule)) response ends says owed sound faulted =
       owed_none new.entries new.pending ends.pending
-  owed_after asked last old new (Err fails.KeeperFault) response (inl waits) says owed sound faulted =
+  owed_after asked closes old new (Err fails.KeeperFault) response (inl waits) says owed sound faulted =
       owed_same old new (waits.0).entries (waits.0).pending owed
-  owed_after asked last old new (Err fails.KeeperFault) response (inr is) says owed sound faulted =
+  owed_after asked closes old new (Err fails.KeeperFault) response (inr is) says owed sound faulted =
       owed_some new.entries new.pending _ is.pending sound (faulted _ refl refl refl (ap fault_told says))
-  owed_after asked last old new (Err fails.Memory) response (inl waits) says owed sound faulted =
+  owed_after asked closes old new (Err fails.Memory) response (inl waits) says owed sound faulted =
       owed_same old new waits.entries waits.pending owed
-  owed_after asked last old new (Err fails.Memory) response (inr idle) says owed sound faulted =
+  owed_after asked closes old new (Err fails.Memory) response (inr idle) says owed sound faulted =
       owed_none new.entries new.pending idle.pending
 
   -- what is found of entries that stand between the first and the last
@@ -172,7 +172,7 @@ module _ (all : List Exchange) where
 
     asking_on : (e : Exchange) (asking : Result Asking RequestRefusal) (old new : D) → asking_of e.request ≡ asking
         → ((entry : Entry) → IsFaulted e entry → SomeFaulted all entry)
-        → ServesAsking state crashes past e.request.last asking old new e.response → Stands old → StandsOn old new
+        → ServesAsking state crashes past e.request.closes asking old new e.response → Stands old → StandsOn old new
     asking_on e (Err refusal) old new is faulted serves stands = same_on old new (serves.0).same (serves.0).crash stands
     asking_on e (Ok asks.Front) old new is faulted serves stands = same_on old new (serves.0).same (serves.0).crash stands
     asking_on e (Ok (asks.Text text)) old new is faulted serves stands = same_on old new (serves.0).same (serves.0).crash stands
@@ -186,7 +186,7 @@ module _ (all : List Exchange) where
           stands = record {
             tells = run.tells;
             durable = does.durable run.tells;
-            owed = owed_after asked e.request.last (standing (state old)) (standing (state new)) done.0 e.response
+            owed = owed_after asked e.request.closes (standing (state old)) (standing (state new)) done.0 e.response
                 does.outcome done.2 stands.owed (does.sound).pending
                 (λ entry drafter request command told. faulted entry (record {
                   asked = asked;
@@ -220,7 +220,7 @@ module _ (all : List Exchange) where
         let more : Outlives state crashes all mid new =
         outlives es mid new served.2 (λ entry f. among entry (inr f)) on.stands in
         let first : BeginWith (state mid).entries (state old).entries =
-        asking_begin state crashes past e.request.last (asking_of e.request) old mid e.response served.1 in
+        asking_begin state crashes past e.request.closes (asking_of e.request) old mid e.response served.1 in
         let last : BeginWith (state new).entries (state mid).entries = served_begins state crashes past es mid new served.2 in
         let P : Found → Type 0 = IsKept (state old).entries (state new).entries all in
         then_runs P (crashes old) (crashes mid) (crashes new)

@@ -80,13 +80,13 @@ begin_ends drafter request command old new (Err fails.Memory) (inr done) =
     begin_settled old.entries old.pending new.entries done.begins.settles
 
 -- the count of faults is as it was where no response says that the keeper failed
-no_fault : (last : Bool) (result : Result Reply CommandFault) (response : Response) (before now : ℕ)
-    → SaysOutcome last result response → HasCommandCause before now result → fault_told response ≡ 0 → now ≡ before
-no_fault last (Ok reply) response before now says cause none = cause
-no_fault last (Err (fails.Rule rule)) response before now says cause none = cause
-no_fault last (Err fails.KeeperFault) response before now says cause none =
+no_fault : (closes : Bool) (result : Result Reply CommandFault) (response : Response) (before now : ℕ)
+    → SaysOutcome closes result response → HasCommandCause before now result → fault_told response ≡ 0 → now ≡ before
+no_fault closes (Ok reply) response before now says cause none = cause
+no_fault closes (Err (fails.Rule rule)) response before now says cause none = cause
+no_fault closes (Err fails.KeeperFault) response before now says cause none =
     let one : fault_told response ≡ 1 = ap fault_told says in absurd (omega arith)
-no_fault last (Err fails.Memory) response before now says cause none = cause
+no_fault closes (Err fails.Memory) response before now says cause none = cause
 
 module _ {D : Type 0} (state : D → DeskState) (crashes : D → Crashes Found) (past : D → List PastKey) where
   -- what comes of a desk in one answer
@@ -102,25 +102,25 @@ module _ {D : Type 0} (state : D → DeskState) (crashes : D → Crashes Found) 
     no_fault_told = λ none. ap (λ (s : DeskState). s.faults) same;
   }
 
-  asking_step : (last : Bool) (asking : Result Asking RequestRefusal) (old new : D) (response : Response)
-      → ServesAsking state crashes past last asking old new response → IsStep old new response
-  asking_step last (Err refusal) old new response serves = same_step old new response (serves.0).same
-  asking_step last (Ok asks.Front) old new response serves = same_step old new response (serves.0).same
-  asking_step last (Ok (asks.Text text)) old new response serves = same_step old new response (serves.0).same
-  asking_step last (Ok (asks.Preview preview)) old new response serves = same_step old new response (serves.0).same
-  asking_step last (Ok (asks.Draft drafter)) old new response serves = same_step old new response (serves.0).same
-  asking_step last (Ok (asks.Command asked)) old new response (inl nothing) = same_step old new response (nothing.0).same
-  asking_step last (Ok (asks.Command asked)) old new response (inr done) =
+  asking_step : (closes : Bool) (asking : Result Asking RequestRefusal) (old new : D) (response : Response)
+      → ServesAsking state crashes past closes asking old new response → IsStep old new response
+  asking_step closes (Err refusal) old new response serves = same_step old new response (serves.0).same
+  asking_step closes (Ok asks.Front) old new response serves = same_step old new response (serves.0).same
+  asking_step closes (Ok (asks.Text text)) old new response serves = same_step old new response (serves.0).same
+  asking_step closes (Ok (asks.Preview preview)) old new response serves = same_step old new response (serves.0).same
+  asking_step closes (Ok (asks.Draft drafter)) old new response serves = same_step old new response (serves.0).same
+  asking_step closes (Ok (asks.Command asked)) old new response (inl nothing) = same_step old new response (nothing.0).same
+  asking_step closes (Ok (asks.Command asked)) old new response (inr done) =
       let does : Does state crashes past asked old new done.0 = done.1 in
       record {
         begin = begin_ends asked.drafter asked.request asked.command _ _ done.0 does.outcome;
         origin = does.origin;
-        no_fault_told = λ none. no_fault last done.0 response _ _ done.2 does.cause none;
+        no_fault_told = λ none. no_fault closes done.0 response _ _ done.2 does.cause none;
       }
 
-  pub asking_begin : (last : Bool) (asking : Result Asking RequestRefusal) (old new : D) (response : Response)
-      → ServesAsking state crashes past last asking old new response → BeginWith (state new).entries (state old).entries
-  asking_begin last asking old new response serves = (asking_step last asking old new response serves).begin
+  pub asking_begin : (closes : Bool) (asking : Result Asking RequestRefusal) (old new : D) (response : Response)
+      → ServesAsking state crashes past closes asking old new response → BeginWith (state new).entries (state old).entries
+  asking_begin closes asking old new response serves = (asking_step closes asking old new response serves).begin
 
   -- and in all of them
   pub served_begins : (exchanges : List Exchange) (old new : D) → AreServed state crashes past exchanges old new
@@ -129,7 +129,7 @@ module _ {D : Type 0} (state : D → DeskState) (crashes : D → Crashes Found) 
       begin_same (state old).entries (state new).entries (ap (λ (d : D). (state d).entries) same)
   served_begins (e ∷ es) old new served =
       begin_then (state old).entries (state served.0).entries (state new).entries
-      (asking_step e.request.last (asking_of e.request) old served.0 e.response served.1).begin
+      (asking_step e.request.closes (asking_of e.request) old served.0 e.response served.1).begin
       (served_begins es served.0 new served.2)
 
   pub served_origin : (exchanges : List Exchange) (old new : D) → AreServed state crashes past exchanges old new
@@ -137,11 +137,11 @@ module _ {D : Type 0} (state : D → DeskState) (crashes : D → Crashes Found) 
   served_origin [] old new same = ap (λ (d : D). (state d).origin) same
   served_origin (e ∷ es) old new served =
       served_origin es served.0 new served.2
-      ∙ (asking_step e.request.last (asking_of e.request) old served.0 e.response served.1).origin
+      ∙ (asking_step e.request.closes (asking_of e.request) old served.0 e.response served.1).origin
 
   pub served_faults : (exchanges : List Exchange) (old new : D) → AreServed state crashes past exchanges old new
       → faults_told exchanges ≡ 0 → (state new).faults ≡ (state old).faults
   served_faults [] old new same none = ap (λ (d : D). (state d).faults) same
   served_faults (e ∷ es) old new served none =
       served_faults es served.0 new served.2 (omega arith)
-      ∙ (asking_step e.request.last (asking_of e.request) old served.0 e.response served.1).no_fault_told (omega arith)
+      ∙ (asking_step e.request.closes (asking_of e.request) old served.0 e.response served.1).no_fault_told (omega arith)

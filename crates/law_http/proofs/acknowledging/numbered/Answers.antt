@@ -7,8 +7,8 @@ use Rattle.law_http.proofs.acknowledging.numbered.Goals as goal
 
 pub returns : goal.returns
 returns c =
-    ap (λ message. Made message c.args.last) (c.from_vec.ensures
-    ∙ laid (first_lines c.args.status None c.args.last) c.args.key.now (decimal c.args.number) _ _ _ _ _ _
+    ap (λ message. Made message c.args.closes) (c.from_vec.ensures
+    ∙ laid (first_lines c.args.status None c.args.closes) c.args.key.now (decimal c.args.number) _ _ _ _ _ _
     (ap (λ digits. length c.args.key.now + length digits + 1) c.format-digits.ensures.text)
     c.requires.begun
     c.put_body_lines.ensures.items

@@ -1,14 +1,11 @@
 use Rattle.law_http.specs.Connections.{AnswersSeen, view_of}
-use Rattle.law_http.proofs.InTurn.{answered_at}
-use Rattle.law_http.proofs.Turning.{answered_by, reads_by, writes_by}
+use Rattle.law_http.proofs.ServedMembers.{answered_by, reads_by, writes_by}
 use Rattle.law_http.proofs.connection.answer.Goals as goal
 
-pub returns-clause-turn : goal.returns-clause-turn
-returns-clause-turn g c = λ left rest over first.
+pub returns-clause-served : goal.returns-clause-served
+returns-clause-served g c = λ left rest over first.
     answered_by AnswersSeen left rest over _ _ (view_of c.args.pass.now) (view_of c.answer_in_turn-response.new.pass) _ _ _
-    c.args.request.now c.answer_in_turn-response.result _ _ first
-    (answered_at g.D.Desk.state g.D.Desk.crashes g.D.Desk.past g.D.Held.history g.met.D.Desk.history_is c.args.request.now
-    (view_of c.args.pass.now) (view_of c.answer_in_turn-response.new.pass) c.answer_in_turn-response.result c.answer_in_turn-response.ensures.turn)
+    c.args.request.now c.answer_in_turn-response.result _ _ first c.answer_in_turn-response.ensures.answers
     c.put_before-end.ensures.puts c.end_where.ensures c.is_fault-faulted.ensures
 
 pub returns-clause-reads : goal.returns-clause-reads

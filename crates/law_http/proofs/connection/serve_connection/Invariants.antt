@@ -2,11 +2,11 @@
 use Rattle.std.proofs.Common.{◌≡◌, ◌≤◌, ◌+◌, length}
 use Rattle.std.specs.Io.KnownBytes.{prepend_known}
 use Rattle.law_http.specs.Connections.{AnswersSeen, StaysPass, view_of}
-use Rattle.law_http.specs.Turns.{GoesOn}
+use Rattle.law_http.specs.ServedMembers.{GoesOn}
 use Rattle.law_http.proofs.connection.serve_connection.Given as goal
 
-abbrev pub invariant-turns : goal.invariant-turns
-invariant-turns g l = record {
+abbrev pub invariant-members : goal.invariant-members
+invariant-members g l = record {
   goes_on : GoesOn AnswersSeen (g.K.Link.left l.fn.link) (prepend_known l.rest (g.K.Link.left l.link))
       (g.K.Link.written l.fn.link) (g.K.Link.written l.link) (view_of l.fn.pass) (view_of l.pass) l.faulted;
   pass : StaysPass l.fn.turns l.fn.pass l.pass;
@@ -16,5 +16,5 @@ invariant-turns g l = record {
   origin : g.K.Link.origin l.link ≡ g.K.Link.origin l.fn.link;
 }
 
-abbrev pub decreases-turns : goal.decreases-turns
-decreases-turns g l = length l.rest + g.K.Link.room l.link
+abbrev pub decreases-members : goal.decreases-members
+decreases-members g l = length l.rest + g.K.Link.room l.link

@@ -1,5 +1,5 @@
 use Rattle.std.proofs.Common.{◌∙◌, ap}
-use Rattle.law_http.specs.Turns.{end_after}
+use Rattle.law_http.specs.ServedMembers.{end_after}
 use Rattle.law_http.proofs.Said.{put_by}
 use Rattle.law_http.proofs.putting.put_before.Goals as goal
 

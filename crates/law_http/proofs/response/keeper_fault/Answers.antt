@@ -3,10 +3,10 @@ use Rattle.std.specs.Fmt.{digits}
 use Rattle.law_http.specs.Responses as spec
 use Rattle.law_http.proofs.response.keeper_fault.Goals as goal
 
-pub returns-then-last : goal.returns-then-last
+pub returns-then-closes : goal.returns-then-closes
 unfolding digits
-returns-then-last c = sym (ap (λ last. spec.reply_bytes (spec.keeper_fault last)) c.if-last.true)
+returns-then-closes c = sym (ap (λ closes. spec.reply_bytes (spec.keeper_fault closes)) c.if-closes.true)
 
-pub returns-else-last : goal.returns-else-last
+pub returns-else-closes : goal.returns-else-closes
 unfolding digits
-returns-else-last c = sym (ap (λ last. spec.reply_bytes (spec.keeper_fault last)) c.if-last.false)
+returns-else-closes c = sym (ap (λ closes. spec.reply_bytes (spec.keeper_fault closes)) c.if-closes.false)

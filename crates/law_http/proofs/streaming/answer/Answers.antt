@@ -1,9 +1,9 @@
-use Rattle.law_http.specs.Turns.{ServesCounted}
-use Rattle.law_http.proofs.Turning.{answered_by, reads_by, writes_by}
+use Rattle.law_http.specs.ServedMembers.{ServesCounted}
+use Rattle.law_http.proofs.ServedMembers.{answered_by, reads_by, writes_by}
 use Rattle.law_http.proofs.streaming.answer.Goals as goal
 
-pub returns-clause-turn : goal.returns-clause-turn
-returns-clause-turn g c = λ left rest over first.
+pub returns-clause-served : goal.returns-clause-served
+returns-clause-served g c = λ left rest over first.
     answered_by (ServesCounted g.D.Desk.state g.D.Desk.crashes g.D.Desk.past) left rest over _ _
     (c.args.desk.now, c.args.steps.now) (c.respond_by-response.new.desk, c.respond_by-response.new.steps) _ _ _
     c.args.request.now c.respond_by-response.result _ _ first c.respond_by-response.ensures

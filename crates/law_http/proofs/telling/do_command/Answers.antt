@@ -1,12 +1,13 @@
--- What the command did, and what is said of it.
-use Rattle.std.proofs.Common.{inr}
-use Rattle.law_http.proofs.responding.command_response.Goals as goal
+-- What the command did.
+use Rattle.std.proofs.Common.{refl}
+use Rattle.law_http.proofs.telling.do_command.Goals as goal
 
 pub returns : goal.returns
 returns g c =
-    let done = c.command-done.ensures in record {
-      serves = inr (
-        c.command-done.result,
+    let done = c.command.ensures in record {
+      tells = (
+        c.command.result,
+        refl,
         record {
           outcome = done.outcome.ends;
           marks = done.marks;
@@ -17,7 +18,6 @@ returns g c =
           origin = done.origin;
           keys = done.past;
         },
-        c.outcome_response.ensures,
       );
       within = done.outcome.within;
     }

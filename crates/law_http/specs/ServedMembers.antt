@@ -1,4 +1,4 @@
--- What a turn of a stream comes to, whatever answers its requests: one is answered and the stream goes on, or it ends.
+-- What a member of a stream comes to, whatever answers requests: one is answered and the stream goes on, or it ends.
 use Rattle.std.specs.Prelude.{◌≡◌, ◌≢◌, ◌⊎◌, ◌↔◌, ℕ, ◌≤◌, ◌<◌, ◌||◌, Bool, IsTrue, IsFalse, List, Option, None, Some, Result, Ok, Err}
 use Rattle.desk_base.specs.Crashes.{Crashes}
 use Rattle.desk_base.specs.Streams.{AppendsFront, risen}
@@ -25,9 +25,9 @@ use Rattle.law_http.specs.declared.streaming.StreamEnd.TheVariants as ends
 
 -- how a stream ends behind a response that is written, where it would end so: for want of memory after the fixed 500
 abbrev pub end_behind : Response → Option StreamEnd → Option StreamEnd
-end_behind (Made message last) end = end
+end_behind (Made message closes) end = end
 end_behind MemoryFault end = Some ends.Memory
-end_behind (KeeperFault last) end = end
+end_behind (KeeperFault closes) end = end
 
 -- the same where the write may have failed
 abbrev pub end_after : Result Unit Failed → Option StreamEnd → Option StreamEnd
@@ -67,15 +67,15 @@ Leaves before now faults.Memory count later result =
 abbrev pub with_fault : Bool → Served → Served
 with_fault told served = record { end = served.end; faulted = told || served.faulted }
 
--- the cause of an end, where a turn ends the stream; else a count is as it was
-abbrev pub HasTurnCause : (StreamEnd → ℕ → ℕ → Type 0) → Option StreamEnd → ℕ → ℕ → Type 0
-HasTurnCause cause None before now = now ≡ before
-HasTurnCause cause (Some end) before now = cause end before now
+-- the cause of an end, where a member ends the stream; else a count is as it was
+abbrev pub HasMemberCause : (StreamEnd → ℕ → ℕ → Type 0) → Option StreamEnd → ℕ → ℕ → Type 0
+HasMemberCause cause None before now = now ≡ before
+HasMemberCause cause (Some end) before now = cause end before now
 
--- a turn after which the stream goes on takes a byte at least
-abbrev pub SpendsTurn : Option StreamEnd → ℕ → ℕ → Type 0
-SpendsTurn None before now = now < before
-SpendsTurn (Some end) before now = now ≤ before
+-- a member after which the stream goes on takes a byte at least
+abbrev pub SpendsMember : Option StreamEnd → ℕ → ℕ → Type 0
+SpendsMember None before now = now < before
+SpendsMember (Some end) before now = now ≤ before
 
 module _ {S : Type 0} (answers : Request → S → S → Response → Type 0) where
   -- a request that does not close the stream is answered
@@ -83,17 +83,17 @@ module _ {S : Type 0} (answers : Request → S → S → Response → Type 0) wh
     pub request : Request
     pub response : Response
     pub heard : IsHeardOf left rest (heard.Request request)
-    pub goes_on : IsFalse request.last
+    pub goes_on : IsFalse request.closes
     pub answered : answers request old new response
     pub had_memory : response ≢ MemoryFault
     pub written : AppendsAll before now (response_bytes response)
     pub faulted : IsTrue told ↔ (fault_told response ≢ 0)
 
-  -- a turn is taken, behind which the link has these bytes over
-  abbrev pub IsTurn : Option (List ℕ) → Option (List ℕ) → Option (List ℕ) → Option (List ℕ) → Option (List ℕ) → S → S
+  -- a member is served, behind which the link has these bytes over
+  abbrev pub IsMemberServed : Option (List ℕ) → Option (List ℕ) → Option (List ℕ) → Option (List ℕ) → Option (List ℕ) → S → S
       → Bool → Option StreamEnd → Type 0
-  IsTurn left rest over before now old new told None = IsExchanged left rest before now old new told
-  IsTurn left rest over before now old new told (Some end) =
+  IsMemberServed left rest over before now old new told None = IsExchanged left rest before now old new told
+  IsMemberServed left rest over before now old new told (Some end) =
       IsServed answers left over before now old new (record { end = end; faulted = told })
 
   -- whatever is served from here on is served from the start
@@ -107,4 +107,4 @@ module _ {D : Type 0} (state : D → DeskState) (crashes : D → Crashes Found) 
   -- a request is answered by a response, the desk goes from the one to the other, and so many steps were taken before it, and after
   abbrev pub ServesCounted : Request → D × ℕ → D × ℕ → Response → Type 0
   ServesCounted request old new response =
-      ServesWithin state crashes past request.last (asking_of request) old.0 new.0 response old.1 new.1
+      ServesWithin state crashes past request.closes (asking_of request) old.0 new.0 response old.1 new.1
