@@ -120,8 +120,7 @@ impl Tree {
     ghost use Rattle.std.specs.Prelude.{◌↔◌, [], ◌∷◌, drop};
     ghost use Rattle.act_tree.specs.Changes.{found, root_wid};
 
-    /// The tree of an act as enacted: the wId of each provision is the eId that it has there. `Err`: the first fault,
-    /// or want of memory.
+    /// The tree of an act as enacted: a provision's wId is its eId there. `Err`: the first fault, or want of memory.
     pub fn build(
         alloc: Global,
         body: &Nodes,
@@ -251,8 +250,7 @@ impl Tree {
         self.count_change();
     }
 
-    /// Gives nodes that are not the root other nums, each the first that pairs name for it. It is one change, and needs
-    /// no memory.
+    /// Gives nodes that are not the root other nums, the first that pairs name for it: one change, without memory.
     pub fn set_nums<L: Ledger>(&mut self, pairs: &[(NodeId, Num)], steps: &mut Steps<L>)
         requires nodes { All (λ pair. has_node self.old pair.0 ≡ true) pairs.now }
         requires provisions { All (λ pair. pair.0 ≡ 0 → ⊥) pairs.now }
@@ -378,8 +376,7 @@ impl Tree {
         self.of_levels(&levels)
     }
 
-    /// How many provisions were laid down, the root and those that were taken away included: each node's number is less.
-    /// Nothing is counted for it.
+    /// How many provisions were laid down, the root and those taken away included: each node's number is less.
     #[tactic(auto, unfolding(crate::specs::Seen::laid_down))]
     pub fn laid_down(&self) -> usize
         ensures count { result ≡ laid_down self.now }
@@ -388,8 +385,7 @@ impl Tree {
         self.arena.slots.len()
     }
 
-    /// How many provisions stand on the way from the root down to a node, itself included; none for the root. It is as
-    /// many steps as the node is deep.
+    /// How many provisions stand on the way from the root down to a node, itself included: as many steps.
     #[tactic(auto, using(crate::proofs::HowDeep::depth_is), unfolding(crate::specs::Seen::has_node))]
     pub fn depth(&self, id: NodeId) -> u32
         requires { has_node self.now id ≡ true }
