@@ -138,6 +138,21 @@ def bytewise(connection, given):
         return received(connection)
 
 
+def refused_amid_a_body():
+    """A body that is too long is refused before it comes. Who sends all of it all the same, in pieces, has the response whole and the end behind it."""
+    given = head("POST /commands HTTP/1.1", "Host: a", "Content-Length: 12582912")
+    with desk(2) as served:
+        for size in (1 << 10, 1 << 16):
+            connection, left = served.connected(), 12 << 20
+            with connection:
+                connection.sendall(given)
+                while left:
+                    left -= connection.send(bytes(min(size, left)))
+                half_closed(connection)
+                check(f"a body that is too long, in pieces of {size} bytes", received(connection), (closed(4), True))
+        check("the end behind bodies that are too long", served.ended(), (0, b"front 0\n"))
+
+
 def refusal_rows():
     """What is refused, and what just is not, each on a connection of its own to one desk; behind it stands a request, which is answered where the
     stream goes on. A client that is still sending when the stream is closed may find its connection broken, but never anything else."""

@@ -12,4 +12,4 @@ mod tests;
 pub use gate::Gate;
 pub use list_gate::ListGate;
 pub use tcp_gate::{MOST_SILENT_SECONDS, TcpGate};
-pub use tcp_link::TcpLink;
+pub use tcp_link::{MOST_READS_BEHIND, MOST_SECONDS_BEHIND, TcpLink};

@@ -110,9 +110,8 @@ impl<'a, R: Net> Gate for TcpGate<'a, R> {
         }
     }
 
-    // The connection is closed where it is let go.
     fn done(&mut self, conn: TcpLink<R::Stream>) {
-        drop(conn);
+        conn.close();
         self.taken += 1;
     }
 

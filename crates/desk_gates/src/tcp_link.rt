@@ -4,6 +4,14 @@ ghost use Rattle.std.specs.Prelude.{◌≡◌, ◌-◌, ◌^◌, [], None};
 
 use desk_base::{Failed, Link, count_fault};
 use std::io::{Read, Write};
+use std::net::{OpenStream, Shutdown};
+use std::time::Duration;
+
+/// For how many seconds nothing may come of what a peer still sends when its connection is ended.
+pub const MOST_SECONDS_BEHIND: u64 = 2;
+
+/// How many reads, each of at most 16,384 bytes, take what a peer still sends when its connection is ended.
+pub const MOST_READS_BEHIND: u32 = 16_384;
 
 /// A stream that is read and written, as a link.
 ///
@@ -28,6 +36,39 @@ impl<S: Read + Write> TcpLink<S> {
             room: u64::MAX,
             read_faults: 0,
             write_faults: 0,
+        }
+    }
+}
+
+impl<S: Read + Write + OpenStream + Drop> TcpLink<S> {
+    /// Ends the connection in stages, as RFC 9112 advises (section 9.6): nothing more is written, and what the peer still
+    /// sends is read and let go before the connection is closed, up to 16,384 pieces of it and to 2 seconds in which
+    /// nothing comes. Were it closed at once, this machine would break it, and the peer might lose the last response.
+    /// After a fault it is closed at once.
+    pub(crate) fn close(self) {
+        let TcpLink {
+            mut stream,
+            read_faults,
+            write_faults,
+            ..
+        } = self;
+        if read_faults > 0 || write_faults > 0 {
+            return;
+        }
+        let wait = Some(Duration::from_secs(MOST_SECONDS_BEHIND));
+        if stream.shutdown(Shutdown::Write).is_ok() && stream.set_read_timeout(wait).is_ok() {
+            let_go(&mut stream);
+        }
+    }
+}
+
+// Reads to the end, and keeps nothing of it.
+fn let_go<S: Read>(stream: &mut S) {
+    let mut bytes = [0; 16_384];
+    for _ in 0..MOST_READS_BEHIND {
+        match stream.read(&mut bytes) {
+            Ok(0) | Err(_) => return,
+            Ok(_) => (),
         }
     }
 }
