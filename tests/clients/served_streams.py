@@ -145,11 +145,15 @@ def refused_amid_a_body():
         for size in (1 << 10, 1 << 16):
             connection, left = served.connected(), 12 << 20
             with connection:
-                connection.sendall(given)
-                while left:
-                    left -= connection.send(bytes(min(size, left)))
-                half_closed(connection)
-                check(f"a body that is too long, in pieces of {size} bytes", received(connection), (closed(4), True))
+                try:
+                    connection.sendall(given)
+                    while left:
+                        left -= connection.send(bytes(min(size, left)))
+                    half_closed(connection)
+                    got = received(connection)
+                except ConnectionError as broken:
+                    got = str(broken), left
+                check(f"a body that is too long, in pieces of {size} bytes", got, (closed(4), True))
         check("the end behind bodies that are too long", served.ended(), (0, b"front 0\n"))
 
 
