@@ -11,6 +11,7 @@ import random
 import re
 import subprocess
 import tempfile
+import time
 
 import checks
 from checks import check
@@ -235,27 +236,39 @@ def disks():
 
 
 def images_of_disks():
-    """What a crash may leave at each moment of a run of which a call on the journal fails, alone or with all behind it, over the three requests: each
-    image is opened and has each entry whose 201 was written, perhaps one more."""
-    whole_run, draw, seen = recorded(rows=mixed.THREE), random.Random(0), set()
+    """What a crash may leave at each moment of a run of which a call on the journal fails, alone or with all behind it: each image is opened and has
+    each entry whose 201 was written, perhaps one more. Over the three requests each run and each moment; over the commands of the stream some that
+    are drawn."""
+    seed = time.time_ns() % 1_000_000_000
+    commands = [row for row in mixed.MIXED if row[0].startswith(b"POST /commands ")]
+    with concurrent.futures.ThreadPoolExecutor(os.cpu_count()) as pool:
+        for what, rows, most in (("three requests", mixed.THREE, None), (f"{len(commands)} commands", commands, 48)):
+            count = images_of_runs(pool, f"{what}, of seed {seed},", rows, random.Random(seed), most)
+            print(f"{count} images of journals on which a call failed, {what}, seed {seed}")
+
+
+def images_of_runs(pool, what, rows, draw, most):
+    """The images of each run over these requests, or of so many and at some of their moments; how many they are."""
+    whole_run, seen = recorded(rows=rows), set()
     *_, (last, _) = torn_journals.moments(whole_run)
     calls = of_the_journal(whole_run)
     runs = [(place, later) for place in range(len(calls)) for later in (False, True)]
+    runs = draw.sample(runs, min(most, len(runs))) if most else runs
 
     def new_images(found):
         """The images of a run that no other run has left, with how many requests were answered by then."""
-        for file, answered in torn_journals.moments(found):
+        moments = list(torn_journals.moments(found))
+        for file, answered in draw.sample(moments, min(len(moments), 6)) if most else moments:
             for image in torn_journals.images(file, draw, 1):
                 if (image, answered) not in seen:
                     seen.add((image, answered))
                     yield image, answered
 
-    with concurrent.futures.ThreadPoolExecutor(os.cpu_count()) as pool:
-        for (place, later), found in zip(runs, pool.map(lambda run: recorded(*injected(calls, *run), rows=mixed.THREE), runs)):
-            wrong = pool.map(lambda made: torn_journals.fault_of(*made, last.seen, mixed.THREE), list(new_images(found)))
-            check(f"images where call {place + 1} on the journal, {calls[place].name}, fails" + " and all behind it" * later,
-                  [fault for fault in wrong if fault][:2], [])
-    print(f"{len(seen)} images of journals on which a call failed")
+    for (place, later), found in zip(runs, pool.map(lambda run: recorded(*injected(calls, *run), rows=rows), runs)):
+        wrong = pool.map(lambda made: torn_journals.fault_of(*made, last.seen, rows), list(new_images(found)))
+        check(f"{what} images where call {place + 1} on the journal, {calls[place].name}, fails" + " and all behind it" * later,
+              [fault for fault in wrong if fault][:2], [])
+    return len(seen)
 
 
 def calls_of_a_form(words, begun):
