@@ -198,7 +198,7 @@ def changed_request(r, given, values):
 
 
 def stream_of(r, known, values, most):
-    """Requests of which each other one was changed, up to one behind which nothing is heard; and how many were changed."""
+    """Requests of which each other one was changed, so many at most, up to one behind which nothing is heard."""
     stream, count = histories.ENACTED_ALONE, 0
     while count < most:
         stream += r.choice(known)
@@ -206,7 +206,7 @@ def stream_of(r, known, values, most):
         stream, count = stream + given, count + 1
         if closes(given):
             break
-    return stream, count
+    return stream
 
 
 def closes(given):
@@ -216,14 +216,13 @@ def closes(given):
 
 
 def of_streams(place, seed, count):
-    """Runs over streams of requests that were changed."""
-    r, wrong, slowest, ends, left = random.Random(seed), [], (0,), collections.Counter(), count
+    """Runs over streams of requests, so many, of which some were changed."""
+    r, wrong, slowest, ends = random.Random(seed), [], (0,), collections.Counter()
     known, values = requests_known()
     with measured_runs.runner(place, ["batch"]) as runner:
         plain = runner.run(b"".join(known))
-        while left > 0:
-            stream, changes = stream_of(r, known, values, min(left, 25))
-            left -= changes
+        for _ in range(count):
+            stream = stream_of(r, known, values, r.choice([1, 2, 4, 25]))
             run = runner.run(stream)
             ends[run.status] += 1
             found = requests_heard.fault_of(stream, run.status, run.written) or (run.said or None)
@@ -237,13 +236,13 @@ def of_streams(place, seed, count):
 
 
 def mutated(times=1, seed=None):
-    """So many times two thousand dossiers and twenty thousand requests."""
+    """So many times two thousand dossiers and twenty thousand streams of requests."""
     seed = time.time_ns() % 1_000_000_000 if seed is None else seed
     with measured_runs.tools() as place, concurrent.futures.ProcessPoolExecutor(os.cpu_count()) as pool:
         if place is None:
             checks.skip("inputs that were changed, and what they take", measured_runs.NO_CC)
             return
-        for what, made, count in (("dossiers", of_dossiers, DOSSIERS * times), ("requests", of_streams, STREAMS * times)):
+        for what, made, count in (("dossiers", of_dossiers, DOSSIERS * times), ("streams", of_streams, STREAMS * times)):
             parts = 2 * os.cpu_count()
             seeds = [seed * 1000 + part for part in range(parts)]
             wrong, slowest, ends = zip(*pool.map(made, [place] * parts, seeds, [-(-count // parts)] * parts))
