@@ -4,10 +4,12 @@ answered 500 has put nothing there."""
 import concurrent.futures
 import itertools
 import os
+import socket
 
 import checks
 from checks import SAID, check
 from clients.messages import closed
+from clients.served_desks import HOST
 from devices import measured_runs
 from devices.failing_calls import whole_journal
 from devices.measured_runs import KEEPER, SINK, SOURCE
@@ -19,7 +21,7 @@ from models.journal_openings import entered, entries, payloads, undated
 from rows import dossiers, histories, mixed
 from rows.register import ONE
 
-POINTS = 5_000
+POINTS, COUNTED = 5_000, ("text", "check", "batch", "report")
 SENT = 12
 WORKERS = os.cpu_count()
 
@@ -79,6 +81,14 @@ class Opened(Form):
         return run[:4] if run[:3] not in wanted or payloads(run.kept or b"") != [] else None
 
 
+class Unheard(Form):
+    """Connections that are to come in at a port that another socket has: the line at the end may be written where there is not enough memory."""
+
+    def fault_of(self, run):
+        wanted = [self.whole] + [(7, line, SAID[7]) for line in (b"", self.whole[1])] * run.met
+        return run[:4] if run[:3] not in wanted or payloads(run.kept or b"") != [] else None
+
+
 class Exported(Form):
     """The frames of a register: where there is not enough memory, the first of them may be written."""
 
@@ -98,7 +108,8 @@ class Followed(Form):
         return None if allowed else (*run[:3], left and len(left))
 
 
-def forms():
+def forms(port):
+    """Each form, with the status of a run that has all its memory; another socket has the port."""
     file = whole_journal()
     damaged = journal(failing_keepers.EXAMPLE)
     return {
@@ -117,6 +128,7 @@ def forms():
                    (9, Form(["report", "lifecycle", ONE + "0"], begun=file)), (5, Form(["report", "lifecycle", ONE], failing=KEEPER))],
         "export": [(0, Exported(["export", "0"], begun=journal(*LONG)))],
         "follow": [(0, Followed(["follow"], framed(LONG[:SENT])))],
+        "serve": [(8, Unheard(["serve", str(port), "1"]))],
         "words": [(2, Form(["text", "2011-01-32"])), (0, Form(["generate", "0", "3"]))],
     }
 
@@ -144,12 +156,13 @@ def each_in_turn(place, form, first):
 
 def allocations():
     """Each allocation of each form; at least five thousand of `text`, `check`, `batch` and `report`."""
-    with measured_runs.tools() as place, concurrent.futures.ThreadPoolExecutor(WORKERS) as pool:
+    with (measured_runs.tools() as place, concurrent.futures.ThreadPoolExecutor(WORKERS) as pool,
+          socket.create_server((HOST, 0)) as other):
         if place is None:
             checks.skip("allocations that are refused in turn", measured_runs.NO_CC)
             return
         counts = {}
-        for name, rows in forms().items():
+        for name, rows in forms(other.getsockname()[1]).items():
             for status, form in rows:
                 with measured_runs.runner(place, form.words) as runner:
                     form.whole = form.run(runner)[:3]
@@ -159,4 +172,4 @@ def allocations():
                 wrong = sorted(sum(wrong, []))
                 check(f"{form.words} with an allocation refused: how many are wrong, and the first", (len(wrong), wrong[:1]), (0, []))
         print("allocations refused: " + ", ".join(f"{name} {count}" for name, count in counts.items()))
-        check(f"at least {POINTS} allocations", sum(count for name, count in counts.items() if name != "words") >= POINTS, True)
+        check(f"at least {POINTS} allocations", sum(count for name, count in counts.items() if name in COUNTED) >= POINTS, True)
