@@ -25,3 +25,4 @@ pub mod Said
 pub mod SaidHeads
 pub mod ServedMembers
 pub mod ToldWithin
+pub mod WithPieces

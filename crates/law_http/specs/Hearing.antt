@@ -1,5 +1,5 @@
 -- What is heard of a stream, cut from the whole list of its bytes: requests, and what is no request.
-use Rattle.std.specs.Prelude.{◌≡◌, ℕ, ◌+◌, ◌<◌, ◌≤◌, nat_le, IsTrue, IsFalse, List, [], ◌∷◌, length, take, drop, Option, None, Some, Result, Ok, Err, if◌then◌else◌, ⊤}
+use Rattle.std.specs.Prelude.{◌≡◌, ℕ, ◌+◌, ◌<◌, ◌≤◌, nat_le, IsTrue, IsFalse, List, [], ◌∷◌, ◌++◌, length, take, drop, Option, None, Some, Result, Ok, Err, if◌then◌else◌, ⊤}
 use Rattle.law_http.specs.Cutting.{after_empty_lines, head_length}
 use Rattle.std.specs.Io.KnownBytes.{prepend_known}
 use Rattle.law_http.specs.Heads.{IsSaid}
@@ -68,6 +68,17 @@ HearsBody n bytes left now later heard =
 -- what is heard first of bytes that were read and of those that a link has left, before and after
 abbrev pub Hears : List ℕ → Option (List ℕ) → List ℕ → Option (List ℕ) → Heard → Type 0
 Hears rest left now later heard = IsHeardOf (prepend_known rest left) (prepend_known now later) heard
+
+-- this is heard first of the bytes that were read and of a piece that was read behind them, and the others are behind it; so it is of
+-- a link that does not tell, too
+pub record HearsWithPiece (old new : List ℕ) (heard : Heard) : Type 0 where
+  pub piece : List ℕ
+  pub is_first : IsFirstHeard (old ++ piece) heard new
+
+-- the same of what a head of n bytes says
+pub record HearsBodyWithPiece (n : ℕ) (old new : List ℕ) (heard : Heard) : Type 0 where
+  pub piece : List ℕ
+  pub is_heard : IsBodyHeard n (take n old) (Some (old ++ piece)) (Some new) heard
 
 -- a request takes a byte at least
 abbrev pub Spends : ℕ → ℕ → Heard → Type 0

@@ -24,6 +24,12 @@ KeepsBytes bytes left now later = Keeps (prepend_known bytes left) (prepend_know
 abbrev pub KeepsStream : List ℕ → Option (List ℕ) → List ℕ → Option (List ℕ) → Type 0
 KeepsStream bytes left now later = KeepsRequest (prepend_known bytes left) (prepend_known now later)
 
+-- the bytes that were read stay, with a piece that was read behind them, but for empty lines where a request would begin; so it is
+-- of a link that does not tell, too
+pub record KeepsWithPiece (old new : List ℕ) : Type 0 where
+  pub piece : List ℕ
+  pub kept : after_empty_lines new ≡ after_empty_lines (old ++ piece)
+
 -- the bytes begin where the request does, and say of its head what the whole stream says
 pub record IsReadyFor (bytes left : List ℕ) : Type 0 where
   pub begins : after_empty_lines (bytes ++ left) ≡ bytes ++ left

@@ -3,7 +3,7 @@
 ghost use Rattle.std.specs.Prelude.{◌≡◌, ◌≤◌, ◌<◌, ◌+◌, ◌^◌, max, length, drop, Ok, IfOk, OnErr};
 ghost use Rattle.law_http.specs.Cutting.{after_empty_lines, head_length};
 ghost use Rattle.law_http.specs.Hearing as spec;
-ghost use Rattle.law_http.specs.Streams.{HasHearCause, KeepsBytes, KeepsStream};
+ghost use Rattle.law_http.specs.Streams.{HasHearCause, KeepsBytes, KeepsStream, KeepsWithPiece};
 
 use crate::buffer::Buffer;
 use crate::cutting::MAX_HEAD;
@@ -44,6 +44,7 @@ fn take_request(
 }
 
 // What is heard where a head of so many bytes stands in front.
+#[tactic(auto, using(crate::proofs::WithPieces::head_refused, crate::proofs::WithPieces::front_kept, crate::proofs::WithPieces::same_kept))]
 fn hear_body<L: Link>(
     alloc: Global,
     link: &mut L,
@@ -57,8 +58,10 @@ fn hear_body<L: Link>(
     requires found { head_length bytes.old ≡ Ok head }
     ensures heard { IfOk result
         (spec.HearsBody head bytes.old (L.left link.old) bytes.new (L.left link.new)) }
+    ensures heard_of_own { IfOk result (spec.HearsBodyWithPiece head bytes.old bytes.new) }
     ensures unheard { spec.HeldNoRequest result bytes.new }
     ensures kept { OnErr result (KeepsBytes bytes.old (L.left link.old) bytes.new (L.left link.new)) }
+    ensures kept_own { OnErr result (KeepsWithPiece bytes.old bytes.new) }
     ensures spent { IfOk result
         (spec.Spends (length bytes.old + L.room link.old) (length bytes.new + L.room link.new)) }
     ensures taken { length bytes.new + L.room link.new ≤ length bytes.old + L.room link.old }
@@ -77,10 +80,13 @@ fn hear_body<L: Link>(
 }
 
 // What is heard of bytes that were read, and of those that a link has left.
+#[tactic(auto, using(crate::proofs::WithPieces::end_with_piece))]
 fn hear<L: Link>(alloc: Global, link: &mut L, bytes: &mut Buffer) -> Result<Heard, HearFault>
     ensures heard { IfOk result (spec.Hears bytes.old (L.left link.old) bytes.new (L.left link.new)) }
+    ensures heard_of_own { IfOk result (spec.HearsWithPiece bytes.old bytes.new) }
     ensures unheard { spec.HeldNoRequest result bytes.new }
     ensures kept { OnErr result (KeepsStream bytes.old (L.left link.old) bytes.new (L.left link.new)) }
+    ensures kept_own { OnErr result (KeepsWithPiece bytes.old bytes.new) }
     ensures spent { IfOk result
         (spec.Spends (length bytes.old + L.room link.old) (length bytes.new + L.room link.new)) }
     ensures taken { length bytes.new + L.room link.new ≤ length bytes.old + L.room link.old }
@@ -114,6 +120,10 @@ pub fn read_request<L: Link>(
     ensures heard { IfOk result (spec.Hears rest.old (L.left link.old) rest.new (L.left link.new)) }
     ensures unheard { spec.HeldNoRequest result rest.new }
     ensures kept { OnErr result (KeepsStream rest.old (L.left link.old) rest.new (L.left link.new)) }
+
+    // The bytes of a rest are its own: what is said of them holds of a link that does not tell what it has left, too.
+    ensures heard_of_own { IfOk result (spec.HearsWithPiece rest.old rest.new) }
+    ensures kept_own { OnErr result (KeepsWithPiece rest.old rest.new) }
 
     // A request takes a byte at least, so a loop over requests ends.
     ensures spent { IfOk result (spec.Spends (length rest.old + L.room link.old) (length rest.new + L.room link.new)) }

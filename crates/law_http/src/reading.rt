@@ -13,13 +13,14 @@ use crate::cutting::{MAX_HEAD, head_length, skip_empty_lines};
 use crate::{HearFault, MessageRefusal};
 use desk_base::Link;
 
-#[tactic(auto, using(crate::proofs::EmptyLines::after_after, crate::proofs::EmptyLines::after_short))]
+#[tactic(auto, using(crate::proofs::EmptyLines::after_after, crate::proofs::EmptyLines::after_short, crate::proofs::WithPieces::same_kept))]
 // Reads a piece of a head, and takes away the empty lines in front.
 fn read_on<L: Link>(link: &mut L, bytes: &mut Buffer) -> Result<usize, HearFault>
     requires { length bytes.old < MAX_HEAD }
     ensures stream { spec.KeepsStream bytes.old (L.left link.old) bytes.new (L.left link.new) }
     ensures begins { OnOk result (after_empty_lines bytes.new ≡ bytes.new) }
     ensures unread { OnErr result (bytes.new ≡ bytes.old) }
+    ensures piece { spec.KeepsWithPiece bytes.old bytes.new }
     ensures end { IfOk result (λ n. n ≡ 0 → IsAtEnd (L.left link.new)) }
     ensures taken { length bytes.new + L.room link.new ≤ length bytes.old + L.room link.old }
     ensures held { length bytes.new ≤ MAX_HEAD }
@@ -41,6 +42,7 @@ pub(crate) fn await_head<L: Link>(
     bytes: &mut Buffer,
 ) -> Result<Result<usize, MessageRefusal>, HearFault>
     ensures stream { spec.KeepsStream bytes.old (L.left link.old) bytes.new (L.left link.new) }
+    ensures piece { spec.KeepsWithPiece bytes.old bytes.new }
     ensures ready { OnOk result (spec.IsReady bytes.new (L.left link.new)) }
     ensures begins { OnOk result (after_empty_lines bytes.new ≡ bytes.new) }
     ensures unheard { HeldNoRequest result bytes.new }

@@ -6,6 +6,7 @@ use Rattle.law_http.specs.Streams.{KeepsRequest}
 use Rattle.law_http.proofs.CutShort.{before_head, held}
 use Rattle.law_http.proofs.EmptyLines.{after_after, after_short}
 use Rattle.law_http.proofs.Kept.{keeps_skipped, request_then, ready_found, ready_full, ready_ended, head_of, found_where}
+use Rattle.law_http.proofs.WithPieces.{same_kept, skipped_kept, then_kept}
 use Rattle.law_http.proofs.reading.await_head.Goals as goal
 
 pub loop-head-init : goal.loop-head-init
@@ -15,6 +16,7 @@ loop-head-init g c =
     let skipped = c.skip_empty_lines.ensures in
     record {
       stream = subst (λ (l : List ℕ). KeepsRequest (prepend_known old left) (prepend_known l left)) (sym skipped) (keeps_skipped old left);
+      piece = skipped_kept _ _ skipped;
       begins = ap after_empty_lines skipped ∙ after_after old ∙ sym skipped;
       head = head_of _ _ _ c.as_slice.ensures c.head_length-head.ensures.value c.head_length-head.ensures.within c.head_length-head.ensures.limit;
       room = omega (arith, ap length skipped, after_short old);
@@ -28,6 +30,7 @@ loop-head-init g c =
 pub loop-head-preserved : goal.loop-head-preserved
 loop-head-preserved g c = record {
   stream = request_then _ _ _ c.loop-head.invariant.stream c.in_ok-count.ensures.stream;
+  piece = then_kept _ _ _ c.loop-head.invariant.piece c.in_ok-count.ensures.piece;
   begins = c.in_ok-count.ensures.begins;
   head = head_of _ _ _ c.as_slice-in-loop-head.ensures c.head_length-head-in-loop-head.ensures.value c.head_length-head-in-loop-head.ensures.within c.head_length-head-in-loop-head.ensures.limit;
   room = omega (arith, c.loop-head.invariant.room, c.in_ok-count.ensures.taken);
@@ -81,3 +84,17 @@ pub returns-then-count-eq0-clause-ready : goal.returns-then-count-eq0-clause-rea
 returns-then-count-eq0-clause-ready g c =
     ready_ended c.read_on.new.bytes (g.L.Link.left c.read_on.new.link) c.in_ok-count.ensures.begins
     (c.in_ok-count.ensures.end c.if-count-eq0.true)
+
+pub returns-in_err-count-clause-piece : goal.returns-in_err-count-clause-piece
+returns-in_err-count-clause-piece g c =
+    then_kept _ _ _ c.loop-head.invariant.piece c.in_err-count.ensures.piece
+
+pub returns-else-is_err-clause-piece : goal.returns-else-is_err-clause-piece
+returns-else-is_err-clause-piece g c = c.loop-head.invariant.piece
+
+pub returns-after-loop-head-clause-piece : goal.returns-after-loop-head-clause-piece
+returns-after-loop-head-clause-piece g c = c.loop-head.invariant.piece
+
+pub returns-then-count-eq0-clause-piece : goal.returns-then-count-eq0-clause-piece
+returns-then-count-eq0-clause-piece g c =
+    then_kept _ _ _ c.loop-head.invariant.piece c.in_ok-count.ensures.piece

@@ -3,12 +3,13 @@ use Rattle.std.proofs.Common.{◌≡◌, ◌≤◌, ◌+◌, max, length}
 use Rattle.law_http.specs.declared.cutting.TheConstants.{MAX_HEAD}
 use Rattle.std.specs.Io.KnownBytes.{prepend_known}
 use Rattle.law_http.specs.Cutting.{IsHeadOf, after_empty_lines}
-use Rattle.law_http.specs.Streams.{KeepsRequest}
+use Rattle.law_http.specs.Streams.{KeepsRequest, KeepsWithPiece}
 use Rattle.law_http.proofs.reading.await_head.Given as goal
 
 abbrev pub invariant-loop-head : goal.invariant-loop-head
 invariant-loop-head g l = record {
   stream : KeepsRequest (prepend_known l.fn.bytes (g.L.Link.left l.fn.link)) (prepend_known l.bytes (g.L.Link.left l.link));
+  piece : KeepsWithPiece l.fn.bytes l.bytes;
   begins : after_empty_lines l.bytes ≡ l.bytes;
   head : IsHeadOf l.bytes l.head;
   room : length l.bytes + g.L.Link.room l.link ≤ length l.fn.bytes + g.L.Link.room l.fn.link;
