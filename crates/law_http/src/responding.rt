@@ -63,7 +63,7 @@ fn shown(alloc: Global, answer: &Answer, closes: bool) -> Response
     ensures { Says (spec.shown_reply closes answer.now) result }
 {
     match put_answer(alloc, answer) {
-        Ok(object) => Response::of(alloc, Status::Ok, None, closes, object.as_slice()),
+        Ok(object) => Response::around(alloc, Status::Ok, closes, object),
         Err(_) => Response::MemoryFault,
     }
 }
@@ -112,7 +112,7 @@ fn items_response(alloc: Global, draft: &Draft, closes: bool) -> Response
     ensures { Says (spec.draft_reply closes draft.now) result }
 {
     match put_draft(alloc, draft) {
-        Ok(object) => Response::of(alloc, Status::Ok, None, closes, object.as_slice()),
+        Ok(object) => Response::around(alloc, Status::Ok, closes, object),
         Err(_) => Response::MemoryFault,
     }
 }

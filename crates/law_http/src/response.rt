@@ -1,6 +1,6 @@
 //! Responses: how they are laid out and put.
 
-ghost use Rattle.std.specs.Prelude.{◌≡◌, ◌++◌, length, string_bytes, IfOk, OnOk};
+ghost use Rattle.std.specs.Prelude.{◌≡◌, ◌++◌, None, length, string_bytes, IfOk, OnOk};
 ghost use Rattle.desk_base.specs.Streams.{Appended, HasCause};
 ghost use Rattle.law_http.specs.Refusals.{message_reply, request_reply, object_text, form_text};
 ghost use Rattle.law_http.specs.Responses as spec;
@@ -100,6 +100,28 @@ fn laid_out(
     Ok(Bytes::from_vec(message))
 }
 
+// Puts a head in front of a body, in the body's own memory: no second memory of its length is taken.
+fn put_in_front(body: &mut Vec<u8>, head: &[u8]) -> Result<(), Memory>
+    ensures { OnOk result (body.new.items ≡ head.now ++ body.old.items) }
+{
+    let length = body.len();
+    body.extend_from_slice(head)?;
+    body.rotate_left(length);
+    Ok(())
+}
+
+fn laid_around(alloc: Global, status: Status, closes: bool, body: Vec<u8>) -> Result<Bytes, Memory>
+    ensures { IfOk result (λ message. message
+        ≡ spec.reply_bytes (spec.reply status None closes body.items)) }
+{
+    let mut head = Vec::with_capacity(alloc, ROOM)?;
+    put_first_lines(&mut head, status, None, closes)?;
+    put_body_lines(&mut head, body.len())?;
+    let mut message = body;
+    put_in_front(&mut message, head.as_slice())?;
+    Ok(Bytes::from_vec(message))
+}
+
 fn memory_fault() -> &'static [u8]
     ensures { result.now ≡ spec.reply_bytes spec.memory_fault }
 {
@@ -129,6 +151,16 @@ impl Response {
         ensures { spec.Says (spec.reply status allow closes body.now) result }
     {
         match laid_out(alloc, status, allow, closes, body) {
+            Ok(message) => Response::Made { message, closes },
+            Err(_) => Response::MemoryFault,
+        }
+    }
+
+    /// The same with a body that is given away, as a long one is: it is laid out in the memory that the body has.
+    pub fn around(alloc: Global, status: Status, closes: bool, body: Vec<u8>) -> Response
+        ensures { spec.Says (spec.reply status None closes body.items) result }
+    {
+        match laid_around(alloc, status, closes, body) {
             Ok(message) => Response::Made { message, closes },
             Err(_) => Response::MemoryFault,
         }
