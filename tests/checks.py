@@ -26,6 +26,9 @@ SAID = {
     8: b"lawdesk: the port could not be listened at, or a connection could not be had\n",
 }
 HELD = b"lawdesk: another process holds lawdesk.jnl\n"
+# The same of the other register, and of both.
+UNKEPT_TABLE = b"lawdesk: lawdesk.db could not be opened, read or written, or another process holds it\n"
+UNMOVED = b"lawdesk: lawdesk.jnl or lawdesk.db could not be opened, read or written, or another process holds it\n"
 
 
 def check(name, got, want):

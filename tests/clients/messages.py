@@ -120,10 +120,10 @@ def at_most(seconds, child):
         late.cancel()
 
 
-def batch(given, write=whole):
+def batch(given, write=whole, words=("batch",)):
     """The status of `batch` in an empty folder over a stream that is written so, and what it wrote."""
     with checks.folder() as folder, tempfile.TemporaryFile() as out:
-        child = subprocess.Popen([checks.PROGRAM, "batch"], stdin=subprocess.PIPE, stdout=out, stderr=subprocess.DEVNULL, cwd=folder)
+        child = subprocess.Popen([checks.PROGRAM, *words], stdin=subprocess.PIPE, stdout=out, stderr=subprocess.DEVNULL, cwd=folder)
         with at_most(120, child):
             try:
                 write(child.stdin.fileno(), given)

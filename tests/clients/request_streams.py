@@ -70,16 +70,21 @@ def cut_again(length, places, rounds):
     return write
 
 
-def refusal_rows():
-    """What is refused, and what just is not: each in one piece, and byte by byte where it is short or a head of about the limit. Behind it
-    stands a request, which is answered where the stream goes on."""
+def refused():
+    """What is refused, and what just is not: its name, the stream, and what is to come of it. Behind it stands a request, which is answered where the
+    stream goes on."""
     for table, status, goes_on in ((refusals.CLOSED, 1, False), (refusals.ON, 0, True), (refusals.LAST, 0, False)):
         for name, given, wanted in table:
             behind = b"" if wanted == closed(9) else histories.FRONT
-            wanted_all = (status, wanted + (histories.FRONT_0 if goes_on else b""))
-            check_written(f"refusals, {name}", batch(given + behind), wanted_all)
-            if len(given) < 2000 or name in refusals.ABOUT_THE_LIMIT:
-                check_written(f"refusals, {name}, byte by byte", batch(given + behind, bytewise), wanted_all)
+            yield name, given + behind, (status, wanted + (histories.FRONT_0 if goes_on else b""))
+
+
+def refusal_rows():
+    """Each refusal in one piece, and byte by byte where it is short or a head of about the limit."""
+    for name, given, wanted in refused():
+        check_written(f"refusals, {name}", batch(given), wanted)
+        if len(given) < 2000 or name in refusals.ABOUT_THE_LIMIT:
+            check_written(f"refusals, {name}, byte by byte", batch(given, bytewise), wanted)
 
 
 def query_rows():
@@ -89,6 +94,19 @@ def query_rows():
     check_written("all queries", batch(begun + given), (0, reply + wanted))
     for name, given, wanted in queries.ROWS:
         check_written(name, batch(begun + given), (0, reply + wanted))
+
+
+def streams():
+    """Each stream of these rows in one piece: its name, the stream, the status and what is to be written."""
+    for name, (given, wanted, status) in histories.SHORT.items():
+        yield name, given, (status, wanted)
+    for name, rows in [*histories.HISTORIES.items(), *wide.HISTORIES.items()]:
+        given, wanted = told(rows)
+        yield name, given, (0, wanted)
+    yield from refused()
+    begun, reply = queries.ENACTED_FIRST
+    for name, given, wanted in queries.ROWS:
+        yield name, begun + given, (0, reply + wanted)
 
 
 def devices():

@@ -34,6 +34,12 @@ def parts(name, stream):
     return part(name, "jnl"), part(name, f"{stream}.http.gz"), part(name, f"{stream}.out.gz")
 
 
+def runs(name):
+    """Runs of other words: these, the status and what they wrote."""
+    for run in json.loads(part(name, "runs.json")):
+        yield run["words"], run["status"], run["written"].encode()
+
+
 def answers():
     """`check`, the reports, `export` and all questions over each journal, which stays as it is; and a copy that `follow` makes of it."""
     for name in NAMES:
@@ -41,8 +47,8 @@ def answers():
         status, written, left = over(journal, ["batch"], asked)
         check_written(f"{name}, asked", (status, written), (0, told))
         check(f"{name}, the file behind the questions", left == journal, True)
-        for run in json.loads(part(name, "runs.json")):
-            check(f"{name}, {run['words']}", over(journal, run["words"]), (run["status"], run["written"].encode(), journal))
+        for words, status, written in runs(name):
+            check(f"{name}, {words}", over(journal, words), (status, written, journal))
         frames, count = framed(payloads(journal)), len(payloads(journal))
         check(f"{name}, exported", over(journal, ["export", "0"]), (0, frames, journal))
         check(f"{name}, followed", over(None, ["follow"], frames), (*counted(count, count), journal))

@@ -5,6 +5,7 @@ import os
 import re
 import shutil
 import socket
+import sqlite3
 import subprocess
 import time
 
@@ -80,13 +81,21 @@ def bad_journal(folder):
         out.write(b"x" * 20)
 
 
+def other_table(folder):
+    base = sqlite3.connect(os.path.join(folder, "lawdesk.db"))
+    with base:
+        base.execute("CREATE TABLE entry (number INTEGER PRIMARY KEY, payload BLOB NOT NULL) STRICT")
+        base.execute("INSERT INTO entry VALUES (1, x'00')")
+    base.close()
+
+
 def no_file(folder):
     os.mkdir(os.path.join(folder, JOURNAL))
 
 
 TEXT, BATCH, LIFE = ["text", "2011-01-01"], ["batch"], ["report", "lifecycle", "/akn/gb/act/2010-05-01/7"]
 HELD, MADE = ["report", "unapplied", "2011-01-01"], ["generate", "1", "1"]
-EXPORT, FOLLOW = ["export", "0"], ["follow"]
+EXPORT, FOLLOW, MOVE = ["export", "0"], ["follow"], ["move"]
 PORT = 20000 + os.getpid() % 10000
 SERVE = ["serve", str(PORT), "1"]
 # How each form ends with each status but 7: its words, what it is given (a folder and a full device are devices that fail), and the file.
@@ -107,6 +116,8 @@ ENDS = {
     ("export", 6): (EXPORT, b"", bad_journal),
     ("follow", 0): (FOLLOW, b"", None), ("follow", 3): (FOLLOW, FOLDER, None), ("follow", 4): (FOLLOW, FULL, None),
     ("follow", 5): (FOLLOW, b"", no_file), ("follow", 6): (FOLLOW, b"", bad_journal), ("follow", 12): (FOLLOW, b"{", None),
+    ("move", 0): (MOVE, b"", None), ("move", 4): (MOVE, FULL, bad_journal), ("move", 5): (MOVE, b"", no_file), ("move", 6): (MOVE, b"", bad_journal),
+    ("move", 11): (MOVE, b"", other_table),
 }
 
 
@@ -148,7 +159,7 @@ def ended(words, given, spoil):
 def forms():
     """The statuses of each form are 7, which tests/devices/want_of_memory.py shows, and those with which it is seen to end here."""
     told = {tag: [int(status) for status in plain(lines[0]).split(", ")] for tag, lines in items(section("EXIT STATUS")) if not tag.isdigit()}
-    wanted = {form: sorted([7] + [status for name, status in ENDS if name == form]) for form in ("text", "check", "batch", "serve", "report", "generate", "export", "follow")}
+    wanted = {form: sorted([7] + [status for name, status in ENDS if name == form]) for form in ("text", "check", "batch", "serve", "report", "generate", "export", "follow", "move")}
     check("the statuses of each form in the manual page", told, wanted)
     for (form, status), way in ENDS.items():
         check(f"{form} ends with {status}", ended(*way), status)

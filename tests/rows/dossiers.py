@@ -180,6 +180,9 @@ WRONG_WORDS = [
     *(([word, *more], f"{word} is no command") for word, *more in (
         ("Text", "2010-05-01"), ("--help",), ("help",), ("Check",), ("checks",), ("--check",), ("Batch",), ("batches",), ("--batch",),
         ("Generate", "1", "1"), ("generates", "1", "1"), ("reports", "unapplied", "2010-05-01"))),
+    (["move", "now"], "move stands alone"), (["sql"], "no command is given"), (["sql", "move"], "move stands alone"),
+    (["sql", "checks"], "checks is no command"), (["sql", "sql", "check"], "sql is no command"),
+    (["sql", "text", "2010-05-01", ""], f"{READING}, and not the 3rd word"),
     *(([word, more], f"{word} wants no more words, and not {more}") for word in ("check", "batch") for more in (word, "2010-05-01")),
     *((["generate", seed, "1"], f"{SEED}, and not {seed}") for seed in ("01", "00", "18446744073709551616", "-1", "+1", "0x1")),
     *((["generate", "1", count], f"{COUNT}, and not {count}") for count in ("01", "0", "2001", "18446744073709551617")),

@@ -24,3 +24,6 @@ pub mod ServingGates
 pub mod ServingVisits
 pub mod ServingFour
 pub mod ServingRuns
+pub mod MovesTold
+pub mod TwoRuns
+pub mod Sends

@@ -9,7 +9,9 @@ pub mod Outliving
 pub mod ReportJobs
 pub mod Statuses
 pub mod Tabling
+pub mod Moving
 pub mod Running
+pub mod RunningTwo
 pub mod Telling
 pub mod Exporting
 pub mod Following

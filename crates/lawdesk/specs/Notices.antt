@@ -1,13 +1,17 @@
 -- What is said on standard error beside a status.
-use Rattle.std.specs.Prelude.{ℕ, ◌==◌, Bool, ◌&&◌, nat_le, nat_lt, List, [], ◌∷◌, ◌++◌, length, get_or, Option, Some, None, if◌then◌else◌, codes}
+use Rattle.std.specs.Prelude.{ℕ, ◌==◌, Bool, ◌&&◌, nat_le, nat_lt, List, [], ◌∷◌, ◌++◌, length, get_or, Option, Some, None, is_some, if◌then◌else◌, codes}
 use Rattle.std.specs.List.{list_all}
 use Rattle.std.specs.Char.{is_ascii_graphic}
+use Rattle.std.specs.Str.{bytes_eq}
 use Rattle.lawdesk.specs.Amiss.{amiss}
 use Rattle.lawdesk.specs.declared.amiss.Amiss.{Amiss}
 use Rattle.lawdesk.specs.declared.amiss.Wanted.{Wanted}
 use Rattle.lawdesk.specs.declared.amiss.Wanted.TheVariants.{Command, Table, Day, Reading, Work, Seed, Count, From, Port, Connections, Nothing}
+use Rattle.lawdesk.specs.Moving.{for_other, is_move}
+use Rattle.lawdesk.specs.declared.notice.Kept.{Kept}
+use Rattle.lawdesk.specs.declared.notice.Kept.TheVariants.{Journal, HeldJournal, Table as InTable, Both}
 use Rattle.lawdesk.specs.declared.notice.Said.{Said}
-use Rattle.lawdesk.specs.declared.notice.TheConstants.{HELD, UNGATED, UNKEPT, UNREAD, UNWRITTEN, WANTING}
+use Rattle.lawdesk.specs.declared.notice.TheConstants.{HELD, UNGATED, UNKEPT, UNKEPT_TABLE, UNMOVED, UNREAD, UNWRITTEN, WANTING}
 use Rattle.lawdesk.specs.declared.usage.TheConstants.{USAGE_TEXT}
 
 -- a usage stands on lines of its own
@@ -54,9 +58,9 @@ wanted_text Nothing = codes "no more words"
 abbrev pub with_usage : List ℕ → List ℕ
 with_usage line = codes "lawdesk: " ++ line ++ 10 ∷ USAGE_TEXT.now
 
--- what is said of a word that is no command
+-- what is said of a word that is no command, or that is one alone
 abbrev pub no_command : List ℕ → List ℕ
-no_command word = with_usage (word ++ codes " is no command")
+no_command word = if bytes_eq word (codes "move") then with_usage (codes "move stands alone") else with_usage (word ++ codes " is no command")
 
 -- what is said where a command wants what is missing, or another word than this
 abbrev pub missing : List ℕ → Wanted → List ℕ
@@ -88,13 +92,25 @@ abbrev pub usage_of : Option (List (List ℕ)) → List ℕ
 usage_of (Some words) = usage_at words (amiss words)
 usage_of None = with_usage (codes "a word is no text in UTF-8")
 
+-- what keeps the register that words ask for, and whether another process holds the journal
+abbrev pub kept_by : List (List ℕ) → Bool → Kept
+kept_by words is_held =
+    if is_held then HeldJournal else (if is_move words then Both else (if is_some (for_other words) then InTable else Journal))
+
+-- what is said where that failed
+abbrev pub kept_text : Kept → List ℕ
+kept_text Journal = UNKEPT.now
+kept_text HeldJournal = HELD.now
+kept_text InTable = UNKEPT_TABLE.now
+kept_text Both = UNMOVED.now
+
 -- what is said beside a status: at 2 which word is wrong, and the usage; else which device failed, or that memory was wanting; of a
 -- journal that another process holds, that one does
-abbrev pub notice_of : ℕ → Bool → Option (List (List ℕ)) → Option (List ℕ)
-notice_of status is_held words =
+abbrev pub notice_of : ℕ → Kept → Option (List (List ℕ)) → Option (List ℕ)
+notice_of status kept words =
     if status == 2 then Some (usage_of words)
     else (if status == 3 then Some UNREAD.now
     else (if status == 4 then Some UNWRITTEN.now
-    else (if status == 5 then Some (if is_held then HELD.now else UNKEPT.now)
+    else (if status == 5 then Some (kept_text kept)
     else (if status == 7 then Some WANTING.now
     else (if status == 8 then Some UNGATED.now else None)))))

@@ -1,13 +1,14 @@
 //! Laws of the program: what it takes and what it says, number by number and word by word. Each is a function that does
 //! nothing, whose clauses are the law.
 
-ghost use Rattle.std.specs.Prelude.{◌≡◌, ◌≢◌, ◌↔◌, ◌<◌, ◌+◌, ◌∷◌, ◌++◌, [], ℕ, Bool, true, false, List, Option, Some, None, codes, length, take};
+ghost use Rattle.std.specs.Prelude.{◌≡◌, ◌≢◌, ◌↔◌, ◌<◌, ◌+◌, ◌∷◌, ◌++◌, [], ℕ, true, false, List, Option, Some, None, codes, length, take};
 ghost use Rattle.akn_json.specs.Reading.Bytes.{most_bytes};
 ghost use Rattle.lawdesk.specs.Amiss.{amiss};
 ghost use Rattle.lawdesk.specs.Jobs.{job_of};
-ghost use Rattle.lawdesk.specs.Notices.{notice_of, usage_of};
+ghost use Rattle.lawdesk.specs.Notices.{kept_by, kept_text, notice_of, usage_of};
 ghost use Rattle.lawdesk.specs.declared.amiss.Amiss.{Amiss};
 ghost use Rattle.lawdesk.specs.declared.job.Job.TheVariants.{Export, Generate, Serve};
+ghost use Rattle.lawdesk.specs.declared.notice.Kept.{Kept};
 ghost use Rattle.lawdesk.specs.declared.usage.TheConstants.{USAGE_TEXT};
 
 /// At most so many bytes are read of a source: one more than a dossier may have.
@@ -63,6 +64,7 @@ pub fn wrong_words_are_told()
     ensures command { usage_of (Some (codes "txt" ∷ [])) ≡ codes "lawdesk: txt is no command" ++ 10 ∷ USAGE_TEXT.now }
     ensures hidden { usage_of (Some ((27 ∷ codes "[2J") ∷ []))
         ≡ codes "lawdesk: the 1st word is no command" ++ 10 ∷ USAGE_TEXT.now }
+    ensures alone { usage_of (Some (codes "move" ∷ codes "now" ∷ [])) ≡ codes "lawdesk: move stands alone" ++ 10 ∷ USAGE_TEXT.now }
     ensures missing { usage_of (Some (codes "text" ∷ []))
         ≡ codes "lawdesk: text wants a day, as 2011-01-01" ++ 10 ∷ USAGE_TEXT.now }
     ensures other { usage_of (Some (codes "generate" ∷ codes "0" ∷ codes "2001" ∷ []))
@@ -74,15 +76,24 @@ pub fn wrong_words_are_told()
 
 /// What is said on standard error beside a status.
 pub fn notices_are_these()
-    ensures words { (held : Bool) (words : Option (List (List ℕ))) → notice_of 2 held words ≡ Some (usage_of words) }
-    ensures source { (held : Bool) (words : Option (List (List ℕ))) → notice_of 3 held words ≡ Some (codes "lawdesk: standard input could not be read") }
-    ensures sink { (held : Bool) (words : Option (List (List ℕ))) → notice_of 4 held words ≡ Some (codes "lawdesk: standard output could not be written") }
-    ensures keeper { (words : Option (List (List ℕ))) → notice_of 5 false words
-        ≡ Some (codes "lawdesk: the journal lawdesk.jnl could not be opened, read or written") }
-    ensures held { (words : Option (List (List ℕ))) → notice_of 5 true words ≡ Some (codes "lawdesk: another process holds lawdesk.jnl") }
-    ensures memory { (held : Bool) (words : Option (List (List ℕ))) → notice_of 7 held words ≡ Some (codes "lawdesk: there was not enough memory") }
-    ensures gates { (held : Bool) (words : Option (List (List ℕ))) → notice_of 8 held words
+    ensures words { (kept : Kept) (words : Option (List (List ℕ))) → notice_of 2 kept words ≡ Some (usage_of words) }
+    ensures source { (kept : Kept) (words : Option (List (List ℕ))) → notice_of 3 kept words ≡ Some (codes "lawdesk: standard input could not be read") }
+    ensures sink { (kept : Kept) (words : Option (List (List ℕ))) → notice_of 4 kept words ≡ Some (codes "lawdesk: standard output could not be written") }
+    ensures keeper { (kept : Kept) (words : Option (List (List ℕ))) → notice_of 5 kept words ≡ Some (kept_text kept) }
+    ensures memory { (kept : Kept) (words : Option (List (List ℕ))) → notice_of 7 kept words ≡ Some (codes "lawdesk: there was not enough memory") }
+    ensures gates { (kept : Kept) (words : Option (List (List ℕ))) → notice_of 8 kept words
         ≡ Some (codes "lawdesk: the port could not be listened at, or a connection could not be had") }
+{}
+
+/// What is said where what keeps the register failed, and of which words that is.
+pub fn kept_is_told()
+    ensures journal { kept_text (kept_by (codes "check" ∷ []) false)
+        ≡ codes "lawdesk: the journal lawdesk.jnl could not be opened, read or written" }
+    ensures held { (words : List (List ℕ)) → kept_text (kept_by words true) ≡ codes "lawdesk: another process holds lawdesk.jnl" }
+    ensures table { (words : List (List ℕ)) → kept_text (kept_by (codes "sql" ∷ words) false)
+        ≡ codes "lawdesk: lawdesk.db could not be opened, read or written, or another process holds it" }
+    ensures both { kept_text (kept_by (codes "move" ∷ []) false)
+        ≡ codes "lawdesk: lawdesk.jnl or lawdesk.db could not be opened, read or written, or another process holds it" }
 {}
 
 /// What is said of all words that are no form of the command line.
@@ -109,8 +120,12 @@ pub fn usage_is_this()
         ++ codes "became of its commands" ++ 10 ∷
         codes "  export FROM                           the entries of the register that stand "
         ++ codes "above a number, as frames" ++ 10 ∷
-        codes "  follow                                takes the frames on standard input into the "
-        ++ codes "register" ++ 10 ∷ 10 ∷
+        codes "  follow                                takes the frames on standard input into "
+        ++ codes "the register" ++ 10 ∷
+        codes "  move                                  carries the register of the journal over "
+        ++ codes "to SQLite, or what came since" ++ 10 ∷
+        codes "  sql COMMAND [WORD]...                 any other command, over the register in "
+        ++ codes "SQLite" ++ 10 ∷ 10 ∷
         codes "Words:" ++ 10 ∷
         codes "  DATE         a day from 0001-01-01 to 9999-12-31, as 2011-01-01" ++ 10 ∷
         codes "  READING      force (what is in force, if no reading is given) or efficacy (what "
@@ -122,20 +137,23 @@ pub fn usage_is_this()
         codes "  SEED         a whole number from 0 to 18446744073709551615" ++ 10 ∷
         codes "  COUNT        a whole number from 1 to 2000" ++ 10 ∷
         codes "  FROM         a whole number from 0 (for all entries) to 18446744073709551615" ++ 10 ∷ 10 ∷
-        codes "All but text and generate open the journal lawdesk.jnl in the working folder. "
-        ++ codes "Answers, responses, tables and frames" ++ 10 ∷
-        codes "are written to standard output." ++ 10 ∷ 10 ∷
+        codes "All but text and generate open the journal lawdesk.jnl in the working folder; "
+        ++ codes "behind sql it is the database lawdesk.db," ++ 10 ∷
+        codes "and move opens both. Answers, responses, tables and frames are written to standard "
+        ++ codes "output." ++ 10 ∷ 10 ∷
         codes "Exit status:" ++ 10 ∷
         codes "  0   it was done" ++ 10 ∷
         codes "  1   batch: what stood behind the last request was none" ++ 10 ∷
         codes "  2   the words are none of these commands" ++ 10 ∷
         codes "  3   standard input could not be read" ++ 10 ∷
         codes "  4   standard output could not be written" ++ 10 ∷
-        codes "  5   the journal could not be opened, read or written, or another process holds it" ++ 10 ∷
-        codes "  6   what the journal keeps is no register" ++ 10 ∷
+        codes "  5   the journal or the database could not be opened, read or written, or another "
+        ++ codes "process holds it" ++ 10 ∷
+        codes "  6   what is kept is no register" ++ 10 ∷
         codes "  7   there was not enough memory" ++ 10 ∷
         codes "  8   serve: the port could not be listened at, or no connection could be had" ++ 10 ∷
         codes "  9   a rule of the register refuses the act, a modification or the question" ++ 10 ∷
         codes "  10  standard input is no dossier" ++ 10 ∷
+        codes "  11  move: the database has another entry than the journal, or more" ++ 10 ∷
         codes "  12  follow: a frame is refused" }
 {}

@@ -4,31 +4,36 @@
 mod amiss;
 mod batching;
 mod checking;
+mod database;
 mod exporting;
 mod following;
 mod generating;
 mod job;
 mod laws;
+mod moving;
 mod notice;
 mod report_job;
 mod run;
+mod run_two;
 mod serving;
 mod tabling;
 mod taking;
 mod telling;
 mod usage;
 
-ghost use Rattle.std.specs.Prelude.{◌≡◌, ◌↔◌, ◌≢◌, None, map, string_bytes};
+ghost use Rattle.std.specs.Prelude.{◌≡◌, ◌↔◌, ◌≢◌, None, false, map, string_bytes};
 ghost use Rattle.std.specs.declared.io.ErrorKind.TheVariants.{OutOfMemory};
 ghost use Rattle.lawdesk.specs.Jobs.{job_of};
-ghost use Rattle.lawdesk.specs.Statuses.{IsStatus};
+ghost use Rattle.lawdesk.specs.Moving.{is_move};
+ghost use Rattle.lawdesk.specs.RunningTwo.{IsStatusOfTwo, behind};
 
+use database::Database;
 use desk_base::{ReaderSource, UtcClock, WriterSink};
 use desk_gates::TcpGate;
 use law_journal::FileDisk;
 use law_keeper::{JournalKeeper, Keeper};
-use notice::{Said, notice};
-use run::run;
+use notice::{Kept, Said, kept_by, notice};
+use run_two::{run_two, words_behind};
 use std::alloc::Global;
 use std::env;
 use std::io::{self, ErrorKind, Read, Write};
@@ -38,7 +43,7 @@ use std::sync::{OnceLock, Wait};
 use std::thread::Threads;
 use std::time::Clock;
 
-/// The journal in the working folder, which `batch`, `check` and `report` open.
+/// The journal in the working folder, which all forms but `text` and `generate` open.
 const JOURNAL: &str = "lawdesk.jnl";
 
 // The words of the command line, without the program's name.
@@ -50,18 +55,28 @@ fn words(rt: &HostRuntime) -> io::Result<Vec<String>> {
     Ok(words)
 }
 
-// Runs the words over a reader, a writer, a keeper, the machine's clock, and four gates of its own address that share one socket.
+// Runs the words over a reader, a writer, two keepers, the machine's clock, and four gates of its own address that share one socket.
 fn run_over<
     H: Threads + Wait + Sync + Net + Clock,
     R: Read + Drop,
     W: Write + Drop,
     K: Keeper + Send,
->(rt: &H, alloc: Global, words: &[String], reader: R, writer: W, keeper: &mut K) -> u8
+    O: Keeper + Send,
+>(
+    rt: &H,
+    alloc: Global,
+    words: &[String],
+    reader: R,
+    writer: W,
+    keeper: &mut K,
+    other: &mut O,
+) -> u8
 where
     H::Listener: Send + Sync,
     H::Stream: Send,
-    ensures status { IsStatus result }
-    ensures words { (result ≡ 2) ↔ (job_of (map string_bytes words.now) ≡ None) }
+    ensures status { IsStatusOfTwo result }
+    ensures words { (result ≡ 2) ↔ ((is_move (map string_bytes words.now) ≡ false)
+        × (job_of (behind (map string_bytes words.now)) ≡ None)) }
 {
     let mut source = ReaderSource::new(reader);
     let mut sink = WriterSink::new(writer);
@@ -73,16 +88,43 @@ where
         TcpGate::new(rt, &shared),
         TcpGate::new(rt, &shared),
     ];
-    run(
+    run_two(
         rt,
         alloc,
         words,
         &mut source,
         &mut sink,
         keeper,
+        other,
         &mut clock,
         &mut gates,
     )
+}
+
+// Runs the words over a keeper and the database of the working folder.
+fn run_beside_database<
+    H: Threads + Wait + Sync + Net + Clock,
+    R: Read + Drop,
+    W: Write + Drop,
+    K: Keeper + Send,
+>(
+    rt: &H,
+    files: &HostRuntime,
+    alloc: Global,
+    words: &[String],
+    reader: R,
+    writer: W,
+    keeper: &mut K,
+) -> u8
+where
+    H::Listener: Send + Sync,
+    H::Stream: Send,
+    ensures status { IsStatusOfTwo result }
+    ensures words { (result ≡ 2) ↔ ((is_move (map string_bytes words.now) ≡ false)
+        × (job_of (behind (map string_bytes words.now)) ≡ None)) }
+{
+    let mut other = Database::new(files);
+    run_over(rt, alloc, words, reader, writer, keeper, &mut other)
 }
 
 // The status of words that could not be had: they are no text, or there was not enough memory.
@@ -120,7 +162,8 @@ fn main(rt: HostRuntime) -> ExitCode {
     match words(&rt) {
         Ok(words) => {
             let mut keeper = JournalKeeper::new(rt.alloc(), FileDisk::new(&rt, JOURNAL));
-            let status = run_over(
+            let status = run_beside_database(
+                &rt,
                 &rt,
                 rt.alloc(),
                 words.as_slice(),
@@ -128,13 +171,16 @@ fn main(rt: HostRuntime) -> ExitCode {
                 rt.stdout(),
                 &mut keeper,
             );
-            let is_held = keeper.disk().is_held();
-            say(&rt, notice(status, is_held, Some(words.as_slice())));
+            let kept = kept_by(words.as_slice(), keeper.disk().is_held());
+            say(
+                &rt,
+                notice(status, kept, Some(words_behind(words.as_slice()))),
+            );
             ExitCode::from(status)
         }
         Err(error) => {
             let status = refused(error.kind());
-            say(&rt, notice(status, false, None));
+            say(&rt, notice(status, Kept::Journal, None));
             ExitCode::from(status)
         }
     }

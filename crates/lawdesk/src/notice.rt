@@ -7,6 +7,7 @@ ghost use Rattle.lawdesk.specs.Notices as spec;
 ghost use Rattle.lawdesk.specs.Notices.{notice_of, said_text};
 
 use crate::amiss::{Amiss, Wanted};
+use crate::run_two::{asks_move, words_for_other};
 use crate::usage::USAGE_TEXT;
 
 pub const UNREAD: &str = "lawdesk: standard input could not be read";
@@ -17,10 +18,29 @@ pub const UNKEPT: &str = "lawdesk: the journal lawdesk.jnl could not be opened, 
 
 pub const HELD: &str = "lawdesk: another process holds lawdesk.jnl";
 
+pub const UNKEPT_TABLE: &str =
+    "lawdesk: lawdesk.db could not be opened, read or written, or another process holds it";
+
+pub const UNMOVED: &str =
+    "lawdesk: lawdesk.jnl or lawdesk.db could not be opened, read or written, or another process holds it";
+
 pub const UNGATED: &str =
     "lawdesk: the port could not be listened at, or a connection could not be had";
 
 pub const WANTING: &str = "lawdesk: there was not enough memory";
+
+/// What keeps the register that was asked for.
+#[derive(Clone, Copy, Debug, PartialEq, Eq)]
+pub enum Kept {
+    /// The journal.
+    Journal,
+    /// The journal, which another process holds.
+    HeldJournal,
+    /// The database of SQLite.
+    Table,
+    /// The journal and that, of which the one is moved to the other.
+    Both,
+}
 
 /// What is said: these pieces in one line, and the usage on lines of its own where there is one.
 #[derive(Clone, Copy)]
@@ -132,6 +152,16 @@ fn no_form<'a>(subject: &'a str, says: &'static str) -> Said<'a>
     }
 }
 
+// What is said of a word that is no command, or that is one alone.
+fn no_command(word: &str) -> Said<'_>
+    ensures { said_text result ≡ spec.no_command word.now }
+{
+    if word == "move" {
+        return no_form("", "move stands alone");
+    }
+    no_form(word, " is no command")
+}
+
 // What is said where a command wants what is missing.
 fn missing<'a>(command: &'a str, wanted: Wanted) -> Said<'a>
     ensures { said_text result ≡ spec.missing command.now wanted }
@@ -168,7 +198,7 @@ fn wrong_word<'a>(command: &'a str, wanted: Wanted, word: &'a str) -> Said<'a>
     ensures { said_text result ≡ spec.wrong_word command.now wanted word.now }
 {
     match wanted {
-        Wanted::Command => no_form(word, " is no command"),
+        Wanted::Command => no_command(word),
         _ => unwanted(command, wanted, word),
     }
 }
@@ -197,11 +227,39 @@ fn usage(words: &[String]) -> Said<'_>
     }
 }
 
+// What is said where what keeps the register failed.
+fn unkept(kept: Kept) -> Said<'static>
+    ensures { said_text result ≡ spec.kept_text kept }
+{
+    match kept {
+        Kept::Journal => line(UNKEPT),
+        Kept::HeldJournal => line(HELD),
+        Kept::Table => line(UNKEPT_TABLE),
+        Kept::Both => line(UNMOVED),
+    }
+}
+
+/// What keeps the register that words ask for, and whether another process holds the journal.
+pub fn kept_by(words: &[String], is_held: bool) -> Kept
+    ensures { result ≡ spec.kept_by (map string_bytes words.now) is_held }
+{
+    if is_held {
+        return Kept::HeldJournal;
+    }
+    if asks_move(words) {
+        return Kept::Both;
+    }
+    match words_for_other(words) {
+        Some(_) => Kept::Table,
+        None => Kept::Journal,
+    }
+}
+
 /// What is said beside a status: at 2 which word is wrong and the usage, and what failed at 3, 4, 5, 7 and 8. Of a journal that another
 /// process holds, it is said that one does. `None` in the place of the words: some word is no text.
-pub fn notice(status: u8, is_held: bool, words: Option<&[String]>) -> Option<Said<'_>>
+pub fn notice(status: u8, kept: Kept, words: Option<&[String]>) -> Option<Said<'_>>
     ensures { option_map said_text result
-        ≡ notice_of status is_held (option_map (λ ws. map string_bytes ws.now) words.entry) }
+        ≡ notice_of status kept (option_map (λ ws. map string_bytes ws.now) words.entry) }
 {
     match status {
         2 => match words {
@@ -210,7 +268,7 @@ pub fn notice(status: u8, is_held: bool, words: Option<&[String]>) -> Option<Sai
         },
         3 => Some(line(UNREAD)),
         4 => Some(line(UNWRITTEN)),
-        5 => Some(line(if is_held { HELD } else { UNKEPT })),
+        5 => Some(unkept(kept)),
         7 => Some(line(WANTING)),
         8 => Some(line(UNGATED)),
         _ => None,

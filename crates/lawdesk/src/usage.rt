@@ -18,6 +18,8 @@ Commands:
   generate SEED COUNT                   makes a register in memory, and tells what became of its commands
   export FROM                           the entries of the register that stand above a number, as frames
   follow                                takes the frames on standard input into the register
+  move                                  carries the register of the journal over to SQLite, or what came since
+  sql COMMAND [WORD]...                 any other command, over the register in SQLite
 
 Words:
   DATE         a day from 0001-01-01 to 9999-12-31, as 2011-01-01
@@ -29,8 +31,8 @@ Words:
   COUNT        a whole number from 1 to 2000
   FROM         a whole number from 0 (for all entries) to 18446744073709551615
 
-All but text and generate open the journal lawdesk.jnl in the working folder. Answers, responses, tables and frames
-are written to standard output.
+All but text and generate open the journal lawdesk.jnl in the working folder; behind sql it is the database lawdesk.db,
+and move opens both. Answers, responses, tables and frames are written to standard output.
 
 Exit status:
   0   it was done
@@ -38,10 +40,11 @@ Exit status:
   2   the words are none of these commands
   3   standard input could not be read
   4   standard output could not be written
-  5   the journal could not be opened, read or written, or another process holds it
-  6   what the journal keeps is no register
+  5   the journal or the database could not be opened, read or written, or another process holds it
+  6   what is kept is no register
   7   there was not enough memory
   8   serve: the port could not be listened at, or no connection could be had
   9   a rule of the register refuses the act, a modification or the question
   10  standard input is no dossier
+  11  move: the database has another entry than the journal, or more
   12  follow: a frame is refused";
