@@ -120,10 +120,24 @@ def at_most(seconds, child):
         late.cancel()
 
 
-def batch(given, write=whole, words=("batch",)):
+# The words of a run over a stream of requests.
+WORDS = ["batch"]
+
+
+@contextlib.contextmanager
+def over_a_table():
+    """Until its end, a stream of requests is one over the register in SQLite."""
+    WORDS.insert(0, "sql")
+    try:
+        yield
+    finally:
+        WORDS.remove("sql")
+
+
+def batch(given, write=whole):
     """The status of `batch` in an empty folder over a stream that is written so, and what it wrote."""
     with checks.folder() as folder, tempfile.TemporaryFile() as out:
-        child = subprocess.Popen([checks.PROGRAM, *words], stdin=subprocess.PIPE, stdout=out, stderr=subprocess.DEVNULL, cwd=folder)
+        child = subprocess.Popen([checks.PROGRAM, *WORDS], stdin=subprocess.PIPE, stdout=out, stderr=subprocess.DEVNULL, cwd=folder)
         with at_most(120, child):
             try:
                 write(child.stdin.fileno(), given)

@@ -6,7 +6,7 @@ import tempfile
 
 import checks
 from checks import SAID, check, said_over_a_folder, said_to_a_full_device, to_a_full_device
-from clients.messages import at_most, batch, bytewise, check_written, closed, cut_at, drained
+from clients.messages import WORDS, at_most, batch, bytewise, check_written, closed, cut_at, drained
 from rows import histories, queries, refusals, wide
 
 
@@ -112,7 +112,7 @@ def streams():
 def devices():
     """A sink that takes nothing ends a stream with 4, and a source that can't be read with 3, at once and before any other status."""
     with checks.folder() as folder:
-        line, settings = [checks.PROGRAM, "batch"], {"cwd": folder}
+        line, settings = [checks.PROGRAM, *WORDS], {"cwd": folder}
         check("requests to a full device", said_to_a_full_device(line, histories.FRONT, **settings), (4, SAID[4]))
         check("what is no request, to a full device", to_a_full_device(line, b"x\r\n\r\n", **settings), 4)
         check("nothing, to a full device", to_a_full_device(line, b"", **settings), 0)
@@ -142,7 +142,7 @@ def first_byte_read(line, **settings):
     with tempfile.NamedTemporaryFile() as file:
         file.write(histories.FRONT * 10_000)
         file.flush()
-        words = f"'{line[0]}' {line[1]} < '{file.name}' | head -c 1; exit ${{PIPESTATUS[0]}}"
+        words = f"'{line[0]}' {' '.join(line[1:])} < '{file.name}' | head -c 1; exit ${{PIPESTATUS[0]}}"
         done = subprocess.run(["bash", "-c", words], capture_output=True, timeout=60, **settings)
     return done.returncode, done.stdout
 

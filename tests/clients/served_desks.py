@@ -39,10 +39,10 @@ def listening():
 class Desk:
     """A desk that serves so many connections with each of its workers."""
 
-    def __init__(self, folder, connections, sink=subprocess.PIPE, **settings):
+    def __init__(self, folder, connections, sink=subprocess.PIPE, before=(), **settings):
         self.port = free_port()
         self.left = WORKERS * connections
-        line = [checks.PROGRAM, "serve", str(self.port), str(connections)]
+        line = [checks.PROGRAM, *before, "serve", str(self.port), str(connections)]
         self.child = subprocess.Popen(line, stdin=subprocess.DEVNULL, stdout=sink, stderr=subprocess.DEVNULL, cwd=folder, **settings)
 
     def listens(self):

@@ -73,7 +73,7 @@ def recipes():
     causes = CAUSES.findall(read("docs", "EDITS.md").decode())
     words = re.findall(r'^  "([A-Za-z]+)": "', read("examples", "causes.jq").decode(), re.MULTILINE)
     check("the causes in plain words", (words, len(words)), (causes, 8))
-    missing = [tool for tool in ("bash", "jq", "diff", "curl") if not shutil.which(tool)]
+    missing = [tool for tool in ("bash", "jq", "diff", "curl", "sqlite3") if not shutil.which(tool)]
     if missing:
         checks.skip("docs/RECIPES.md", f"{missing[0]} is not installed")
         return
