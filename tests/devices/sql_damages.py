@@ -236,8 +236,10 @@ def faults_of_a_run(folder, mended, behind_fault=None, **settings):
         answered, failed, wrong = served(child, (lambda: behind_fault(child)) if behind_fault else lambda: None)
         status, left = ended(child)
         said = child.stderr.read()
-    whole = not failed and answered == len(ROWS)
-    if (status, left, said) != ((0, b"", b"") if whole else (5, b"", checks.UNKEPT_TABLE)):
+    # It was not opened; or each command was answered, one at the second time; or none from the first fault on.
+    runs = [(0, 0), (len(ROWS), 1)] if behind_fault else [(0, 0), (answered, 4)]
+    whole = (answered, failed) == (len(ROWS), 0)
+    if (status, left, said) != ((0, b"", b"") if whole else (5, b"", checks.UNKEPT_TABLE)) or not whole and (answered, failed) not in runs:
         wrong.append(("ended", status, left, said, answered, failed))
     mended()
     return wrong + faults_of_rows(folder, answered)

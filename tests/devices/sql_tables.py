@@ -27,7 +27,7 @@ THREE = failing_keepers.of_entry(failing_keepers.recorded("sec_2"), 3, 3)
 
 def run(folder, *words, given=b"", **settings):
     """The status of a run in a folder, and what it wrote."""
-    done = subprocess.run([checks.PROGRAM, *words], input=given, stdout=subprocess.PIPE, stderr=subprocess.DEVNULL, cwd=folder, timeout=120, **settings)
+    done = subprocess.run([checks.PROGRAM, *words], input=given, stdout=subprocess.PIPE, stderr=subprocess.DEVNULL, cwd=folder, timeout=900, **settings)
     return done.returncode, done.stdout
 
 
