@@ -205,6 +205,32 @@ def served():
         check("a table that was served, checked", (run(folder, "sql", "check"), kept(folder)), ((0, b"entries 3 law 3\n"), None))
 
 
+def backups():
+    """The two ways of a backup that docs/JOURNAL.md has, and a restored one, each of which has all entries and goes on; so does the file that another
+    SQLite has opened in between."""
+    rows, more = histories.GROWING[:20], histories.GROWING[20:28]
+    given, told = b"".join(given for given, _ in more), b"".join(wanted for _, wanted in more)
+    with checks.folder() as folder, checks.folder() as both, checks.folder() as single:
+        check("twenty commands", run(folder, "sql", "batch", given=b"".join(given for given, _ in rows))[0], 0)
+        entries = rows_of(folder)
+        for name in (TABLE, TABLE + "-wal"):
+            shutil.copyfile(os.path.join(folder, name), os.path.join(both, name))
+        base, copy = (sqlite3.connect(os.path.join(place, TABLE)) for place in (folder, single))
+        base.backup(copy)
+        base.close()
+        copy.close()
+        for name, place in (("both files, copied", both), ("a backup by another SQLite", single), ("what another SQLite has opened", folder)):
+            check(f"{name}, checked", (run(place, "sql", "check"), rows_of(place)), ((0, b"entries 20 law 20\n"), entries))
+            check_written(f"{name}, goes on", run(place, "sql", "batch", given=given), (0, told))
+            check(f"{name}, in the end", (len(rows_of(place)), rows_of(place)[:20], is_whole(place)), (28, entries, True))
+        for name in (TABLE, TABLE + "-wal", TABLE + "-shm"):
+            if os.path.exists(os.path.join(folder, name)):
+                os.remove(os.path.join(folder, name))
+        shutil.copyfile(os.path.join(single, TABLE), os.path.join(folder, TABLE))
+        shutil.copyfile(os.path.join(single, TABLE + "-wal"), os.path.join(folder, TABLE + "-wal"))
+        check("a backup that is restored", (run(folder, "sql", "check"), rows_of(folder)), ((0, b"entries 28 law 28\n"), rows_of(single)))
+
+
 def kills():
     """A kill behind each response: what was acknowledged is there, for `sql check` and for another SQLite."""
     rows = histories.GROWING[:28]
