@@ -1,0 +1,13 @@
+pub mod Ahead
+pub mod Costs
+pub mod Days
+pub mod HeldRight
+pub mod LeftOut
+pub mod Lines
+pub mod Looking
+pub mod Own
+pub mod Reckoned
+pub mod Spans
+pub mod StandingStill
+pub mod Still
+pub mod Touching
