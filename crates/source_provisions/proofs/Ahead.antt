@@ -1,7 +1,7 @@
 -- A text is made by those ahead of it in the line, and what stands behind changes nothing of it.
-use Rattle.std.proofs.Common.{◌≡◌, ◌∙◌, sym, ap, refl, subst, ℕ, suc, Bool, true, false, cond, ◌&&◌, is_some, List, [], ◌∷◌, ◌++◌, append_assoc, length, map, take, Option, Some, None, option_map}
+use Rattle.std.proofs.Common.{◌≡◌, ◌∙◌, sym, ap, refl, subst, ℕ, suc, Bool, true, false, cond, ◌&&◌, is_some, List, [], ◌∷◌, ◌++◌, append_assoc, length, map, take, Option, Some, None}
 use Rattle.std.proofs.lemmas.List.{append-nil}
-use Rattle.std.specs.List.{AllByRecursion, find}
+use Rattle.std.specs.List.{AllByRecursion}
 use Rattle.std.specs.List.Sorted.{IsStrictlySortedBy}
 use Rattle.std.specs.Str.{bytes_eq}
 use Rattle.law_register.specs.declared.answer.question.Reading.{Reading}
@@ -10,14 +10,14 @@ use Rattle.law_register.specs.declared.law.modification.Modification.{Modificati
 use Rattle.law_register.specs.declared.law.modification.Modification.TheVariants.{Textual, Force, Efficacy}
 use Rattle.law_register.specs.declared.register.known.Known.{Known}
 use Rattle.law_register.specs.declared.register.known.KnownMod.{KnownMod}
-use Rattle.law_register.specs.Answer.Replay.{VersionValue, replay_on}
+use Rattle.law_register.specs.Answer.Replay.{replay_on}
 use Rattle.law_register.specs.Law.Sources.{source_of}
 use Rattle.law_register.proofs.Lists.{take_none}
 use Rattle.law_register.proofs.Puts.{right_true}
 use Rattle.source_provisions.specs.Line.{line_cmp, work_in}
 use Rattle.source_provisions.specs.Looking.{is_after, looked_at, source_looked_at}
 use Rattle.source_provisions.specs.Trees.{WorkText, borne, is_borne, named_stands, source_stands, stands, stands_in, text_in, text_on, texts_after, trees, version_in, work_borne}
-use Rattle.source_provisions.proofs.Lines.{found_behind, found_in_front, not_after}
+use Rattle.source_provisions.proofs.Lines.{found_in_front, not_after}
 
 abbrev pub knowns : List WorkText → List Known
 knowns texts = map (λ t. t.known) texts

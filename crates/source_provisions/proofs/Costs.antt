@@ -1,5 +1,5 @@
 -- Where no modification names a provision it costs what it cost, and nothing has to be held.
-use Rattle.std.proofs.Common.{◌≡◌, ◌∙◌, sym, ap, refl, ℕ, ◌+◌, nat_le, Bool, true, false, cond, ◌&&◌, ◌||◌, List, [], ◌∷◌, ◌++◌, filter, map}
+use Rattle.std.proofs.Common.{◌≡◌, ◌∙◌, ap, refl, ℕ, ◌+◌, nat_le, false, cond, ◌&&◌, ◌||◌, List, [], ◌∷◌, ◌++◌, filter, map}
 use Rattle.std.specs.List.{list_any, sum_by}
 use Rattle.std.specs.Str.{bytes_eq}
 use Rattle.desk_base.specs.declared.id.Id.{Id}
@@ -11,8 +11,8 @@ use Rattle.law_register.specs.Answer.Costs.{cost_after, ids_applied, revision_co
 use Rattle.law_register.specs.Answer.Order.{order}
 use Rattle.law_register.specs.Register.LawList.{laws}
 use Rattle.law_register.proofs.NamedDays.{breakpoints_ascend}
-use Rattle.source_provisions.specs.Costs.{WorkNeeds, cost_over, costs_in, entry_cost_in, full, held_cost, is_one_of, needed, needs_along, needs_through, revision_cost_in}
-use Rattle.source_provisions.specs.Depending.{breakpoints_of, days_along, depends, source_days}
+use Rattle.source_provisions.specs.Costs.{WorkNeeds, cost_over, costs_in, entry_cost_in, full, held_cost, is_one_of, needs_along, needs_through, revision_cost_in}
+use Rattle.source_provisions.specs.Depending.{breakpoints_of, days_along}
 use Rattle.source_provisions.specs.Line.{line, work_in}
 use Rattle.source_provisions.specs.Looking.{names_any}
 use Rattle.source_provisions.specs.Touching.{touched_works}

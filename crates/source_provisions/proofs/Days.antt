@@ -1,5 +1,5 @@
 -- The days of a work are its own and those of the works on which it depends.
-use Rattle.std.proofs.Common.{◌≡◌, ◌∙◌, sym, ap, refl, subst, ℕ, Bool, true, false, cond, ◌&&◌, nat_lt, List, [], ◌∷◌, ◌++◌, append_assoc, map, Option, Some, None}
+use Rattle.std.proofs.Common.{◌≡◌, ◌∙◌, sym, ap, refl, subst, ℕ, Bool, true, false, cond, ◌&&◌, nat_lt, List, [], ◌∷◌, ◌++◌, append_assoc, map, Some}
 use Rattle.std.proofs.lemmas.List.{append-nil}
 use Rattle.std.specs.BTreeSet.{insert_key}
 use Rattle.std.specs.List.{AllByRecursion, list_any}
@@ -19,7 +19,7 @@ use Rattle.source_provisions.specs.Looking.{is_after, looked_at, names_any}
 use Rattle.source_provisions.proofs.Lines.{all_behind, itself_not_later, not_later_behind}
 use Rattle.source_provisions.proofs.Looking.{all_unnamed, depends_after}
 
-all_dropped : {A : Type 0} (P : A → Type 0) (xs ys : List A) → AllByRecursion P (xs ++ ys) → AllByRecursion P ys
+pub all_dropped : {A : Type 0} (P : A → Type 0) (xs ys : List A) → AllByRecursion P (xs ++ ys) → AllByRecursion P ys
 all_dropped P [] ys all = all
 all_dropped P (x ∷ xs) ys all = all_dropped P xs ys all.1
 

@@ -1,9 +1,8 @@
 -- What is held and right bears what bears by all texts.
-use Rattle.std.proofs.Common.{◌≡◌, ◌∙◌, sym, ap, refl, subst, ℕ, suc, Bool, true, false, cond, ◌&&◌, ◌||◌, is_some, List, [], ◌∷◌, filter, length, map, Option, Some, None}
+use Rattle.std.proofs.Common.{◌≡◌, ◌∙◌, sym, ap, refl, ℕ, suc, Bool, true, false, cond, ◌&&◌, ◌||◌, is_some, List, [], ◌∷◌, filter, length, map, Option, Some, None}
 use Rattle.std.specs.List.{AllByRecursion, find, list_any}
 use Rattle.std.specs.Option.{option_map_or}
 use Rattle.std.specs.Str.{bytes_eq}
-use Rattle.desk_base.specs.declared.period.Period.{Period}
 use Rattle.law_register.specs.declared.answer.question.Reading.{Reading}
 use Rattle.law_register.specs.declared.answer.question.Reading.TheVariants as reading
 use Rattle.law_register.specs.declared.law.modification.ModSource.{ModSource}
@@ -18,7 +17,7 @@ use Rattle.source_provisions.specs.Depending.{comes_from}
 use Rattle.source_provisions.specs.Held.{HeldValue, HoldingValue, IsRight, holds, is_of, is_within, looks_at, mod_held, named_holds, names, stands_by, work_held}
 use Rattle.source_provisions.specs.Line.{work_in}
 use Rattle.source_provisions.specs.Looking.{is_after, looked_at, source_looked_at}
-use Rattle.source_provisions.specs.Trees.{borne, is_borne, named_stands, source_stands, stands, trees, work_borne}
+use Rattle.source_provisions.specs.Trees.{borne, is_borne, named_stands, stands, trees, work_borne}
 use Rattle.source_provisions.proofs.Looking.{some_passes}
 
 reading_same : (a b : Reading) → is_same_reading a b ≡ true → a ≡ b

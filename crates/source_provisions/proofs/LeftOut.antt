@@ -1,12 +1,12 @@
 -- What bears is what bears by its own periods, in the same order, without what is not borne.
-use Rattle.std.proofs.Common.{◌≡◌, ◌∙◌, sym, ap, refl, ℕ, ◌==◌, Bool, true, false, cond, ◌&&◌, ◌||◌, List, [], ◌∷◌, ◌++◌, append_assoc, filter, map, Option, Some, None, option_map}
+use Rattle.std.proofs.Common.{◌≡◌, ◌∙◌, sym, ap, refl, ℕ, Bool, true, false, cond, ◌&&◌, List, [], ◌∷◌, ◌++◌, append_assoc, filter, map, Option, Some, None, option_map}
 use Rattle.std.specs.BTreeSet.{insert_key}
 use Rattle.std.specs.Cmp.{IsTotalOrder}
 use Rattle.std.specs.Cmp.Lexicographic.{slice_cmp, on_texts}
 use Rattle.std.specs.List.{AllByRecursion, find, list_any}
 use Rattle.std.specs.List.Sorted.{IsStrictlySortedBy}
 use Rattle.std.specs.Option.{option_map_or}
-use Rattle.std.specs.Ordering.{match_ordering, nat_cmp, ordering_reverse, ordering_then}
+use Rattle.std.specs.Ordering.{match_ordering, nat_cmp, ordering_then}
 use Rattle.std.specs.declared.cmp.Ordering.{Ordering}
 use Rattle.std.specs.declared.cmp.Ordering.TheVariants.{Less, Equal, Greater}
 use Rattle.std.proofs.lemmas.Cmp.{nat_cmp_total, on_total, ranked, then_total}
@@ -49,10 +49,6 @@ module _ {K : Type 0} (cmp : K → K → Ordering) (total : IsTotalOrder cmp) (t
   below_too : (k x : K) (xs : List K) → cmp k x ≡ Less → AllByRecursion (λ y. cmp x y ≡ Less) xs → AllByRecursion (λ y. cmp k y ≡ Less) xs
   below_too k x [] h below = tt
   below_too k x (y ∷ ys) h below = (total.trans k x y h below.0, below_too k x ys h below.1)
-
-  same_below : (k x : K) (xs : List K) → cmp k x ≡ Equal → AllByRecursion (λ y. cmp x y ≡ Less) xs → AllByRecursion (λ y. cmp k y ≡ Less) xs
-  same_below k x [] h below = tt
-  same_below k x (y ∷ ys) h below = (total.congr k x y h ∙ below.0, same_below k x ys h below.1)
 
   pub filtered : (ks : List K) (k : K) → IsStrictlySortedBy cmp ks → filter test (insert_key cmp ks k) ≡ cond (test k) (insert_key cmp (filter test ks) k) (filter test ks)
   unfolding IsStrictlySortedBy
@@ -97,12 +93,12 @@ due_total =
     (then_total (on_total (λ d. d.place) nat_cmp_total)
     (then_total (on_total (λ d. d.id.law) nat_cmp_total) (on_total (λ d. d.id.item) nat_cmp_total)))))
 
-last_equal : (r s : Ordering) → ordering_then r s ≡ Equal → s ≡ Equal
+pub last_equal : (r s : Ordering) → ordering_then r s ≡ Equal → s ≡ Equal
 last_equal Less s h = absurd (let wrong : Less ≡ Equal = h in cc)
 last_equal Equal s h = h
 last_equal Greater s h = absurd (let wrong : Greater ≡ Equal = h in cc)
 
-first_equal : (r s : Ordering) → ordering_then r s ≡ Equal → r ≡ Equal
+pub first_equal : (r s : Ordering) → ordering_then r s ≡ Equal → r ≡ Equal
 first_equal Less s h = h
 first_equal Equal s h = refl
 first_equal Greater s h = h

@@ -1,5 +1,8 @@
 pub mod Ahead
+pub mod BeforeTouched
+pub mod Complete
 pub mod Costs
+pub mod CountedAlike
 pub mod Days
 pub mod HeldRight
 pub mod LeftOut

@@ -1,5 +1,5 @@
 -- What is not looked at changes nothing, and whoever depends on a work is of an earlier day.
-use Rattle.std.proofs.Common.{◌≡◌, ◌∙◌, sym, ap, refl, ℕ, ◌<◌, Bool, true, false, cond, ◌&&◌, ◌||◌, is_some, nat_lt, List, [], ◌∷◌, ◌++◌, append_assoc, map, Option, Some, None, arith}
+use Rattle.std.proofs.Common.{◌≡◌, ◌∙◌, sym, ap, refl, ℕ, ◌<◌, Bool, true, false, cond, ◌&&◌, ◌||◌, is_some, nat_lt, List, [], ◌∷◌, ◌++◌, append_assoc, map, Some, arith}
 use Rattle.std.proofs.lemmas.Bool.Decides.{nat_tests}
 use Rattle.std.proofs.lemmas.List.{append-nil}
 use Rattle.std.specs.List.{AllByRecursion, list_any}
@@ -9,13 +9,13 @@ use Rattle.law_register.specs.declared.law.modification.Modification.{Modificati
 use Rattle.law_register.specs.declared.law.modification.Modification.TheVariants.{Textual, Force, Efficacy}
 use Rattle.law_register.specs.declared.register.known.Known.{Known}
 use Rattle.law_register.specs.declared.register.known.KnownMod.{KnownMod}
-use Rattle.law_register.specs.Answer.Replay.{VersionValue, replay_on}
+use Rattle.law_register.specs.Answer.Replay.{replay_on}
 use Rattle.law_register.specs.Law.Sources.{names_provision, source_of}
 use Rattle.law_register.proofs.ApartIds.{none_left, none_right}
 use Rattle.law_register.proofs.Puts.{bytes_same, left_true, right_true}
 use Rattle.source_provisions.specs.Depending.{IsChain, comes_from, depends}
 use Rattle.source_provisions.specs.Line.{work_in}
-use Rattle.source_provisions.specs.Looking.{is_after, looked_at, names_any, source_looked_at}
+use Rattle.source_provisions.specs.Looking.{is_after, looked_at, names_any}
 use Rattle.source_provisions.specs.Trees.{WorkText, borne, is_borne, source_stands, text_alone, text_on, texts_after, trees, work_borne}
 
 and_true : (b : Bool) → (b && true) ≡ b

@@ -1,8 +1,7 @@
 -- Each work of a line alone has its IRI.
-use Rattle.std.proofs.Common.{◌≡◌, ◌∙◌, sym, ap, refl, ℕ, ◌+◌, Bool, true, false, cond, ◌||◌, List, [], ◌∷◌, length, Option, Some, None, option_map}
+use Rattle.std.proofs.Common.{◌≡◌, ◌∙◌, sym, ap, refl, ℕ, ◌+◌, Bool, true, false, cond, ◌||◌, List, [], ◌∷◌, length, Option, Some, None}
 use Rattle.std.specs.BTreeSet.{insert_key}
-use Rattle.std.specs.List.{AllByRecursion, find, list_any}
-use Rattle.std.specs.Option.{option_or}
+use Rattle.std.specs.List.{AllByRecursion, list_any}
 use Rattle.std.specs.Ordering.{match_ordering}
 use Rattle.std.specs.Str.{bytes_eq}
 use Rattle.std.specs.declared.cmp.Ordering.{Ordering}
@@ -55,7 +54,7 @@ abbrev act_or : Act → Option Known → Act
 act_or act None = act
 act_or act (Some known) = known.act
 
-known_own : (law : List Command) (work : List ℕ) (known : Known) → known_by_law law work ≡ Some known → known.act.work ≡ work
+pub known_own : (law : List Command) (work : List ℕ) (known : Known) → known_by_law law work ≡ Some known → known.act.work ≡ work
 known_own law work known e = by (enacted work law) refl e
   where
     by : (found : Option (ℕ × Act)) → enacted work law ≡ found → known_by work (length law) (length law) law found ≡ Some known → known.act.work ≡ work
@@ -73,18 +72,18 @@ inserted_all P cmp (y ∷ ys) x p all = by (cmp x y) (inserted_all P cmp ys x p 
 
 module _ (law : List Command) where
   -- a work is as the law makes it known
-  abbrev IsKnown : Known → Type 0
+  abbrev pub IsKnown : Known → Type 0
   IsKnown known = known_by_law law known.act.work ≡ Some known
 
   with_known : (works : List Known) (work : List ℕ) (o : Option Known) → known_by_law law work ≡ o → AllByRecursion IsKnown works → AllByRecursion IsKnown (with_work works o)
   with_known works work None is all = all
   with_known works work (Some known) is all = inserted_all IsKnown line_cmp works known (ap (known_by_law law) (known_own law work known is) ∙ is) all
 
-  all_known : (ws : List (List ℕ)) → AllByRecursion IsKnown (line_of law ws)
+  pub all_known : (ws : List (List ℕ)) → AllByRecursion IsKnown (line_of law ws)
   all_known [] = tt
   all_known (w ∷ ws) = with_known (line_of law ws) w (known_by_law law w) refl (all_known ws)
 
-  found_one : (works : List Known) → AllByRecursion IsKnown works → (known : Known) → IsKnown known
+  pub found_one : (works : List Known) → AllByRecursion IsKnown works → (known : Known) → IsKnown known
       → list_any (λ (k : Known). bytes_eq k.act.work known.act.work) works ≡ true → work_in known.act.work works ≡ Some known
   found_one [] all known is there = absurd (let wrong : false ≡ true = there in cc)
   found_one (k ∷ ks) all known is there = by (bytes_eq k.act.work known.act.work) refl (found_one ks all.1 known is) there

@@ -1,28 +1,23 @@
 -- What is reckoned from the texts of all works is right to be held.
-use Rattle.std.proofs.Common.{◌≡◌, ◌∙◌, sym, ap, refl, subst, ℕ, suc, ◌≤◌, Bool, true, false, cond, ◌&&◌, ◌||◌, is_some, nat_le, nat_lt, List, [], ◌∷◌, ◌++◌, filter, length, map, Option, Some, None, option_map}
+use Rattle.std.proofs.Common.{◌≡◌, ◌∙◌, sym, ap, refl, subst, ℕ, suc, Bool, true, false, cond, ◌&&◌, ◌||◌, nat_le, List, [], ◌∷◌, ◌++◌, filter, length, Option, Some, None, option_map}
 use Rattle.std.specs.List.{AllByRecursion, list_any}
 use Rattle.std.specs.List.Sorted.{IsStrictlySortedBy}
 use Rattle.std.specs.Option.{option_map_or}
 use Rattle.std.specs.Ordering.{nat_cmp}
 use Rattle.std.specs.Str.{bytes_eq}
 use Rattle.std.proofs.lemmas.Cmp.{nat_cmp_total}
-use Rattle.desk_base.specs.declared.period.Period.{Period}
-use Rattle.desk_base.specs.Periods.{includes}
 use Rattle.act_tree.specs.Branches.{Branch, Branches, branch, no_branches, more_branches}
-use Rattle.act_tree.specs.Changes.{root_wid}
 use Rattle.act_tree.specs.Provisions.{Provision}
 use Rattle.bearing_mods.specs.Force.{force_at}
-use Rattle.bearing_mods.specs.declared.efficacy.CountedEfficacy.{CountedEfficacy}
 use Rattle.bearing_mods.specs.declared.force.CountedForce.{CountedForce}
 use Rattle.law_register.specs.declared.answer.question.Reading.{Reading}
 use Rattle.law_register.specs.declared.answer.question.Reading.TheVariants as reading
 use Rattle.law_register.specs.declared.law.modification.Destination.TheVariants as to
-use Rattle.law_register.specs.declared.law.modification.Modification.{Modification}
 use Rattle.law_register.specs.declared.register.known.Known.{Known}
 use Rattle.law_register.specs.declared.register.known.KnownMod.{KnownMod}
-use Rattle.law_register.specs.Answer.Bearing.{act_itself, bears_on, force_of_act, node_bears}
-use Rattle.law_register.specs.Answer.Breakpoints.{breakpoints, end_days, insert_days, live_days, period_days}
-use Rattle.law_register.specs.Answer.Counted.{efficacies_on, forces_on}
+use Rattle.law_register.specs.Answer.Bearing.{act_itself, bears_on, node_bears}
+use Rattle.law_register.specs.Answer.Breakpoints.{breakpoints, insert_days, live_days, period_days}
+use Rattle.law_register.specs.Answer.Counted.{efficacies_on}
 use Rattle.law_register.specs.Answer.Flags.{flag_among, flag_below, flag_in, has_some, is_marked, or_else, root_flag}
 use Rattle.law_register.specs.Answer.PastKeys.{is_same_reading}
 use Rattle.law_register.specs.Law.Sources.{source_of}
@@ -30,12 +25,12 @@ use Rattle.law_register.proofs.ApartIds.{none_left, none_right}
 use Rattle.law_register.proofs.InsertedKeys.{inserted_ascends}
 use Rattle.law_register.proofs.Puts.{and_true, bytes_are, bytes_same, left_true, right_true}
 use Rattle.source_provisions.specs.Depending.{WorkDays, comes_from, days_after, days_along, depends, source_days, work_days}
-use Rattle.source_provisions.specs.Held.{HeldValue, IsRight, all_held, held_at, holding_of, is_of, is_place, is_within, looks_at, names, place_of, places, with_place}
+use Rattle.source_provisions.specs.Held.{HeldValue, IsRight, all_held, held_at, holding_of, is_of, is_place, is_within, names, place_of, places, with_place}
 use Rattle.source_provisions.specs.Looking.{looked_at}
 use Rattle.source_provisions.specs.Trees.{WorkText, is_raised, stands, stands_in, text_in, trees}
 use Rattle.source_provisions.proofs.HeldRight.{later_passed, some_passed}
 use Rattle.source_provisions.proofs.Spans.{spans_tell}
-use Rattle.source_provisions.proofs.StandingStill.{Alike, AreStill, inserted_both, each_live, none_between, source_each, still_found, texts_alike}
+use Rattle.source_provisions.proofs.StandingStill.{Alike, inserted_both, each_live, none_between, source_each, still_found, texts_alike}
 use Rattle.source_provisions.proofs.Still.{EachDay, IsLater, IsStill, efficacies_later, forces_later, own_later}
 
 -- before all days of a work none of its provisions stands

@@ -1,6 +1,5 @@
 -- Between two days that none of a work's days parts its text stands still, and so do its flags.
-use Rattle.std.proofs.Common.{◌≡◌, ◌∙◌, sym, ap, refl, subst, ℕ, ◌≤◌, Bool, true, false, cond, ◌&&◌, ◌||◌, nat_le, nat_lt, List, [], ◌∷◌, ◌++◌, map, Option, Some, None, arith}
-use Rattle.std.proofs.lemmas.Bool.Decides.{nat_tests}
+use Rattle.std.proofs.Common.{◌≡◌, ◌∙◌, sym, ap, refl, subst, ℕ, ◌≤◌, Bool, true, false, cond, ◌&&◌, ◌||◌, nat_le, nat_lt, List, [], ◌∷◌, ◌++◌, map, Option, Some, None}
 use Rattle.std.proofs.lemmas.Cmp.{ranked}
 use Rattle.std.specs.BTreeSet.{insert_key}
 use Rattle.std.specs.List.{AllByRecursion, list_any}
@@ -19,7 +18,6 @@ use Rattle.law_register.specs.declared.answer.due.Due.{Due}
 use Rattle.law_register.specs.declared.answer.question.Reading.{Reading}
 use Rattle.law_register.specs.declared.answer.question.Reading.TheVariants as reading
 use Rattle.law_register.specs.declared.law.modification.Destination.TheVariants as to
-use Rattle.law_register.specs.declared.law.modification.ModSource.{ModSource}
 use Rattle.law_register.specs.declared.law.modification.Modification.{Modification}
 use Rattle.law_register.specs.declared.law.modification.Modification.TheVariants.{Textual, Force, Efficacy}
 use Rattle.law_register.specs.declared.register.known.Known.{Known}
@@ -29,7 +27,7 @@ use Rattle.law_register.specs.Answer.Breakpoints.{breakpoints, days_of, insert_d
 use Rattle.law_register.specs.Answer.Counted.{efficacies_on, forces_on}
 use Rattle.law_register.specs.Answer.Flags.{flag_among, flag_below, flag_in, has_some, is_marked, or_else, root_flag}
 use Rattle.law_register.specs.Answer.Order.{order}
-use Rattle.law_register.specs.Answer.Replay.{as_enacted, replay_on, replayed}
+use Rattle.law_register.specs.Answer.Replay.{as_enacted, replayed}
 use Rattle.law_register.specs.Law.Sources.{source_of}
 use Rattle.law_register.proofs.ApartIds.{none_left, none_right}
 use Rattle.law_register.proofs.Puts.{and_true, bytes_are, bytes_same}

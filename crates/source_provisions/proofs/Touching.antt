@@ -1,7 +1,7 @@
 -- Where no modification names a provision an entry touches each work as if it stood alone.
-use Rattle.std.proofs.Common.{◌≡◌, ◌∙◌, sym, ap, refl, ℕ, Bool, true, false, cond, ◌||◌, List, [], ◌∷◌, ◌++◌, append_assoc, map, Option, Some, None}
+use Rattle.std.proofs.Common.{◌≡◌, ◌∙◌, sym, ap, refl, ℕ, Bool, true, false, cond, List, [], ◌∷◌, ◌++◌, append_assoc, map, Option, Some, None}
 use Rattle.std.proofs.lemmas.List.{append-nil}
-use Rattle.std.specs.List.{AllByRecursion, find, list_any}
+use Rattle.std.specs.List.{list_any}
 use Rattle.std.specs.Option.{option_map_or}
 use Rattle.std.specs.Str.{bytes_eq}
 use Rattle.law_register.specs.declared.register.entry.Entry.{Entry}
@@ -14,7 +14,7 @@ use Rattle.law_register.proofs.Puts.{bytes_same}
 use Rattle.source_provisions.specs.Depending.{depends, depends_in}
 use Rattle.source_provisions.specs.Line.{line, work_in}
 use Rattle.source_provisions.specs.Looking.{names_any}
-use Rattle.source_provisions.specs.Touching.{WorkTouched, days_told, first_reached, is_concerned, own, touched, touched_after, touched_along, touched_as, touched_by, touched_works}
+use Rattle.source_provisions.specs.Touching.{WorkTouched, days_told, first_reached, own, touched, touched_after, touched_along, touched_as, touched_by, touched_works}
 use Rattle.source_provisions.proofs.Days.{independent}
 
 either_way : {A : Type 0} (b : Bool) (x : A) → cond b x x ≡ x

@@ -1,6 +1,6 @@
 -- The texts of all works on a day: each is made from the act as enacted, by what bears, once the texts ahead of it in the line are.
-use Rattle.std.specs.Prelude.{ℕ, Bool, true, false, ◌&&◌, List, [], ◌∷◌, ◌++◌, map, Option, Some, None, if◌then◌else◌}
-use Rattle.std.specs.List.{find}
+use Rattle.std.specs.Prelude.{◌≡◌, ℕ, Bool, true, false, ◌&&◌, List, [], ◌∷◌, ◌++◌, map, Option, Some, None, option_map, if◌then◌else◌}
+use Rattle.std.specs.List.{AllByRecursion, find}
 use Rattle.std.specs.Option.{option_map_or}
 use Rattle.std.specs.Str.{bytes_eq}
 use Rattle.desk_base.specs.declared.id.Id.{Id}
@@ -92,3 +92,13 @@ version_in line known reading day = replay_on (work_borne line (trees line readi
 -- a work with the text that its modifications make where no provision is looked at
 abbrev pub text_alone : Reading → ℕ → Known → WorkText
 text_alone reading day known = record { known = known; version = replay_on known reading day }
+
+-- what the known modification of this id says
+abbrev pub said_by : List KnownMod → Id → Option Modification
+said_by mods id = option_map (λ m. m.body) (find (λ m. is_same_id m.id id) mods)
+
+-- on a day a work is one in two lines: the same modifications bear, in the same order, each says the same, and they make the same text
+pub record AgreesOn (line other : List Known) (old new : Known) (reading : Reading) (day : ℕ) : Type 0 where
+  pub orders : order_in line old reading day ≡ order_in other new reading day
+  pub bodies : AllByRecursion (λ id. said_by old.mods id ≡ said_by new.mods id) (order_in other new reading day)
+  pub versions : version_in line old reading day ≡ version_in other new reading day

@@ -1,6 +1,6 @@
 //! What holds of the texts of all works on a day. Each law is a function that does nothing, whose clause is the law.
 
-ghost use Rattle.std.specs.Prelude.{◌≡◌, ◌<◌, ◌≤◌, ◌++◌, ◌∷◌, [], ◌&&◌, ℕ, List, Some, false, filter, length, map, nat_le, nat_lt, take};
+ghost use Rattle.std.specs.Prelude.{◌≡◌, ◌<◌, ◌≤◌, ◌++◌, ◌∷◌, [], ◌&&◌, ℕ, List, Some, false, true, filter, length, map, nat_le, nat_lt, take};
 ghost use Rattle.std.specs.List.{AllByRecursion, list_any};
 ghost use Rattle.law_register.specs.declared.answer.question.Reading.{Reading};
 ghost use Rattle.law_register.specs.declared.law.command.Command.{Command};
@@ -11,13 +11,15 @@ ghost use Rattle.law_register.specs.Answer.Order.{order};
 ghost use Rattle.law_register.specs.Answer.Soundness.{id_twice};
 ghost use Rattle.law_register.specs.Answer.Touched.{day_among, touched_days};
 ghost use Rattle.law_register.specs.Register.LawList.{laws};
+ghost use Rattle.law_register.specs.Register.Verdicts.{is_legal};
+ghost use Rattle.version_cache.specs.Agreement.{IsBefore};
 ghost use Rattle.source_provisions.specs.Costs.{entry_cost_in, held_cost, revision_cost_in};
 ghost use Rattle.source_provisions.specs.Depending.{IsChain, breakpoints_of, days_along, depends, own_days};
 ghost use Rattle.source_provisions.specs.Held.{HoldingValue, IsRight, holding_of, work_held};
 ghost use Rattle.source_provisions.specs.Line.{IsLine, line, work_in};
 ghost use Rattle.source_provisions.specs.Looking.{looked_at, names_any};
 ghost use Rattle.source_provisions.specs.Touching.{touched, touched_works};
-ghost use Rattle.source_provisions.specs.Trees.{WorkText, is_borne_id, order_in, text_alone, trees, version_in, work_borne};
+ghost use Rattle.source_provisions.specs.Trees.{AgreesOn, WorkText, is_borne_id, order_in, text_alone, trees, version_in, work_borne};
 
 /// The works of a law are a line: the act of the latest day first, on one day by the bytes of the IRI, and each IRI once.
 pub fn laws_have_lines()
@@ -99,6 +101,18 @@ pub fn texts_stand_still()
     ensures { (works : List Known) (known : Known) (reading : Reading) (from day : ℕ) → from ≤ day
         → list_any (λ d. nat_lt from d && nat_le d day) (breakpoints_of works known) ≡ false
         → order_in works known reading day ≡ order_in works known reading from }
+{}
+
+/// Nothing changes in a work before its touched day, and in one that an entry does not touch nothing changes on any day: the same
+/// modifications bear, in the same order, each says the same, and they make the same text.
+pub fn works_change_from_their_touched_days()
+    ensures { (entries : List Entry) (entry : Entry) (work : List ℕ) (reading : Reading) (day : ℕ) (old new : Known)
+        → is_legal entries ≡ true
+        → 1 ≤ day
+        → work_in work (line (laws entries)) ≡ Some old
+        → work_in work (line (laws (entries ++ entry ∷ []))) ≡ Some new
+        → IsBefore day (touched entries entry work)
+        → AgreesOn (line (laws entries)) (line (laws (entries ++ entry ∷ []))) old new reading day }
 {}
 
 /// What is held, where it is right for what is known of a work, says what bears: on each day and in each reading the same
