@@ -1,5 +1,6 @@
 """Sessions of a desk over a keeper each of whose calls fails in turn, alone or with all behind it, and that keeps what the failed append brought
-or not. What a line is to write is reckoned here, from docs/DESK.md and docs/MODEL.md alone, and so is what is kept at the end.
+or not, or tells damage in the place of each failure once it was opened. What a line is to write is reckoned here, from docs/DESK.md and
+docs/MODEL.md alone, and so is what is kept at the end.
 
 Who sends the lines sends a command again, at most so often, while it is answered by a fault; so each command acts once.
 """
@@ -10,6 +11,8 @@ from rows import dossiers, register
 from rows.register import ONE, again, draft, law, refused
 
 FAULT = '{"fault":"keeper"}'
+DAMAGE = '{"byte":null,"damaged":"journal","place":0}'
+MANNERS = {"open": "not kept", "keep": "kept", "damage": "not kept, and damage is told"}
 UNKNOWN = f'{{"kept":"{ONE}","name":"UnknownWork","query":1}}'
 DAY = "2011-02-01"
 SECTIONS = 40
@@ -236,12 +239,12 @@ def opened(desk):
     return f"entries {len(desk.payloads)} law {desk.known.laws}"
 
 
-def after_end(keeper, line):
+def after_end(keeper, line, fault):
     try:
         keeper.open()
         return line
     except Failed:
-        return FAULT
+        return fault
 
 
 def lines_of(desk, steps, times):
@@ -264,32 +267,33 @@ def kept_by(desk, keeper):
     return "kept " + " ".join(data.hex() for data in payloads) if payloads else "kept", f"entries {len(payloads)} law {known.laws}"
 
 
-def session(steps, first, goes_on, keeps):
+def session(steps, first, goes_on, manner):
     """A session in which a call of the keeper fails, or each from that one on until all lines are sent: the lines, what is written at the end,
-    and whether a call failed."""
-    keeper = Keeper(first, goes_on, keeps)
+    and whether a call failed. What is opened later and fails is a fault all the same where damage is told; an opening of its own shows it."""
+    keeper = Keeper(first, goes_on, manner == "keep")
+    later = DAMAGE if manner == "damage" else FAULT
     desk = Desk(keeper)
     try:
         keeper.open()
         lines = [("", "entries 0 law 0"), *lines_of(desk, steps, 2 if goes_on else 3)]
     except Failed:
-        lines = [("", FAULT), *((step.line, None) for step in steps)]
+        lines = [("", FAULT if keeper.made == 1 else later), *((step.line, None) for step in steps)]
     keeper.goes_on = False
     kept, found = kept_by(desk, keeper)
-    end = [after_end(keeper, kept), after_end(keeper, found)]
+    end = [after_end(keeper, kept, FAULT), after_end(keeper, found, later)]
     words = ",".join(str(number) for number in keeper.failed) or "-"
-    lines[0] = f"{'keep' if keeps else 'open'} {words} - -", lines[0][1]
+    lines[0] = f"{manner} {words} - -", lines[0][1]
     return lines, end, bool(keeper.failed)
 
 
 def sessions():
     """Each call of the keeper until one is left that none of a session makes."""
     for name, steps in (("three requests", FIRST_THREE), ("a stream", STREAM)):
-        for keeps in (False, True):
+        for manner, told in MANNERS.items():
             for goes_on in (False, True):
                 first, has_failed = 0, True
                 while has_failed:
                     first += 1
-                    lines, end, has_failed = session(steps, first, goes_on, keeps)
-                    how = f"{'with all later' if goes_on else 'alone'}, {'kept' if keeps else 'not kept'}"
+                    lines, end, has_failed = session(steps, first, goes_on, manner)
+                    how = f"{'with all later' if goes_on else 'alone'}, {told}"
                     yield f"{name}, call {first} of the keeper fails, {how}", lines, end

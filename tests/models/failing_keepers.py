@@ -10,6 +10,7 @@ from rows import dossiers
 from rows.register import SECTIONS, add, again, draft, enact, front, law, record, refused, withdraw
 
 FAULT = '{"fault":"keeper"}'
+DAMAGE = '{"byte":null,"damaged":"journal","place":0}'
 FIRST_APPEND = 3
 COMMANDS = 41
 
@@ -25,6 +26,11 @@ def kept(*payloads):
 def open_line(failing=(), days=(), payloads=()):
     words = [",".join(str(n) for n in failing), ",".join(days), ",".join(data.hex() for data in payloads)]
     return "open " + " ".join(word or "-" for word in words)
+
+
+def damage_line(failing):
+    """The first line of a keeper that tells damage in the place of each failure once it was opened."""
+    return "damage" + open_line(failing)[4:]
 
 
 def keep_line(failing=()):
@@ -176,6 +182,15 @@ SESSIONS = {
         (command_line(2), again(law(2))), front(3, 3), ("marks", "marks ada 2 1")], [kept(payload(1), payload(2), payload(3)), opened(3)]),
     "what a failed append kept, found at the end": ([(keep_line([FIRST_APPEND]), opened(0)), (command_line(1), FAULT), front(0, 0)],
                                                     [kept(ENACTED), opened(1)]),
+    "damage that a second opening finds": ([
+        (damage_line([FIRST_APPEND, FIRST_APPEND + 1]), opened(0)), (command_line(1), FAULT), (command_line(1), FAULT), *stands(0, (1, 0), (1, 0)),
+        (command_line(1), law(1)), (command_line(1), again(law(1))), front(1, 1)], [kept(ENACTED), opened(1)]),
+    "damage of a payload that is found behind a second opening": ([
+        (damage_line([FIRST_APPEND, FIRST_APPEND + 2]), opened(0)), (command_line(1), FAULT), (command_line(2, 9), FAULT), *stands(0, (1, 0), (9, 0)),
+        (command_line(1), law(1)), front(1, 1)], [kept(ENACTED), opened(1)]),
+    "damage behind the first opening": ([(damage_line([2]), DAMAGE)], [kept(), opened(0)]),
+    "a first opening that fails": ([(damage_line([1]), FAULT)], [kept(), opened(0)]),
+    "damage at the end": ([(damage_line([3, 5]), opened(0)), front(0, 0)], [FAULT, DAMAGE]),
     "an opening that fails": ([(open_line([1]), FAULT)], [kept(), opened(0)]),
     "a load that fails": ([(open_line([2]), FAULT)], [kept(), opened(0)]),
     "a load that fails behind a payload": ([(open_line([5], payloads=[ENACTED]), FAULT)], [kept(ENACTED), opened(1)]),
@@ -191,7 +206,8 @@ SESSIONS = {
 }
 SESSIONS.update(damages())
 SESSIONS.update({f"the first line {line}": ([(line, "no such line"), front(0, 0)], []) for line in (
-    "open", "open -", "open - -", "open x - -", "open - 2011-13-01 -", "open - - 0", "keep", "keep x - -", "walk", "reopen")})
+    "open", "open -", "open - -", "open x - -", "open - 2011-13-01 -", "open - - 0", "keep", "keep x - -", "damage", "damage x - -", "walk",
+    "reopen")})
 SESSIONS.update({f"append {k} fails": failing_once(k) for k in range(1, 41)})
 SESSIONS.update({f"append {k} fails, and call {s} behind it": failing_twice(k, s) for k in (1, 2, 40) for s in (1, 2, 3)})
 SESSIONS.update({f"append {k} fails, and another command comes": another_first(k) for k in (2, 7)})

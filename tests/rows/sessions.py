@@ -100,8 +100,8 @@ def failing_keepers():
 
 
 def keepers_in_turn():
-    """A desk each call of whose keeper fails, alone or with all behind it, and that keeps what a failed append brought or not: what it answers,
-    and what is kept."""
+    """A desk each call of whose keeper fails, alone or with all behind it, and that keeps what a failed append brought or not, or finds damage
+    later: what it answers, and what is kept."""
     for name, lines, end in failing_desks.sessions():
         status, got = lines_of(line for line, _ in lines)
         wanted = [(line, want) for line, want in lines if want is not None] + [("", want) for want in end]

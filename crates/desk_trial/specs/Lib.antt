@@ -3,3 +3,4 @@ pub mod Knowing
 pub mod Commands
 pub mod Bytes
 pub mod Tabling
+pub mod Untold

@@ -15,16 +15,16 @@ mod settings;
 mod stop;
 mod store;
 mod tabling;
+mod trial_keeper;
 
 ghost use Rattle.std.specs.Prelude.{◌≡◌};
 
 use desk_base::{ListClock, Memory, Steps};
-use law_keeper::MapKeeper;
 use law_office::Office;
 use law_register::Desk;
 use lines::told_of_line;
 use replies::{marks_line, refused_line};
-use settings::{Setting, setting_of};
+use settings::{Failing, Setting, setting_of};
 use std::alloc::Global;
 use std::io::{self, BufRead, BufReader, BufWriter, Read, Write};
 use std::marker::Brand;
@@ -34,6 +34,7 @@ use std::thread::Threads;
 use stop::Stop;
 use store::{clock_of, keeper_of, kept_line, opened_line, reopened_line, viewed_line};
 use tabling::told_of_tables;
+use trial_keeper::TrialKeeper;
 
 /// How many bytes are read, and written, at a time.
 const PIECE: usize = 65_536;
@@ -55,7 +56,7 @@ fn write_line<W: Write + Drop>(
 // What is told of a line that asks for tables, or of any that a desk answers.
 fn told_by_office<L: Ledger>(
     alloc: Global,
-    office: &mut Office<'_, '_, MapKeeper, ListClock>,
+    office: &mut Office<'_, '_, TrialKeeper, ListClock>,
     line: &[u8],
     steps: &mut Steps<L>,
 ) -> Result<Vec<u8>, Memory> {
@@ -68,7 +69,7 @@ fn told_by_office<L: Ledger>(
 // Tells of a line that an office answers. After the line `front` what was written is handed on.
 fn tell_line<W: Write + Drop, L: Ledger>(
     alloc: Global,
-    office: &mut Office<'_, '_, MapKeeper, ListClock>,
+    office: &mut Office<'_, '_, TrialKeeper, ListClock>,
     line: &[u8],
     out: &mut BufWriter<W>,
     steps: &mut Steps<L>,
@@ -84,7 +85,7 @@ fn tell_line<W: Write + Drop, L: Ledger>(
 // Tells of each line that is left, in order.
 fn tell_lines<R: Read + Drop, W: Write + Drop, L: Ledger>(
     alloc: Global,
-    office: &mut Office<'_, '_, MapKeeper, ListClock>,
+    office: &mut Office<'_, '_, TrialKeeper, ListClock>,
     lines: io::Split<BufReader<R>>,
     out: &mut BufWriter<W>,
     steps: &mut Steps<L>,
@@ -99,7 +100,7 @@ fn tell_lines<R: Read + Drop, W: Write + Drop, L: Ledger>(
 // Tells of the first line, which is that of the office where it opened what the keeper has, and then of each line that is left.
 fn tell_all<R: Read + Drop, W: Write + Drop, L: Ledger>(
     alloc: Global,
-    office: &mut Office<'_, '_, MapKeeper, ListClock>,
+    office: &mut Office<'_, '_, TrialKeeper, ListClock>,
     first: Option<&[u8]>,
     lines: io::Split<BufReader<R>>,
     out: &mut BufWriter<W>,
@@ -118,7 +119,7 @@ fn tell_all<R: Read + Drop, W: Write + Drop, L: Ledger>(
 // Opens what a keeper has, and tells of each line; where it is refused, of that alone.
 fn serve<R: Read + Drop, W: Write + Drop, L: Ledger>(
     alloc: Global,
-    keeper: &mut MapKeeper,
+    keeper: &mut TrialKeeper,
     clock: &mut ListClock,
     first: Option<&[u8]>,
     lines: io::Split<BufReader<R>>,
@@ -141,7 +142,7 @@ fn serve<R: Read + Drop, W: Write + Drop, L: Ledger>(
 // Tells what a keeper has once an office is let go, and what its opening says.
 fn tell_end<W: Write + Drop>(
     alloc: Global,
-    keeper: &mut MapKeeper,
+    keeper: &mut TrialKeeper,
     out: &mut BufWriter<W>,
 ) -> Result<(), Stop> {
     let kept = kept_line(alloc, keeper)?;
@@ -161,12 +162,12 @@ fn run_set<R: Read + Drop, W: Write + Drop, L: Ledger>(
     let Setting {
         view,
         failing,
-        keeps_failed,
+        manner,
         days,
         kept,
     } = setting;
     let mut clock = clock_of(alloc, days.as_slice())?;
-    let mut keeper = keeper_of(alloc, failing.as_slice(), keeps_failed, kept)?;
+    let mut keeper = keeper_of(alloc, failing.as_slice(), manner, kept)?;
     match viewed_line(alloc, &mut keeper, view)? {
         Some(told) => write_line(out, told.as_slice(), true),
         None => {
@@ -185,7 +186,7 @@ fn run_plain<R: Read + Drop, W: Write + Drop, L: Ledger>(
     steps: &mut Steps<L>,
 ) -> Result<(), Stop> {
     let mut clock = clock_of(alloc, &[])?;
-    let mut keeper = MapKeeper::new(alloc, &[])?;
+    let mut keeper = TrialKeeper::new(alloc, &[], Failing::Undone)?;
     serve(
         alloc,
         &mut keeper,

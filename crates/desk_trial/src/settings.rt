@@ -15,6 +15,17 @@ pub enum View {
     Decoded,
 }
 
+/// What becomes of a call of the keeper that fails.
+#[derive(Clone, Copy, Debug, PartialEq, Eq)]
+pub enum Failing {
+    /// It did nothing.
+    Undone,
+    /// An append keeps its payload all the same.
+    Kept,
+    /// It did nothing, and damage is told of an opening or a load, once the keeper has been opened.
+    Damaged,
+}
+
 /// What the first line asks for.
 #[derive(Drop)]
 pub struct Setting {
@@ -22,8 +33,8 @@ pub struct Setting {
     pub view: View,
     /// The numbers of the calls of the keeper that fail, counted from 1.
     pub failing: Vec<u64>,
-    /// Whether it keeps the payload of an append that fails.
-    pub keeps_failed: bool,
+    /// What becomes of these.
+    pub manner: Failing,
     /// The days that the clock tells, of which there is at least one.
     pub days: Vec<Day>,
     /// The payloads that the keeper has.
@@ -82,7 +93,7 @@ fn listed(alloc: Global, word: &str) -> Result<Option<Vec<Vec<u8>>>, Memory> {
 fn setting_named(
     alloc: Global,
     view: View,
-    keeps_failed: bool,
+    manner: Failing,
     words: &str,
 ) -> Result<Option<Setting>, Memory> {
     let Some((first, rest)) = words.split_once(' ') else {
@@ -98,7 +109,7 @@ fn setting_named(
         Some(kept) => Ok(Some(Setting {
             view,
             failing,
-            keeps_failed,
+            manner,
             days,
             kept,
         })),
@@ -112,10 +123,11 @@ pub fn setting_of(alloc: Global, line: &[u8]) -> Result<Option<Setting>, Memory>
         return Ok(None);
     };
     match text.split_once(' ') {
-        Some(("open", words)) => setting_named(alloc, View::Opened, false, words),
-        Some(("keep", words)) => setting_named(alloc, View::Opened, true, words),
-        Some(("walk", words)) => setting_named(alloc, View::Counted, false, words),
-        Some(("read", words)) => setting_named(alloc, View::Decoded, false, words),
+        Some(("open", words)) => setting_named(alloc, View::Opened, Failing::Undone, words),
+        Some(("keep", words)) => setting_named(alloc, View::Opened, Failing::Kept, words),
+        Some(("damage", words)) => setting_named(alloc, View::Opened, Failing::Damaged, words),
+        Some(("walk", words)) => setting_named(alloc, View::Counted, Failing::Undone, words),
+        Some(("read", words)) => setting_named(alloc, View::Decoded, Failing::Undone, words),
         _ => Ok(None),
     }
 }

@@ -1,27 +1,24 @@
 //! Store: what an office is lent, set up by the first line, and what of it is told.
 
 use crate::replies::{fault_line, refused_line};
-use crate::settings::View;
+use crate::settings::{Failing, View};
+use crate::trial_keeper::TrialKeeper;
 use desk_base::{Day, ListClock, LoadFault, Memory};
 use entry_codec::{DecodeFail, decode};
-use law_keeper::{KeepFault, Keeper, MapKeeper, payloads};
+use law_keeper::{KeepFault, Keeper, payloads};
 use law_office::Opened;
 use law_register::Register;
 use std::alloc::Global;
 
-/// A keeper in memory with these payloads, some of whose calls fail, and that keeps the payload of an append that fails, or not. The calls
-/// that give it the payloads are counted, too: one that opens it, and one for each of them.
+/// A keeper in memory with these payloads, some of whose calls fail, in this manner. The calls that give it the payloads are counted, too:
+/// one that opens it, and one for each of them.
 pub fn keeper_of(
     alloc: Global,
     failing: &[u64],
-    keeps_failed: bool,
+    manner: Failing,
     kept: Vec<Vec<u8>>,
-) -> Result<MapKeeper, Memory> {
-    let mut keeper = if keeps_failed {
-        MapKeeper::keeping(alloc, failing)?
-    } else {
-        MapKeeper::new(alloc, failing)?
-    };
+) -> Result<TrialKeeper, Memory> {
+    let mut keeper = TrialKeeper::new(alloc, failing, manner)?;
     for payload in kept {
         give(alloc, &mut keeper, payload.as_slice())?;
     }
@@ -29,7 +26,7 @@ pub fn keeper_of(
 }
 
 // Gives a keeper a payload, which it keeps unless it fails.
-fn give(alloc: Global, keeper: &mut MapKeeper, payload: &[u8]) -> Result<(), Memory> {
+fn give(alloc: Global, keeper: &mut TrialKeeper, payload: &[u8]) -> Result<(), Memory> {
     if payload.is_empty() || payload.len() > 16_777_216 {
         return Ok(());
     }
@@ -51,7 +48,7 @@ pub fn clock_of(alloc: Global, days: &[Day]) -> Result<ListClock, Memory> {
 }
 
 // The payloads that a keeper has. `None`: it failed.
-fn walk(alloc: Global, keeper: &mut MapKeeper) -> Result<Option<Vec<Vec<u8>>>, Memory> {
+fn walk(alloc: Global, keeper: &mut TrialKeeper) -> Result<Option<Vec<Vec<u8>>>, Memory> {
     match keeper.reopen(alloc) {
         Ok(()) => match payloads(alloc, keeper) {
             Ok(kept) => Ok(Some(kept)),
@@ -103,7 +100,7 @@ fn count_line(alloc: Global, kept: Vec<Vec<u8>>) -> Result<Vec<u8>, Memory> {
 }
 
 /// The line of the payloads that a keeper has, which is opened for it.
-pub fn kept_line(alloc: Global, keeper: &mut MapKeeper) -> Result<Vec<u8>, Memory> {
+pub fn kept_line(alloc: Global, keeper: &mut TrialKeeper) -> Result<Vec<u8>, Memory> {
     match walk(alloc, keeper)? {
         Some(kept) => bytes_line(alloc, kept),
         None => fault_line(alloc),
@@ -113,7 +110,7 @@ pub fn kept_line(alloc: Global, keeper: &mut MapKeeper) -> Result<Vec<u8>, Memor
 /// The line of what is told of payloads but by opening them. `None`: they are to be opened.
 pub fn viewed_line(
     alloc: Global,
-    keeper: &mut MapKeeper,
+    keeper: &mut TrialKeeper,
     view: View,
 ) -> Result<Option<Vec<u8>>, Memory> {
     if view == View::Opened {
@@ -133,7 +130,7 @@ pub fn opened_line(alloc: Global, register: &Register) -> Result<Vec<u8>, Memory
 }
 
 /// The line of what an opening of a keeper says.
-pub fn reopened_line(alloc: Global, keeper: &mut MapKeeper) -> Result<Vec<u8>, Memory> {
+pub fn reopened_line(alloc: Global, keeper: &mut TrialKeeper) -> Result<Vec<u8>, Memory> {
     match Opened::open(alloc, keeper) {
         Ok(opened) => {
             let line = opened_line(alloc, &opened.register);
