@@ -10,6 +10,7 @@ DESK = os.path.join(TOP, "crates", "desk_trial", "out", "desk_trial")
 TRIAL = os.path.join(TOP, "crates", "journal_trial", "out", "journal_trial")
 TURNS = os.path.join(TOP, "crates", "turn_trial", "out", "turn_trial")
 TABLES = os.path.join(TOP, "crates", "table_trial", "out", "table_trial")
+GATES = os.path.join(TOP, "crates", "serving_trial", "out", "serving_trial")
 SCRIPT = os.path.join(TOP, "lawdesk")
 
 passed = 0

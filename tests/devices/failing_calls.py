@@ -179,7 +179,7 @@ def streams_of_other_forms():
     file = whole_journal()
     dossier = checks.read("examples", "repeal.json")
     for words, given, begun in [(["text", "2011-01-01"], dossier, None), (["check"], b"", file), (["generate", "0", "9"], b"", None),
-                                (["report", "unapplied", "2011-01-01"], b"", file)]:
+                                (["report", "unapplied", "2011-01-01"], b"", file), (["report", "dangling", "2011-01-01"], b"", file)]:
         parts = pieces(given, 97)
         numbers, written = numbers_of(words, parts, begun)
 
@@ -288,7 +288,7 @@ def over_a_journal(folder, words, *strace):
 def disks_of_other_forms():
     """The calls on the journal, of `check` and of a report: where one fails nothing is written, and the file stays as it was."""
     file = whole_journal()
-    for words in (["check"], ["report", "unapplied", "2011-01-01"]):
+    for words in (["check"], ["report", "unapplied", "2011-01-01"], ["report", "dangling", "2011-01-01"]):
         calls, whole = calls_of_a_form(words, file)
         runs = [(place, later) for place in range(len(calls)) for later in (False, True)]
 

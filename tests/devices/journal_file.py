@@ -155,7 +155,7 @@ def no_file():
     """A journal that can't be opened is a fault of the keeper."""
     with checks.folder() as folder:
         os.mkdir(os.path.join(folder, JOURNAL))
-        for words in (["check"], ["batch"], ["report", "unapplied", "2011-01-01"]):
+        for words in (["check"], ["batch"], ["report", "unapplied", "2011-01-01"], ["report", "dangling", "2011-01-01"]):
             done = subprocess.run([checks.PROGRAM, *words], input=histories.FRONT, capture_output=True, cwd=folder, timeout=60)
             got = done.returncode, done.stdout, done.stderr
             check(f"a folder as the journal, {words[0]}", got, (5, b"", checks.SAID[5]))
@@ -169,7 +169,7 @@ def held_file():
             first.stdin.write(histories.FRONT)
             first.stdin.flush()
             first.stdout.read(1)
-            for words in (["check"], ["batch"], ["report", "unapplied", "2011-01-01"]):
+            for words in (["check"], ["batch"], ["report", "unapplied", "2011-01-01"], ["report", "dangling", "2011-01-01"]):
                 done = subprocess.run([checks.PROGRAM, *words], input=histories.FRONT, capture_output=True, cwd=folder, timeout=60)
                 got = done.returncode, done.stdout, done.stderr
                 check(f"a second {words[0]}", got, (5, b"", checks.HELD))

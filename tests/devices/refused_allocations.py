@@ -124,6 +124,7 @@ def forms(port):
                   (3, Opened(["batch"], failing=SOURCE)), (4, Opened(["batch"], histories.FRONT, failing=SINK)),
                   (5, Form(["batch"], histories.FRONT, failing=KEEPER))],
         "report": [(0, Form(["report", "unapplied", "2011-01-01"], begun=file)), (0, Form(["report", "lifecycle", ONE], begun=file)),
+                   (0, Form(["report", "dangling", "2011-01-01"], begun=file)),
                    (0, Form(["report", "correspondence", ONE, "2010-06-01", "2011-01-01"], begun=file)),
                    (9, Form(["report", "lifecycle", ONE + "0"], begun=file)), (5, Form(["report", "lifecycle", ONE], failing=KEEPER))],
         "export": [(0, Exported(["export", "0"], begun=journal(*LONG)))],

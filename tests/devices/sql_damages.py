@@ -22,8 +22,8 @@ from rows.dossiers import repeal
 from rows.register import record
 
 MOST = 16_777_216
-FORMS = (["sql", "check"], ["sql", "batch"], ["sql", "report", "unapplied", "2011-01-01"], ["sql", "export", "0"], ["sql", "follow"],
-         ["sql", "serve", "PORT", "1"], ["move"])
+FORMS = (["sql", "check"], ["sql", "batch"], ["sql", "report", "unapplied", "2011-01-01"], ["sql", "report", "dangling", "2011-01-01"],
+         ["sql", "export", "0"], ["sql", "follow"], ["sql", "serve", "PORT", "1"], ["move"])
 # Another program that makes statements, says so, and holds the file until its input ends.
 HOLDER = """import sqlite3, sys
 held = sqlite3.connect("lawdesk.db", isolation_level=None)

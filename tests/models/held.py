@@ -20,8 +20,8 @@ def period_of(spelled):
 class Provision:
     """A provision of a text."""
 
-    def __init__(self, wid, element, num, content, children):
-        self.wid, self.element, self.num, self.content, self.children = wid, element, num, content, children
+    def __init__(self, wid, element, num, content, children, refs):
+        self.wid, self.element, self.num, self.content, self.children, self.refs = wid, element, num, content, children, refs
 
 
 def level(element, num):
@@ -33,7 +33,7 @@ def provision_of(node, above, brought):
     own = level(node["element"], node["num"])
     wid = f"{above}__{own}" if above and (brought or node["element"] != "section") else own
     return Provision(wid, node["element"], node["num"], node.get("content", ""),
-                     [provision_of(child, wid, brought) for child in node.get("children", [])])
+                     [provision_of(child, wid, brought) for child in node.get("children", [])], node.get("refs", []))
 
 
 def among(provisions, wid):
@@ -65,7 +65,7 @@ def number_taken(body):
 
 
 def copied(provisions):
-    return [Provision(p.wid, p.element, p.num, p.content, copied(p.children)) for p in provisions]
+    return [Provision(p.wid, p.element, p.num, p.content, copied(p.children), p.refs) for p in provisions]
 
 
 def edited(body, id, said):
@@ -288,7 +288,7 @@ def shown(work, reading, day, provisions, flags, above):
     for p in provisions:
         own = level(p.element, p.num)
         eid = f"{above}__{own}" if above and p.element != "section" else own
-        printed = {"element": p.element, "num": p.num, "heading": "", "content": p.content, "refs": [], "eId": eid, "bears": flags[p.wid],
+        printed = {"element": p.element, "num": p.num, "heading": "", "content": p.content, "refs": p.refs, "eId": eid, "bears": flags[p.wid],
                    "children": shown(work, reading, day, p.children, flags, eid)}
         told.append({**printed, **({"wId": p.wid} if p.wid != eid else {})})
     return told

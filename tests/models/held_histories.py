@@ -16,9 +16,9 @@ EFFICACY_TYPES = ["entryIntoEfficacy", "endOfEfficacy", "postponementOfEfficacy"
 class Course:
     """A history: its law, and the line of each command."""
 
-    def __init__(self, seed, works=8, commands=40):
+    def __init__(self, seed, works=8, commands=40, least=2):
         self.draw, self.law, self.lines, self.of, self.live = random.Random(seed), [], [], {}, {}
-        count = self.draw.randrange(2, works + 1)
+        count = self.draw.randrange(least, works + 1)
         days = [self.draw.choice(ACT_DAYS) for _ in range(count)]
         self.uris = [f"/akn/gb/act/{day}/{number}" for number, day in enumerate(days, 1)]
         self.waiting, self.number = list(self.uris), 0
@@ -37,6 +37,14 @@ class Course:
         ends = [day for day in DAYS if day > start]
         return {"from": start, "until": self.draw.choice(ends)} if ends and self.draw.random() < 0.3 else {"from": start}
 
+    def body(self):
+        """The nodes of an act."""
+        return BODY
+
+    def new(self, law):
+        """The nodes of a payload."""
+        return [node(num=str(20 + law), content="New.")]
+
     def wid(self):
         brought = [f"m{law}-{item}__sec_{20 + law}" for law, item in self.of]
         return self.draw.choice(WIDS + brought[-6:])
@@ -49,7 +57,7 @@ class Course:
 
     def textual(self, law):
         rest = {"source": self.source(), "force": self.days()}
-        new = [node(num=str(20 + law), content="New.")]
+        new = self.new(law)
         return self.draw.choice([
             lambda: textual(destination={"wId": self.wid()}, **rest),
             lambda: textual(destination={"wId": self.wid()}, **rest),
@@ -79,7 +87,7 @@ class Course:
 
     def enter_act(self):
         uri = self.waiting.pop(self.draw.randrange(len(self.waiting)))
-        keys = {"FRBRdate": uri.split("/")[4], "force": self.days(), "body": BODY}
+        keys = {"FRBRdate": uri.split("/")[4], "force": self.days(), "body": self.body()}
         self.told(("enact", act(FRBRuri=uri, **keys)), enact, (uri,), keys)
 
     def enter(self):

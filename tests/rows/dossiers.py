@@ -151,7 +151,7 @@ READING = "text wants a reading, force or efficacy"
 SEED = "generate wants a seed, from 0 to 18446744073709551615"
 COUNT = "generate wants a count, from 1 to 2000"
 WORK = "report wants the IRI of an act, as /akn/gb/act/2010-05-01/7"
-TABLE = "report wants a table, lifecycle, correspondence or unapplied"
+TABLE = "report wants a table, lifecycle, correspondence, unapplied or dangling"
 MONTH = "report wants a day, as 2011-01-01"
 LIFE = ["report", "lifecycle", IRI]
 BOTH = ["report", "correspondence", IRI]
@@ -170,7 +170,9 @@ WRONG_WORDS = [
     (["generate", "1", "1 "], f"{COUNT}, and not the 3rd word"),
     (["report"], TABLE), (["report", "life", IRI], f"{TABLE}, and not life"), (["report", "lifecycle"], WORK),
     (["report", "lifecycle", "2010-05-01"], f"{WORK}, and not 2010-05-01"), (["report", "unapplied"], MONTH),
-    (["report", "unapplied", IRI], f"{MONTH}, and not {IRI}"), (LIFE + ["2010-05-01"], "report wants no more words, and not 2010-05-01"),
+    (["report", "unapplied", IRI], f"{MONTH}, and not {IRI}"), (["report", "dangling"], MONTH),
+    (["report", "dangling", "2010-02-29"], f"{MONTH}, and not 2010-02-29"), (["report", "dangled", "2010-05-01"], f"{TABLE}, and not dangled"),
+    (["report", "dangling", "2010-05-01", "force"], "report wants no more words, and not force"), (LIFE + ["2010-05-01"], "report wants no more words, and not 2010-05-01"),
     (BOTH, MONTH), (BOTH + ["2010-05-01"], MONTH), (BOTH + ["2010-05-01", "2010-05-32"], f"{MONTH}, and not 2010-05-32"),
     (BOTH + ["2010-05-01", "2010-05-01", "2010-05-01\t"], "report wants no more words, and not the 6th word"),
     *((["text", day], f"{DAY}, and not {day}") for day in (

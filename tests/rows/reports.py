@@ -12,11 +12,13 @@ import checks
 from checks import check
 from clients.messages import command, compact
 from devices.journal_file import JOURNAL, NEW, called, kept
+from rows import dangling
 from rows.dossiers import SOURCE, efficacy, force, inserted, joined, node, repeal, split, substituted, textual, to
 from rows.histories import QUERY_NAMES
 from rows.register import NONE, ONE, SECTIONS, TWO, add, correct, enact, file, record, restore, withdraw
 
-NAMES = {"lifecycle": ["date", "type", "source", "id"], "correspondence": ["wId", "first", "second"], "unapplied": ["work", "id", "cause"]}
+NAMES = {"lifecycle": ["date", "type", "source", "id"], "correspondence": ["wId", "first", "second"], "unapplied": ["work", "id", "cause"],
+         "dangling": ["work", "eId", "ref", "cause"]}
 TEN = "/akn/gb/act/2010-05-01/10"
 OTHER = "/akn/gb/act/2010-11-01/19"
 OLD = "/akn/gb/act/1999/1"
@@ -213,7 +215,7 @@ def reported(folder, words, given=b""):
 
 def of_registers():
     """Each table is exactly the wanted bytes, is read back as its rows, and leaves the file as it was."""
-    for name, commands, words, table in LIVES + PAIRS + LEFT_OVERS:
+    for name, commands, words, table in LIVES + PAIRS + LEFT_OVERS + dangling.ROWS:
         with checks.folder() as folder:
             given = b"".join(command(line) for line in commands)
             called(folder, "batch", given)
@@ -227,7 +229,7 @@ def of_registers():
 
 def of_words():
     """Words that ask for no table end with 2, with nothing written and no file made."""
-    for words in WORDS:
+    for words in WORDS + dangling.WORDS:
         with checks.folder() as folder:
             check(f"report {words}", (reported(folder, words), os.listdir(folder)), ((2, b""), []))
 
@@ -243,7 +245,11 @@ def of_files():
                 out.write(data)
             check(f"report, {name}", reported(folder, life()), called(folder, "check"))
             check(f"report, {name}, the status", reported(folder, life())[0], 6)
+            check(f"report, {name}, what dangles", reported(folder, dangling.dangling()), called(folder, "check"))
     with checks.folder() as folder:
         line = [checks.PROGRAM, "report"] + held("2011-01-01")
         check("report, a full device", checks.said_to_a_full_device(line, b"", cwd=folder), (4, checks.SAID[4]))
         check("report, a folder as input", checks.over_a_folder(line, cwd=folder), (0, b"work,id,cause\n"))
+        line = [checks.PROGRAM, "report"] + dangling.dangling()
+        check("report, what dangles, a full device", checks.said_to_a_full_device(line, b"", cwd=folder), (4, checks.SAID[4]))
+        check("report, what dangles, a folder as input", checks.over_a_folder(line, cwd=folder), (0, b"work,eId,ref,cause\n"))

@@ -10,6 +10,7 @@ mod drafting;
 mod knowing;
 mod lines;
 mod questions;
+mod referring;
 mod replies;
 mod settings;
 mod stop;
@@ -23,6 +24,7 @@ use desk_base::{ListClock, Memory, Steps};
 use law_office::Office;
 use law_register::Desk;
 use lines::told_of_line;
+use referring::told_of_dangling;
 use replies::{marks_line, refused_line};
 use settings::{Failing, Setting, setting_of};
 use std::alloc::Global;
@@ -53,13 +55,16 @@ fn write_line<W: Write + Drop>(
     Ok(())
 }
 
-// What is told of a line that asks for tables, or of any that a desk answers.
+// What is told of a line that asks for tables, or for what dangles, or of any that a desk answers.
 fn told_by_office<L: Ledger>(
     alloc: Global,
     office: &mut Office<'_, '_, TrialKeeper, ListClock>,
     line: &[u8],
     steps: &mut Steps<L>,
 ) -> Result<Vec<u8>, Memory> {
+    if let Some(told) = told_of_dangling(alloc, office, line)? {
+        return Ok(told);
+    }
     match told_of_tables(alloc, office, line, steps)? {
         Some(told) => Ok(told),
         None => told_of_line(alloc, office, line, steps),

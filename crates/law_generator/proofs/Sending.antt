@@ -3,10 +3,10 @@ use Rattle.std.proofs.Common.{◌≡◌, ◌≤◌, ◌∙◌, sym, ap, subst, �
 use Rattle.std.proofs.lemmas.Option.{none-some}
 use Rattle.desk_base.specs.Clocks.{GivesDay}
 use Rattle.law_generator.specs.Acts.{first_day}
-use Rattle.law_generator.specs.Courses.{HasGenerateCause, IsReady, IsSent, Sends, TellsOnly, after_command, done_of, left_by, sender, sending_cost}
+use Rattle.law_generator.specs.Courses.{HasGenerateCause, IsReady, IsSent, Sends, TellsOnly, after_command, done_of, judging_sent, left_by, sender, sending_cost}
 use Rattle.law_register.specs.Desk.Commands.{AreSettled, Begins, Ends, HasCommandCause, IsIdle, IsPending, IsRefused, IsReplied, Waits, spending}
 use Rattle.law_register.specs.Desk.States.{Standing}
-use Rattle.law_register.specs.Answer.Renewing.{command_cost}
+use Rattle.law_register.specs.Answer.Renewing.{command_cost, judging_cost}
 use Rattle.law_register.specs.Register.Entering.{entered, entry_of}
 use Rattle.law_register.specs.declared.desk.command_fault.CommandFault.{CommandFault}
 use Rattle.law_register.specs.declared.desk.command_fault.CommandFault.TheVariants as commands
@@ -85,30 +85,35 @@ module _ (request : ℕ) (command : Command) (old new : Standing) (ready : IsRea
       ends outcome (subst ByName same is)
 
   -- what the command costs, behind the entries that there were, and on the first day
-  cost_is : (settled : List Entry) (day : ℕ) → Begins old new settled day
-      → command_cost settled (entry_of sender request day None command) ≡ sending_cost old.entries request command
-  cost_is settled day begins =
+  abbrev cost_on : (List Entry → Entry → ℕ) → List Entry → ℕ → ℕ
+  cost_on judging settled day =
+      command_cost settled (entry_of sender request day None command) + judging_cost judging settled (entry_of sender request day None command)
+
+  cost_is : (judging : List Entry → Entry → ℕ) (settled : List Entry) (day : ℕ) → Begins old new settled day
+      → cost_on judging settled day ≡ sending_cost old.entries request command + judging_sent judging old.entries request command
+  cost_is judging settled day begins =
       let same = settles settled day begins in
       let given = (gives settled day begins).0 in
-      λ i. command_cost (same i) (entry_of sender request (given i) None command)
+      λ i. cost_on judging (same i) (given i)
 
-  spends : (outcome : Result Reply CommandFault) (is : Ends sender request command old new outcome)
-      → spending sender request command old new outcome is ≤ sending_cost old.entries request command
-  spends (Ok reply) is = omega (arith, cost_is is.settled is.day is.begins)
-  spends (Err (commands.Rule rule)) is = omega arith
-  spends (Err commands.KeeperFault) (inl waited) = omega arith
-  spends (Err commands.KeeperFault) (inr left) = omega (arith, cost_is new.entries left.day left.begins)
-  spends (Err commands.Memory) (inl waited) = omega arith
-  spends (Err commands.Memory) (inr idle) = omega (arith, cost_is new.entries idle.day idle.begins)
+  spends : (judging : List Entry → Entry → ℕ) (outcome : Result Reply CommandFault) (is : Ends sender request command old new outcome)
+      → spending sender request command old new judging outcome is
+      ≤ sending_cost old.entries request command + judging_sent judging old.entries request command
+  spends judging (Ok reply) is = omega (arith, cost_is judging is.settled is.day is.begins)
+  spends judging (Err (commands.Rule rule)) is = omega arith
+  spends judging (Err commands.KeeperFault) (inl waited) = omega arith
+  spends judging (Err commands.KeeperFault) (inr left) = omega (arith, cost_is judging new.entries left.day left.begins)
+  spends judging (Err commands.Memory) (inl waited) = omega arith
+  spends judging (Err commands.Memory) (inr idle) = omega (arith, cost_is judging new.entries idle.day idle.begins)
 
-  pub spent : (name : List ℕ) (outcome : Result Reply CommandFault) (before after : ℕ) → name ≡ sender
-      → (is : Ends name request command old new outcome) → after ≤ before + spending name request command old new outcome is
-      → after ≤ before + sending_cost old.entries request command
-  spent name outcome before after same is within =
+  pub spent : (judging : List Entry → Entry → ℕ) (name : List ℕ) (outcome : Result Reply CommandFault) (before after : ℕ) → name ≡ sender
+      → (is : Ends name request command old new outcome) → after ≤ before + spending name request command old new judging outcome is
+      → after ≤ before + sending_cost old.entries request command + judging_sent judging old.entries request command
+  spent judging name outcome before after same is within =
       let Spends : List ℕ → Type 0 =
-      λ n. (e : Ends n request command old new outcome) → after ≤ before + spending n request command old new outcome e
-      → after ≤ before + sending_cost old.entries request command in
-      let own : Spends sender = λ e few. omega (arith, few, spends outcome e) in
+      λ n. (e : Ends n request command old new outcome) → after ≤ before + spending n request command old new judging outcome e
+      → after ≤ before + sending_cost old.entries request command + judging_sent judging old.entries request command in
+      let own : Spends sender = λ e few. omega (arith, few, spends judging outcome e) in
       subst Spends (sym same) own is within
 
 -- the cause of a command that was not done is that of the run

@@ -8,7 +8,7 @@ use Rattle.law_generator.specs.declared.generate_fault.GenerateFault.{GenerateFa
 use Rattle.law_generator.specs.declared.generate_fault.GenerateFault.TheVariants as fails
 use Rattle.law_generator.specs.declared.generated.Generated.{Generated}
 use Rattle.law_register.specs.Answer.Asking.{answer_at}
-use Rattle.law_register.specs.Answer.Renewing.{command_cost}
+use Rattle.law_register.specs.Answer.Renewing.{command_cost, judging_cost}
 use Rattle.law_register.specs.Desk.States.{Standing}
 use Rattle.law_register.specs.Register.Entering.{entered, entry_of}
 use Rattle.law_register.specs.Register.LawList.{front}
@@ -53,17 +53,29 @@ course seed zero = record { entries = []; state = seed }
 course seed (suc n) =
     goes_on (course seed n).entries (suc n) (asked (suc n) (front (course seed n).entries) (course seed n).state)
 
--- how many steps a request may take behind these entries: those of its command, on the first day
+-- how many ids are applied at most for a request behind these entries: those of its command, on the first day
 abbrev pub sending_cost : List Entry → ℕ → Command → ℕ
 sending_cost entries request command = command_cost entries (entry_of sender request first_day None command)
 
--- how many steps the first so many requests of a seed may take
-unfoldable pub course_cost : ℕ → ℕ → ℕ
-course_cost seed zero = 0
-course_cost seed (suc n) =
-    course_cost seed n
-    + sending_cost (course seed n).entries (suc n)
-    (asked (suc n) (front (course seed n).entries) (course seed n).state).command
+-- how many references are judged at most for it, where so many are for an entry that stands behind others
+abbrev pub judging_sent : (List Entry → Entry → ℕ) → List Entry → ℕ → Command → ℕ
+judging_sent judging entries request command = judging_cost judging entries (entry_of sender request first_day None command)
+
+-- the command of the request behind the first so many of a seed
+abbrev pub command_after : ℕ → ℕ → Command
+command_after seed n = (asked (suc n) (front (course seed n).entries) (course seed n).state).command
+
+-- how many steps the first so many requests of a seed may take, where for each at most so many references are judged
+unfoldable pub course_cost : (ℕ → ℕ) → ℕ → ℕ → ℕ
+course_cost most seed zero = 0
+course_cost most seed (suc n) =
+    course_cost most seed n + sending_cost (course seed n).entries (suc n) (command_after seed n) + most n
+
+-- for no request behind the first so many of a seed does a desk that has their entries judge more references than that
+abbrev pub AreJudgedWithin : {D : Type 0} → (D → List Entry) → (D → List Entry → Entry → ℕ) → ℕ → (ℕ → ℕ) → Type 0
+AreJudgedWithin entries_in judging seed most =
+    (desk : _) (n : ℕ) → entries_in desk ≡ (course seed n).entries
+    → judging_sent (judging desk) (entries_in desk) (suc n) (command_after seed n) ≤ most n
 
 -- the entries of the register that a seed and a number of requests make
 unfoldable pub entries_of : ℕ → ℕ → List Entry

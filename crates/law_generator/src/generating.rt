@@ -1,8 +1,8 @@
 //! Generating: commands are given to a desk one after another, and it is told what became of them.
 
-ghost use Rattle.std.specs.Prelude.{◌≡◌, ◌+◌, ◌≤◌, [], true, IfOk, OnErr, OnOk, Result};
+ghost use Rattle.std.specs.Prelude.{ℕ, ◌≡◌, ◌+◌, ◌≤◌, [], true, IfOk, OnErr, OnOk, Result};
 ghost use Rattle.law_generator.specs.Courses as spec;
-ghost use Rattle.law_generator.specs.Courses.{HasGenerateCause, IsCut, IsReady, Sends};
+ghost use Rattle.law_generator.specs.Courses.{AreJudgedWithin, HasGenerateCause, IsCut, IsReady, Sends};
 ghost use Rattle.law_register.specs.Answer.Answers.{Answers};
 ghost use Rattle.law_register.specs.Desk.States.{standing};
 ghost use Rattle.law_register.specs.Law.Spelling.{is_well_spelled};
@@ -54,7 +54,8 @@ fn send<D: Desk, L: Ledger>(
     requires ready { IsReady (standing (D.state desk.old)) }
     ensures sent { Sends (standing (D.state desk.old)) (standing (D.state desk.new)) request command result }
     ensures cause { HasGenerateCause (D.state desk.old).faults (D.state desk.new).faults result }
-    ensures steps { steps.new ≤ steps.old + spec.sending_cost (D.state desk.old).entries request command }
+    ensures steps { steps.new ≤ steps.old + spec.sending_cost (D.state desk.old).entries request command
+        + spec.judging_sent (D.judging desk.old) (D.state desk.old).entries request command }
 {
     let outcome = desk.command(alloc, drafter, request, command, steps);
     run_of(outcome)
@@ -74,7 +75,8 @@ fn send_all<D: Desk, L: Ledger>(
     ensures entries { OnOk result ((D.state desk.new).entries ≡ spec.entries_of seed count) }
     ensures cut { OnErr result (IsCut seed count (D.state desk.new).entries) }
     ensures cause { HasGenerateCause (D.state desk.old).faults (D.state desk.new).faults result }
-    ensures steps { steps.new ≤ steps.old + spec.course_cost seed count }
+    ensures steps { (most : ℕ → ℕ) → AreJudgedWithin (λ (d : D). (D.state d).entries) D.judging seed most
+        → steps.new ≤ steps.old + spec.course_cost most seed count }
 {
     let drafter = sender(alloc)?;
     let mut draws = Draws { state: seed };
@@ -147,7 +149,8 @@ fn told<D: Desk>(alloc: Global, desk: &D, commands: u16) -> Result<Generated, Me
 
 /// Gives an empty desk the requests of a seed, one after another, and tells what became of them. Its clock tells
 /// 2000-01-01 at each call. A refused command leaves the register as it was, and the next request comes. After an error
-/// the desk has the entries of the first requests. It takes no more steps than the commands of the requests may.
+/// the desk has the entries of the first requests. It takes no more steps than the commands of the requests
+/// may, wherever the references that a desk judges for each of them are bounded.
 #[tactic(auto, using(crate::proofs::Steps::cut_last, crate::proofs::Steps::told_is))]
 pub fn generate<D: Desk, L: Ledger>(
     alloc: Global,
@@ -162,7 +165,8 @@ pub fn generate<D: Desk, L: Ledger>(
     ensures entries { OnOk result ((D.state desk.new).entries ≡ spec.entries_of seed count) }
     ensures cut { OnErr result (IsCut seed count (D.state desk.new).entries) }
     ensures cause { HasGenerateCause (D.state desk.old).faults (D.state desk.new).faults result }
-    ensures steps { steps.new ≤ steps.old + spec.course_cost seed count }
+    ensures steps { (most : ℕ → ℕ) → AreJudgedWithin (λ (d : D). (D.state d).entries) D.judging seed most
+        → steps.new ≤ steps.old + spec.course_cost most seed count }
 {
     send_all(alloc, desk, seed, count, steps)?;
     Ok(told(alloc, desk, count)?)

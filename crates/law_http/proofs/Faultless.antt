@@ -192,10 +192,10 @@ closes_at_end closing none = record { said = λ entries days. ap responses_bytes
 closes_refused : (closing : List Response) (refusal : MessageRefusal) → closing ≡ refused refusal ∷ [] → Closes closing (heard.Refused refusal ∷ [])
 closes_refused closing refusal is = record { said = λ entries days. ap responses_bytes is; entries = λ entries days. refl }
 
-pub determined : {D : Type 0} (state : D → DeskState) (crashes : D → Crashes Found) (past : D → List PastKey) (left over before now : Option (List ℕ)) (old new : D) (steps later : ℕ) (served : Served)
-    → IsStreamed state crashes past left over before now old new steps later served → (state old).pending ≡ None → IsFaultless served
+pub determined : {D : Type 0} (state : D → DeskState) (crashes : D → Crashes Found) (past : D → List PastKey) (judging : D → List Entry → Entry → ℕ) (left over before now : Option (List ℕ)) (old new : D) (steps later : ℕ) (served : Served)
+    → IsStreamed state crashes past judging left over before now old new steps later served → (state old).pending ≡ None → IsFaultless served
     → IsDetermined left before now (state old).entries (state old).days (state new).entries × ((state new).pending ≡ None)
-determined state crashes past left over before now old new steps later served s none faultless =
+determined state crashes past judging left over before now old new steps later served s none faultless =
     by served.end faultless.whole s.ends s.puts
   where
     quiet : faults_told s.exchanges ≡ 0

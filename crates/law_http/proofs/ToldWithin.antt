@@ -16,6 +16,7 @@ use Rattle.law_register.specs.declared.answer.queries.AskFault.TheVariants as as
 use Rattle.law_register.specs.declared.desk.command_fault.CommandFault.{CommandFault}
 use Rattle.law_register.specs.declared.desk.command_fault.CommandFault.TheVariants as fails
 use Rattle.law_register.specs.declared.register.draft.DraftItem.{DraftItem}
+use Rattle.law_register.specs.declared.register.entry.Entry.{Entry}
 use Rattle.law_register.specs.declared.register.verdict.Reply.{Reply as Outcome}
 use Rattle.law_http.specs.Responses.{Says, reply_bytes}
 use Rattle.law_http.specs.Serving.{ServesAsking, ServesWithin, Stays, accepted_reply, draft_reply}
@@ -66,18 +67,18 @@ module _ {D : Type 0} (state : D → DeskState) (crashes : D → Crashes Found) 
   told_serves closes (asks.Command asked) old new t response (result, is, does) says =
       inr (result, does, subst (λ x. SaysTold closes x response) is says)
 
-  pub told_within : (closes : Bool) (asking : Asking) (old new : D) (t : DeskTold) (response : Response) (before after : ℕ)
-      → TellsWithin state crashes past asking old new t before after → SaysTold closes t response
-      → ServesWithin state crashes past closes (Ok asking) old new response before after
-  told_within closes asks.Front old new t response before after w says =
+  pub told_within : (judging : D → List Entry → Entry → ℕ) (closes : Bool) (asking : Asking) (old new : D) (t : DeskTold) (response : Response) (before after : ℕ)
+      → TellsWithin state crashes past judging asking old new t before after → SaysTold closes t response
+      → ServesWithin state crashes past judging closes (Ok asking) old new response before after
+  told_within judging closes asks.Front old new t response before after w says =
       record { serves = told_serves closes asks.Front old new t response w.tells says; within = w.within }
-  told_within closes (asks.Text text) old new t response before after w says =
+  told_within judging closes (asks.Text text) old new t response before after w says =
       record { serves = told_serves closes (asks.Text text) old new t response w.tells says; within = w.within }
-  told_within closes (asks.Preview preview) old new t response before after w says =
+  told_within judging closes (asks.Preview preview) old new t response before after w says =
       record { serves = told_serves closes (asks.Preview preview) old new t response w.tells says; within = w.within }
-  told_within closes (asks.Draft drafter) old new t response before after w says =
+  told_within judging closes (asks.Draft drafter) old new t response before after w says =
       record { serves = told_serves closes (asks.Draft drafter) old new t response w.tells says; within = w.within }
-  told_within closes (asks.Command asked) old new t response before after w says =
+  told_within judging closes (asks.Command asked) old new t response before after w says =
       record { serves = inr (w.tells.0, w.tells.2, subst (λ x. SaysTold closes x response) w.tells.1 says); within = w.within }
 
   -- there was no memory before anything was asked
@@ -89,9 +90,9 @@ module _ {D : Type 0} (state : D → DeskState) (crashes : D → Crashes Found) 
   memory_serves closes (asks.Draft drafter) desk stays = (stays, inr refl)
   memory_serves closes (asks.Command asked) desk stays = inl (stays, refl)
 
-  pub memory_within : (closes : Bool) (asking : Asking) (desk : D) (steps : ℕ) → Stays state crashes past desk desk
-      → ServesWithin state crashes past closes (Ok asking) desk desk MemoryFault steps steps
-  memory_within closes asking desk steps stays = record { serves = memory_serves closes asking desk stays; within = omega arith }
+  pub memory_within : (judging : D → List Entry → Entry → ℕ) (closes : Bool) (asking : Asking) (desk : D) (steps : ℕ) → Stays state crashes past desk desk
+      → ServesWithin state crashes past judging closes (Ok asking) desk desk MemoryFault steps steps
+  memory_within judging closes asking desk steps stays = record { serves = memory_serves closes asking desk stays; within = omega arith }
 
   -- a desk stays as it is
   pub stays_itself : ((desk : D) → AreCrashes (crashes desk)) → (desk : D) → Stays state crashes past desk desk

@@ -5,6 +5,7 @@ use Rattle.desk_base.specs.Streams.{AppendsFront, risen}
 use Rattle.desk_base.specs.declared.source.Failed.{Failed}
 use Rattle.law_register.specs.Desk.States.{DeskState, Found}
 use Rattle.law_register.specs.declared.answer.past_key.PastKey.{PastKey}
+use Rattle.law_register.specs.declared.register.entry.Entry.{Entry}
 use Rattle.law_http.specs.Asking.{asking_of}
 use Rattle.law_http.specs.Hearing.{IsHeardOf}
 use Rattle.law_http.specs.Refusals.{message_reply}
@@ -105,6 +106,6 @@ module _ {S : Type 0} (answers : Request → S → S → Response → Type 0) wh
 
 module _ {D : Type 0} (state : D → DeskState) (crashes : D → Crashes Found) (past : D → List PastKey) where
   -- a request is answered by a response, the desk goes from the one to the other, and so many steps were taken before it, and after
-  abbrev pub ServesCounted : Request → D × ℕ → D × ℕ → Response → Type 0
-  ServesCounted request old new response =
-      ServesWithin state crashes past request.closes (asking_of request) old.0 new.0 response old.1 new.1
+  abbrev pub ServesCounted : (D → List Entry → Entry → ℕ) → Request → D × ℕ → D × ℕ → Response → Type 0
+  ServesCounted judging request old new response =
+      ServesWithin state crashes past judging request.closes (asking_of request) old.0 new.0 response old.1 new.1

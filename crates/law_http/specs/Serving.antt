@@ -162,32 +162,32 @@ module _ {D : Type 0} (state : D → DeskState) (crashes : D → Crashes Found) 
   abbrev pub Serves : Request → D → D → Response → Type 0
   Serves request old new response = ServesAsking request.closes (asking_of request) old new response
 
-  -- the steps that a command may take, by what came of it
-  abbrev pub commanding_cost : (closes : Bool) (asked : Asked) (old new : D) (response : Response)
+  -- the steps that a command may take, by what came of it, where a desk judges so many references for an entry
+  abbrev pub commanding_cost : (judging : D → List Entry → Entry → ℕ) (closes : Bool) (asked : Asked) (old new : D) (response : Response)
       → ServesCommand closes asked old new response → ℕ
-  commanding_cost closes asked old new response (inl nothing) = 0
-  commanding_cost closes asked old new response (inr (result, does, says)) =
-      spending asked.drafter asked.request asked.command (standing (state old)) (standing (state new)) result does.outcome
+  commanding_cost judging closes asked old new response (inl nothing) = 0
+  commanding_cost judging closes asked old new response (inr (result, does, says)) =
+      spending asked.drafter asked.request asked.command (standing (state old)) (standing (state new)) (judging old) result does.outcome
 
   -- the steps that an answer may take, by what is answered
-  abbrev pub asking_cost : (closes : Bool) (asking : Result Asking RequestRefusal) (old new : D) (response : Response)
+  abbrev pub asking_cost : (judging : D → List Entry → Entry → ℕ) (closes : Bool) (asking : Result Asking RequestRefusal) (old new : D) (response : Response)
       → ServesAsking closes asking old new response → ℕ
-  asking_cost closes (Err refusal) old new response served = 0
-  asking_cost closes (Ok asks.Front) old new response served = 0
-  asking_cost closes (Ok (asks.Text text)) old new response served =
+  asking_cost judging closes (Err refusal) old new response served = 0
+  asking_cost judging closes (Ok asks.Front) old new response served = 0
+  asking_cost judging closes (Ok (asks.Text text)) old new response served =
       answering_cost (state old).entries (question_at (front (state old).entries) text) (past old)
-  asking_cost closes (Ok (asks.Preview preview)) old new response served =
+  asking_cost judging closes (Ok (asks.Preview preview)) old new response served =
       previewing_at (state old).entries preview.drafter (question_previewed preview)
-  asking_cost closes (Ok (asks.Draft drafter)) old new response served = 0
-  asking_cost closes (Ok (asks.Command asked)) old new response served =
-      commanding_cost closes asked old new response served
+  asking_cost judging closes (Ok (asks.Draft drafter)) old new response served = 0
+  asking_cost judging closes (Ok (asks.Command asked)) old new response served =
+      commanding_cost judging closes asked old new response served
 
   -- the steps that the answer to a request may take
-  abbrev pub serving_cost : (request : Request) (old new : D) (response : Response) → Serves request old new response → ℕ
-  serving_cost request old new response served = asking_cost request.closes (asking_of request) old new response served
+  abbrev pub serving_cost : (judging : D → List Entry → Entry → ℕ) (request : Request) (old new : D) (response : Response) → Serves request old new response → ℕ
+  serving_cost judging request old new response served = asking_cost judging request.closes (asking_of request) old new response served
 
   -- what is asked is answered, and so many steps were taken before it, and after
-  pub record ServesWithin (closes : Bool) (asking : Result Asking RequestRefusal) (old new : D) (response : Response)
+  pub record ServesWithin (judging : D → List Entry → Entry → ℕ) (closes : Bool) (asking : Result Asking RequestRefusal) (old new : D) (response : Response)
       (before after : ℕ) : Type 0 where
     pub serves : ServesAsking closes asking old new response
-    pub within : after ≤ before + asking_cost closes asking old new response serves
+    pub within : after ≤ before + asking_cost judging closes asking old new response serves

@@ -6,6 +6,7 @@ use Rattle.desk_base.specs.Crashes.{Crashes}
 use Rattle.desk_base.specs.Streams.{AppendsFront, risen}
 use Rattle.law_register.specs.Desk.States.{DeskState, Found}
 use Rattle.law_register.specs.declared.answer.past_key.PastKey.{PastKey}
+use Rattle.law_register.specs.declared.register.entry.Entry.{Entry}
 use Rattle.law_http.specs.Cutting.{after_empty_lines}
 use Rattle.law_http.specs.Hearing.{AreHeard, HoldsNoRequest, IsFirstHeard}
 use Rattle.law_http.specs.Refusals.{message_reply}
@@ -158,14 +159,14 @@ module _ {D : Type 0} (state : D → DeskState) (crashes : D → Crashes Found) 
   AreServed (e ∷ es) old new = (mid : D) × Serves state crashes past e.request old mid e.response × AreServed es mid new
 
   -- the steps that the answers may take, by what is answered
-  abbrev pub serving_costs : (exchanges : List Exchange) (old new : D) → AreServed exchanges old new → ℕ
-  serving_costs [] old new served = 0
-  serving_costs (e ∷ es) old new served =
-      serving_cost state crashes past e.request old served.0 e.response served.1 + serving_costs es served.0 new served.2
+  abbrev pub serving_costs : (judging : D → List Entry → Entry → ℕ) (exchanges : List Exchange) (old new : D) → AreServed exchanges old new → ℕ
+  serving_costs judging [] old new served = 0
+  serving_costs judging (e ∷ es) old new served =
+      serving_cost state crashes past judging e.request old served.0 e.response served.1 + serving_costs judging es served.0 new served.2
 
   -- what is served of a stream that had these bytes left, and has these over, and wrote behind these, where its link
   -- tells them, and how many steps were taken before and after
-  pub record IsStreamed (left over before now : Option (List ℕ)) (old new : D) (steps later : ℕ) (served : Served)
+  pub record IsStreamed (judging : D → List Entry → Entry → ℕ) (left over before now : Option (List ℕ)) (old new : D) (steps later : ℕ) (served : Served)
       : Type 0 where
     -- the requests that were heard, with the responses to them
     pub exchanges : List Exchange
@@ -176,4 +177,4 @@ module _ {D : Type 0} (state : D → DeskState) (crashes : D → Crashes Found) 
     pub puts : ArePut served.end before now (responses_of exchanges ++ closing)
     pub faulted : IsTrue served.faulted ↔ (faults_told exchanges ≢ 0)
     pub faults : RoseBy (faults_told exchanges) (state old).faults (state new).faults
-    pub cost : later ≤ steps + serving_costs exchanges old new answered
+    pub cost : later ≤ steps + serving_costs judging exchanges old new answered

@@ -19,6 +19,7 @@ use Rattle.law_register.specs.declared.answer.queries.QueryRule.{QueryRule}
 use Rattle.law_register.specs.declared.answer.question.Question.{Question}
 use Rattle.law_register.specs.declared.desk.command_fault.CommandFault.{CommandFault}
 use Rattle.law_register.specs.declared.register.draft.DraftItem.{DraftItem}
+use Rattle.law_register.specs.declared.register.entry.Entry.{Entry}
 use Rattle.law_register.specs.declared.register.verdict.Reply.{Reply as Outcome}
 use Rattle.akn_json.specs.declared.asked.Asked.{Asked}
 use Rattle.law_http.specs.Asking.{question_at, question_previewed}
@@ -54,21 +55,21 @@ module _ {D : Type 0} (state : D → DeskState) (crashes : D → Crashes Found) 
   Tells (asks.Command asked) old new t = (result : Result Outcome CommandFault) × (t ≡ told.Outcome result)
       × Does state crashes past asked old new result
 
-  -- the steps that it may take, by what is told
-  abbrev pub telling_cost : (asking : Asking) (old new : D) (t : DeskTold) → Tells asking old new t → ℕ
-  telling_cost asks.Front old new t tells = 0
-  telling_cost (asks.Text text) old new t tells =
+  -- the steps that it may take, by what is told, where a desk judges so many references for an entry
+  abbrev pub telling_cost : (judging : D → List Entry → Entry → ℕ) (asking : Asking) (old new : D) (t : DeskTold) → Tells asking old new t → ℕ
+  telling_cost judging asks.Front old new t tells = 0
+  telling_cost judging (asks.Text text) old new t tells =
       answering_cost (state old).entries (question_at (front (state old).entries) text) (past old)
-  telling_cost (asks.Preview preview) old new t tells =
+  telling_cost judging (asks.Preview preview) old new t tells =
       previewing_at (state old).entries preview.drafter (question_previewed preview)
-  telling_cost (asks.Draft drafter) old new t tells = 0
-  telling_cost (asks.Command asked) old new t (result, is, does) =
-      spending asked.drafter asked.request asked.command (standing (state old)) (standing (state new)) result does.outcome
+  telling_cost judging (asks.Draft drafter) old new t tells = 0
+  telling_cost judging (asks.Command asked) old new t (result, is, does) =
+      spending asked.drafter asked.request asked.command (standing (state old)) (standing (state new)) (judging old) result does.outcome
 
   -- what is asked is told, and so many steps were taken before it, and after
-  pub record TellsWithin (asking : Asking) (old new : D) (t : DeskTold) (before after : ℕ) : Type 0 where
+  pub record TellsWithin (judging : D → List Entry → Entry → ℕ) (asking : Asking) (old new : D) (t : DeskTold) (before after : ℕ) : Type 0 where
     pub tells : Tells asking old new t
-    pub within : after ≤ before + telling_cost asking old new t tells
+    pub within : after ≤ before + telling_cost judging asking old new t tells
 
 -- room for the response to a command that is accepted, with its first lines
 abbrev pub IsRoom : Bool → Vec ℕ Global → Type 0

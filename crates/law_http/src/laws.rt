@@ -141,7 +141,7 @@ pub fn repeat_changes_nothing()
 /// pending.
 pub fn served_without_fault_is_determined<D: Desk>()
     ensures { (left over before now : Option (List ℕ)) (old new : D) (steps later : ℕ) (served : Served)
-        → IsStreamed D.state D.crashes D.past left over before now old new steps later served
+        → IsStreamed D.state D.crashes D.past D.judging left over before now old new steps later served
         → (D.state old).pending ≡ None → IsFaultless served
         → IsDetermined left before now (D.state old).entries (D.state old).days (D.state new).entries
         × ((D.state new).pending ≡ None) }

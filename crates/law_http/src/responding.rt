@@ -169,7 +169,7 @@ fn answered<D: Desk, L: Ledger>(
     steps: &mut Steps<L>,
 ) -> Response
     requires { IsSpelled asking }
-    ensures { spec.ServesWithin D.state D.crashes D.past closes (Ok asking) desk.old desk.new result
+    ensures { spec.ServesWithin D.state D.crashes D.past D.judging closes (Ok asking) desk.old desk.new result
         steps.old steps.new }
 {
     let Ok(room) = room_for(alloc, &asking, closes) else {
@@ -188,7 +188,7 @@ pub(crate) fn respond_by<D: Desk, L: Ledger>(
     request: &Request,
     steps: &mut Steps<L>,
 ) -> Response
-    ensures { spec.ServesWithin D.state D.crashes D.past request.now.closes (asking_of request.now) desk.old desk.new result
+    ensures { spec.ServesWithin D.state D.crashes D.past D.judging request.now.closes (asking_of request.now) desk.old desk.new result
         steps.old steps.new }
 {
     match request.asking_by(alloc, routes) {
@@ -206,7 +206,7 @@ pub fn respond<D: Desk, L: Ledger>(
     request: &Request,
     steps: &mut Steps<L>,
 ) -> Response
-    ensures { spec.ServesWithin D.state D.crashes D.past request.now.closes (asking_of request.now) desk.old desk.new result
+    ensures { spec.ServesWithin D.state D.crashes D.past D.judging request.now.closes (asking_of request.now) desk.old desk.new result
         steps.old steps.new }
 {
     let routes = Routes::new(alloc).ok();

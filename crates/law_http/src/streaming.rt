@@ -47,7 +47,7 @@ fn answer<K: Link, D: Desk, L: Ledger>(
     steps: &mut Steps<L>,
 ) -> MemberServed
     ensures served { (left rest over : Option (List ℕ)) → IsHeardOf left rest (Heard.Request request.now)
-        → spec.IsMemberServed (spec.ServesCounted D.state D.crashes D.past) left rest over (K.written link.old) (K.written link.new)
+        → spec.IsMemberServed (spec.ServesCounted D.state D.crashes D.past D.judging) left rest over (K.written link.old) (K.written link.new)
         (desk.old, steps.old) (desk.new, steps.new) result.faulted result.end }
     ensures reads { spec.HasMemberCause stream.HasReadCause result.end
         (K.read_faults link.old) (K.read_faults link.new) }
@@ -73,7 +73,7 @@ fn act_on<K: Link, D: Desk, L: Ledger>(
     steps: &mut Steps<L>,
 ) -> MemberServed
     ensures served { (left rest over : Option (List ℕ)) → IsHeardOf left rest heard.now
-        → spec.IsMemberServed (spec.ServesCounted D.state D.crashes D.past) left rest over (K.written link.old) (K.written link.new)
+        → spec.IsMemberServed (spec.ServesCounted D.state D.crashes D.past D.judging) left rest over (K.written link.old) (K.written link.new)
         (desk.old, steps.old) (desk.new, steps.new) result.faulted result.end }
     ensures spent { (before now : ℕ) → Spends before now heard.now → spec.SpendsMember result.end before now }
     ensures reads { spec.HasMemberCause stream.HasReadCause result.end
@@ -105,7 +105,7 @@ fn serve_member<K: Link, D: Desk, L: Ledger>(
     desk: &mut D,
     steps: &mut Steps<L>,
 ) -> MemberServed
-    ensures served { spec.IsMemberServed (spec.ServesCounted D.state D.crashes D.past)
+    ensures served { spec.IsMemberServed (spec.ServesCounted D.state D.crashes D.past D.judging)
         (prepend_known rest.old (K.left link.old)) (prepend_known rest.new (K.left link.new)) (K.left link.new)
         (K.written link.old) (K.written link.new) (desk.old, steps.old) (desk.new, steps.new) result.faulted result.end }
     ensures spent { spec.SpendsMember result.end
@@ -134,7 +134,7 @@ pub fn serve_stream<K: Link, D: Desk, L: Ledger>(
     desk: &mut D,
     steps: &mut Steps<L>,
 ) -> Served
-    ensures served { stream.IsStreamed D.state D.crashes D.past (K.left link.old) (K.left link.new)
+    ensures served { stream.IsStreamed D.state D.crashes D.past D.judging (K.left link.old) (K.left link.new)
         (K.written link.old) (K.written link.new) desk.old desk.new steps.old steps.new result }
     ensures reads { stream.HasReadCause result.end (K.read_faults link.old) (K.read_faults link.new) }
     ensures writes { stream.HasWriteCause result.end (K.write_faults link.old) (K.write_faults link.new) }

@@ -93,7 +93,7 @@ fn do_command<D: Desk, L: Ledger>(
     steps: &mut Steps<L>,
 ) -> DeskTold
     requires { is_well_spelled asked.command ≡ true }
-    ensures { telling.TellsWithin D.state D.crashes D.past (asks.Command asked) desk.old desk.new result
+    ensures { telling.TellsWithin D.state D.crashes D.past D.judging (asks.Command asked) desk.old desk.new result
         steps.old steps.new }
 {
     let Asked {
@@ -112,7 +112,7 @@ pub(crate) fn tell<D: Desk, L: Ledger>(
     steps: &mut Steps<L>,
 ) -> DeskTold
     requires { IsSpelled asking }
-    ensures { telling.TellsWithin D.state D.crashes D.past asking desk.old desk.new result steps.old steps.new }
+    ensures { telling.TellsWithin D.state D.crashes D.past D.judging asking desk.old desk.new result steps.old steps.new }
 {
     match asking {
         Asking::Front => DeskTold::Front(desk.front()),

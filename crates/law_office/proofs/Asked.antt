@@ -1,5 +1,5 @@
 -- What is kept of a work, where it is asked for.
-use Rattle.std.proofs.Common.{◌≡◌, ◌∙◌, ◌≤◌, sym, ap, refl, subst, ℕ, true, List, Option, Some, None, option_map, is_some, Result, Err}
+use Rattle.std.proofs.Common.{◌≡◌, ◌∙◌, ◌≤◌, sym, ap, refl, subst, ℕ, true, List, Option, Some, None, option_map, is_some, Result, Ok, Err, IfOk}
 use Rattle.law_register.specs.declared.answer.answer.Answer.{Answer}
 use Rattle.law_register.specs.declared.answer.queries.QueryRule.{QueryRule}
 use Rattle.law_register.specs.declared.answer.queries.QueryRule.TheVariants.{UnknownWork}
@@ -43,3 +43,8 @@ unknown_answer es q work legal unknown ahead named =
   where
     refused : List ℕ → Result Answer QueryRule
     refused w = Err (UnknownWork w)
+
+-- what holds of a value holds of the result that is this value
+pub holds_of : {T E : Type 0} (P : T → Type 0) (value : T) (result : Result T E) → P value → IfOk result (λ found. found ≡ value) → IfOk result P
+holds_of P value (Ok found) holds is = subst P (sym is) holds
+holds_of P value (Err fault) holds is = tt

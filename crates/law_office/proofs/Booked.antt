@@ -9,6 +9,7 @@ use Rattle.law_register.specs.declared.desk.open_fault.OpenFault.TheVariants as 
 use Rattle.law_register.specs.declared.register.entry.Entry.{Entry}
 use Rattle.law_register.specs.Answer.Renewing.{opening_cost}
 use Rattle.law_register.specs.Register.Registers.{Contents}
+use Rattle.law_refs.specs.Handing.{judged_at_opening}
 use Rattle.law_office.specs.Offices.{Holds, HoldsBook, pending_of}
 use Rattle.law_office.specs.Opening.{HasOpenCause, Opens, Refuses, StaysUnlessFailed, TakesRefused, cost_opened, opened_of}
 use Rattle.law_office.specs.declared.book.Book.{Book}
@@ -42,9 +43,9 @@ pub none_pending : (made : Result Book OpenFault) (P Q : Book → Type 0) → If
 none_pending (Ok book) P Q new = new.0
 none_pending (Err fault) P Q new = tt
 
-pub spends : (made : Result Book OpenFault) (register : Contents) (old new : ℕ) → new ≤ old + opening_cost register.entries
-    → IfOk made (λ book. book.register ≡ register) → IfOk made (λ book. new ≤ old + opening_cost book.register.entries)
-spends (Ok book) register old new cost same = subst (λ (r : Contents). new ≤ old + opening_cost r.entries) (sym same) cost
+pub spends : (made : Result Book OpenFault) (register : Contents) (old new : ℕ) → new ≤ old + (opening_cost register.entries + judged_at_opening register.entries)
+    → IfOk made (λ book. book.register ≡ register) → IfOk made (λ book. new ≤ old + (opening_cost book.register.entries + judged_at_opening book.register.entries))
+spends (Ok book) register old new cost same = subst (λ (r : Contents). new ≤ old + (opening_cost r.entries + judged_at_opening r.entries)) (sym same) cost
 spends (Err fault) register old new cost same = tt
 
 -- the steps of a book that is not made for want of memory, and of a keeper that is not opened

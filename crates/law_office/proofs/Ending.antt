@@ -13,15 +13,17 @@ use Rattle.law_register.specs.declared.register.rules.Rule.{Rule}
 use Rattle.law_register.specs.declared.register.verdict.Reply.{Reply}
 use Rattle.law_register.specs.declared.register.verdict.Verdict.{Verdict}
 use Rattle.law_register.specs.declared.register.verdict.Verdict.TheVariants.{Accepted, Repeat, Refused}
-use Rattle.law_register.specs.Answer.Renewing.{command_cost, cost_said}
+use Rattle.law_register.specs.Answer.Renewing.{command_cost, cost_said, judging_cost, judging_said}
 use Rattle.law_register.specs.Desk.Commands.{AreSettled, Begins, EndsWithin, IsIdle, IsPending, IsRefused, IsReplied, Waits}
 use Rattle.law_register.specs.Desk.States.{Standing}
 use Rattle.law_register.specs.Register.Entering.{entered, entered_by, entry_of}
 use Rattle.law_register.specs.Register.Verdicts.{verdict}
 use Rattle.entry_codec.specs.Entries.{spelling}
+use Rattle.law_refs.specs.Handing.{judged_for}
+use Rattle.law_refs.specs.Index.{Kept}
 use Rattle.law_office.specs.Acting.{Acts, IsStill, Settles}
 use Rattle.law_office.specs.Lists.{EndsOver, EndsWith, SpellsExactly}
-use Rattle.law_office.specs.Offices.{HoldsBook, Spells, pending_of, standing_of}
+use Rattle.law_office.specs.Offices.{HoldsBook, Spells, index_standing, judging_of, pending_of, standing_of}
 use Rattle.law_office.specs.Opening.{spellings}
 use Rattle.law_office.specs.declared.book.Book.{Book}
 
@@ -43,18 +45,18 @@ waits_of days old new same = record {
 }
 
 -- it took no step
-pub waits_within : (drafter : List ℕ) (request : ℕ) (command : Command) (old new : Standing) (steps : ℕ) → Waits old new
-    → EndsWithin drafter request command old new steps steps (Err fails.Memory)
-waits_within drafter request command old new steps waits = record { ends = inl waits; within = omega arith }
+pub waits_within : (drafter : List ℕ) (request : ℕ) (command : Command) (old new : Standing) (judging : List Entry → Entry → ℕ) (steps : ℕ)
+    → Waits old new → EndsWithin drafter request command old new judging steps steps (Err fails.Memory)
+waits_within drafter request command old new judging steps waits = record { ends = inl waits; within = omega arith }
 
 -- so it is where what was pending could not be settled
 pub stops_within : (drafter : List ℕ) (request : ℕ) (command : Command) (days : Option (ℕ → ℕ)) (old new : Book) (steps : ℕ) (fault : CommandFault)
-    → Settles old new (Err fault) → EndsWithin drafter request command (standing_of old days) (standing_of new days) steps steps (Err fault)
+    → Settles old new (Err fault) → EndsWithin drafter request command (standing_of old days) (standing_of new days) (judging_of old) steps steps (Err fault)
 stops_within drafter request command days old new steps (fails.Rule rule) settles = absurd settles
 stops_within drafter request command days old new steps fails.KeeperFault settles =
     record { ends = inl (waits_of days old new settles.0, settles.1); within = omega arith }
 stops_within drafter request command days old new steps fails.Memory settles =
-    waits_within drafter request command (standing_of old days) (standing_of new days) steps (waits_of days old new settles)
+    waits_within drafter request command (standing_of old days) (standing_of new days) (judging_of old) steps (waits_of days old new settles)
 
 -- a command that breaks a rule costs nothing
 refused_free : (es : List Entry) (drafter : List ℕ) (request day : ℕ) (command : Command) (rule : Rule) → entered es drafter request day command ≡ Err rule
@@ -66,6 +68,28 @@ refused_free es drafter request day command rule is = by (verdict es drafter req
     by (Accepted law reply) is = absurd (cc is)
     by (Repeat reply) is = absurd (cc is)
     by (Refused other) is = refl
+
+-- nor is a reference judged for it
+refused_unjudged : (judging : List Entry → Entry → ℕ) (es : List Entry) (drafter : List ℕ) (request day : ℕ) (command : Command) (rule : Rule)
+    → entered es drafter request day command ≡ Err rule → judging_cost judging es (entry_of drafter request day None command) ≡ 0
+unfolding entered judging_cost
+refused_unjudged judging es drafter request day command rule is = by (verdict es drafter request command) is
+  where
+    by : (said : Verdict) → entered_by es drafter request day command said ≡ Err rule → judging_said judging es (entry_of drafter request day None command) said ≡ 0
+    by (Accepted law reply) is = absurd (cc is)
+    by (Repeat reply) is = absurd (cc is)
+    by (Refused other) is = refl
+
+-- as many references are judged, where as many are for each entry that comes to stand behind these
+judged_alike : (first second : List Entry → Entry → ℕ) (es : List Entry) (e : Entry) → ((entry : Entry) → first es entry ≡ second es entry)
+    → judging_cost first es e ≡ judging_cost second es e
+unfolding judging_cost
+judged_alike first second es e same = by (verdict es e.drafter e.request e.command)
+  where
+    by : (said : Verdict) → judging_said first es e said ≡ judging_said second es e said
+    by (Accepted law reply) = same (record e { law = law })
+    by (Repeat reply) = refl
+    by (Refused rule) = refl
 
 -- the list stays, and the command ends so over a list that stays
 stays_over : (drafter : List ℕ) (request : ℕ) (command : Command) (old new : Standing) (h k : Holding)
@@ -93,7 +117,7 @@ stops_over drafter request command days old new h k fails.Memory settles keeps =
 module _ (drafter : List ℕ) (request : ℕ) (command : Command) (day : ℕ) (days later : Option (ℕ → ℕ))
     (old mid new : Book) (h m n : Holding) (before after : Readiness)
     (settles : AreSettled old.register.entries (pending_of old.pending) mid.register.entries)
-    (none : mid.pending ≡ None) (keeps : Keeps h m) (gives : GivesDay days later day)
+    (none : mid.pending ≡ None) (keeps : Keeps h m) (gives : GivesDay days later day) (index : mid.refs ≡ index_standing old mid.register.entries)
     (held : HoldsBook m before mid) (holds : HoldsBook n after new) where
   -- the entry of the command, whose law number is not known yet
   abbrev pub e : Entry
@@ -149,23 +173,39 @@ module _ (drafter : List ℕ) (request : ℕ) (command : Command) (day : ℕ) (d
   idle : Acts e mid new (Err fails.Memory) → IsIdle drafter request command (standing_of old days) (standing_of new later)
   idle acts = record { day = day; begins = begins acts.entries; pending = ap pending_of acts.pending }
 
-  cost_same : (before after : ℕ) → new.register.entries ≡ mid.register.entries → after ≤ before + command_cost mid.register.entries e
-      → after ≤ before + command_cost new.register.entries e
-  cost_same before after same = subst (λ (es : List Entry). after ≤ before + command_cost es e) (sym same)
+  -- what the command costs behind settled entries
+  abbrev cost_of : List Entry → ℕ
+  cost_of settled = command_cost settled e + judging_cost (judging_of old) settled e
+
+  cost_same : (before after : ℕ) → new.register.entries ≡ mid.register.entries → after ≤ before + cost_of mid.register.entries
+      → after ≤ before + cost_of new.register.entries
+  cost_same before after same = subst (λ (es : List Entry). after ≤ before + cost_of es) (sym same)
+
+  -- the index that was settled is that which stands with the settled entries
+  judged_same : judging_cost (judged_for mid.refs) mid.register.entries e ≡ judging_cost (judging_of old) mid.register.entries e
+  judged_same =
+      judged_alike (judged_for mid.refs) (judging_of old) mid.register.entries e
+      (λ entry. ap (λ (i : Kept). judged_for i mid.register.entries entry) index)
+
+  ended : (before after : ℕ) (result : Result Reply CommandFault) → Acts e mid new result → after ≤ before + cost_of mid.register.entries
+      → EndsWithin drafter request command (standing_of old days) (standing_of new later) (judging_of old) before after result
+  unfolding replied left idle
+  ended before after (Ok reply) acts cost = record { ends = replied reply acts; within = cost }
+  ended before after (Err (fails.Rule rule)) acts cost =
+      let none_applied = refused_free mid.register.entries drafter request day command rule acts.0 in
+      let none_judged = refused_unjudged (judging_of old) mid.register.entries drafter request day command rule acts.0 in
+      record { ends = refused rule acts; within = omega (arith, cost, none_applied, none_judged) }
+  ended before after (Err fails.KeeperFault) acts cost =
+      record { ends = inr (left acts); within = cost_same before after acts.entries cost }
+  ended before after (Err fails.Memory) acts cost =
+      record { ends = inr (idle acts); within = cost_same before after acts.entries cost }
 
   -- a command ends within the steps that it may take
-  pub ends_within : (before after : ℕ) (result : Result Reply CommandFault) → Acts e mid new result → after ≤ before + command_cost mid.register.entries e
-      → EndsWithin drafter request command (standing_of old days) (standing_of new later) before after result
-  unfolding replied left idle
-  ends_within before after (Ok reply) acts cost = record { ends = replied reply acts; within = cost }
-  ends_within before after (Err (fails.Rule rule)) acts cost = record {
-    ends = refused rule acts;
-    within = subst (λ (n : ℕ). after ≤ before + n) (refused_free mid.register.entries drafter request day command rule acts.0) cost;
-  }
-  ends_within before after (Err fails.KeeperFault) acts cost =
-      record { ends = inr (left acts); within = cost_same before after acts.entries cost }
-  ends_within before after (Err fails.Memory) acts cost =
-      record { ends = inr (idle acts); within = cost_same before after acts.entries cost }
+  pub ends_within : (before after : ℕ) (result : Result Reply CommandFault) → Acts e mid new result
+      → after ≤ before + (command_cost mid.register.entries e + judging_cost (judged_for mid.refs) mid.register.entries e)
+      → EndsWithin drafter request command (standing_of old days) (standing_of new later) (judging_of old) before after result
+  ends_within before after result acts cost =
+      ended before after result acts (subst (λ (n : ℕ). after ≤ before + (command_cost mid.register.entries e + n)) judged_same cost)
 
   ends_still : (m.tells → n.tells) → (still : IsStill mid new) → h.tells → n.list ≡ h.list
   ends_still leads still told = has leads (ap pending_of still.pending) told ∙ sym (had_same still.entries told)

@@ -28,6 +28,9 @@ use Rattle.version_cache.specs.Works.{AreRevisionsOf, AreRightUntil, IsAlike, Is
 use Rattle.version_cache.proofs.Agreeing.{right_until}
 use Rattle.version_cache.proofs.Alike.{for_still}
 use Rattle.version_cache.proofs.OneMore.{one_more_of}
+use Rattle.law_refs.specs.Index.{Kept as IndexValue}
+use Rattle.law_refs.specs.OfRegister.{IsIndexOf}
+use Rattle.law_office.specs.References.{index_after}
 use Rattle.law_office.specs.declared.book.Changes.{Changes}
 use Rattle.law_office.specs.Tables.{AreChangesOf, AreTablesOf, Fit, FitsOne, Kept, Matches, enacted_view, revised_view, with_enacted, with_revision, with_revisions}
 
@@ -247,12 +250,12 @@ enacted_bare es e act known legal accepted enacts is = ap mods_in (sym is ∙ en
     mods_in (Some k) = k.mods
 
 -- changes, by what they are made of
-pub are_changes : (es : List Entry) (e : Entry) (kept : Kept) (changes : Changes) (enacted : Option (List ℕ × WorkTables)) (revised : List (List ℕ × WorkRevision))
+pub are_changes : (es : List Entry) (e : Entry) (kept : Kept) (index : IndexValue) (changes : Changes) (enacted : Option (List ℕ × WorkTables)) (revised : List (List ℕ × WorkRevision))
     → changes.enacted ≡ enacted → changes.revised.items ≡ revised → Fit (map revised_view revised) kept
     → AreTablesOf (es ++ e ∷ [])
     (λ w. with_enacted (option_map enacted_view enacted) w (with_revisions (map revised_view revised) w (kept w)))
-    → AreChangesOf es e kept changes
-are_changes es e kept changes enacted revised is are fit right = record {
+    → IsIndexOf (es ++ e ∷ []) (index_after changes.refs index) → AreChangesOf es e kept index changes
+are_changes es e kept index changes enacted revised is are fit right refs = record {
   fit = subst (λ (rs : List (List ℕ × WorkRevision)). Fit (map revised_view rs) kept) (sym are) fit;
   right =
       subst
@@ -261,27 +264,34 @@ are_changes es e kept changes enacted revised is are fit right = record {
       (subst
       (λ (rs : List (List ℕ × WorkRevision)). AreTablesOf (es ++ e ∷ [])
       (λ w. with_enacted (option_map enacted_view enacted) w (with_revisions (map revised_view rs) w (kept w)))) (sym are) right);
+  refs = refs;
 }
 
 -- none
-pub no_changes : (es : List Entry) (e : Entry) (kept : Kept) (changes : Changes) → changes.enacted ≡ None → changes.revised.items ≡ []
-    → AreTablesOf (es ++ e ∷ []) kept → AreChangesOf es e kept changes
-no_changes es e kept changes is are right = are_changes es e kept changes None [] is are (λ w. tt) right
+pub no_changes : (es : List Entry) (e : Entry) (kept : Kept) (index : IndexValue) (changes : Changes) → changes.enacted ≡ None → changes.revised.items ≡ []
+    → changes.refs ≡ None → AreTablesOf (es ++ e ∷ []) kept → IsIndexOf (es ++ e ∷ []) index → AreChangesOf es e kept index changes
+no_changes es e kept index changes is are same right refs =
+    are_changes es e kept index changes None [] is are (λ w. tt) right
+    (subst (λ (r : Option IndexValue). IsIndexOf (es ++ e ∷ []) (index_after r index)) (sym same) refs)
 
 -- a work that is enacted
-pub enact_changes : (es : List Entry) (e : Entry) (kept : Kept) (changes : Changes) (act : Act) (work : List ℕ) (made : WorkTables)
+pub enact_changes : (es : List Entry) (e : Entry) (kept : Kept) (index refs : IndexValue) (changes : Changes) (act : Act) (work : List ℕ) (made : WorkTables)
     → AreTablesOf es kept → e.command ≡ Enact act → work ≡ act.work → IsForIf (known_now (es ++ e ∷ []) act.work) (work_view made)
-    → changes.enacted ≡ Some (work, made) → changes.revised.items ≡ [] → AreChangesOf es e kept changes
-enact_changes es e kept changes act work made right enacts named for is are =
-    are_changes es e kept changes (Some (work, made)) [] is are (λ w. tt)
+    → changes.enacted ≡ Some (work, made) → changes.revised.items ≡ [] → changes.refs ≡ Some refs → IsIndexOf (es ++ e ∷ []) refs
+    → AreChangesOf es e kept index changes
+enact_changes es e kept index refs changes act work made right enacts named for is are same new =
+    are_changes es e kept index changes (Some (work, made)) [] is are (λ w. tt)
     (enacted_right es e kept act work (work_view made) [] right enacts named refl for)
+    (subst (λ (r : Option IndexValue). IsIndexOf (es ++ e ∷ []) (index_after r index)) (sym same) new)
 
 -- a work that is revised
-pub revise_changes : (es : List Entry) (e : Entry) (kept : Kept) (changes : Changes) (t : List ℕ) (work : WorkValue) (name : List ℕ) (revision : WorkRevision)
+pub revise_changes : (es : List Entry) (e : Entry) (kept : Kept) (index : IndexValue) (refs : Option IndexValue) (changes : Changes) (t : List ℕ) (work : WorkValue) (name : List ℕ) (revision : WorkRevision)
     → AreTablesOf es kept → kept t ≡ Some work → work_entered es (law_of es e) ≡ Some t → name ≡ t
     → AreRevisionsOf work (work_revision_view revision).tables → IsForIf (known_now (es ++ e ∷ []) t) (renewed work (work_revision_view revision))
-    → changes.enacted ≡ None → changes.revised.items ≡ (name, revision) ∷ [] → AreChangesOf es e kept changes
-revise_changes es e kept changes t work name revision right is concerned named fits for none are =
-    are_changes es e kept changes None ((name, revision) ∷ []) none are
+    → changes.enacted ≡ None → changes.revised.items ≡ (name, revision) ∷ [] → changes.refs ≡ refs → IsIndexOf (es ++ e ∷ []) (index_after refs index)
+    → AreChangesOf es e kept index changes
+revise_changes es e kept index refs changes t work name revision right is concerned named fits for none are same new =
+    are_changes es e kept index changes None ((name, revision) ∷ []) none are
     (λ w. (revised_fits kept t work name (work_revision_view revision) is named fits w, tt))
     (revised_right es e kept t work name (work_revision_view revision) right is concerned named for)
+    (subst (λ (r : Option IndexValue). IsIndexOf (es ++ e ∷ []) (index_after r index)) (sym same) new)

@@ -11,6 +11,7 @@ use Rattle.law_register.specs.declared.register.entry.Entry.{Entry}
 use Rattle.law_register.specs.Desk.States.{Found, IsFoundOf}
 use Rattle.law_register.specs.Register.Registers.{Contents}
 use Rattle.version_cache.specs.declared.work_tables.WorkTables.{WorkTables}
+use Rattle.law_refs.specs.Index.{Kept}
 use Rattle.law_office.specs.Crashing.{crashes_of, LeavesLists, SpellsBook, SpellsEither}
 use Rattle.law_office.specs.Offices.{Spells, Holds, HoldsBook, IsRight, MayLeave, IsPendingOn, pending_of}
 use Rattle.law_office.specs.Opening.{spellings, opened, opened_of}
@@ -20,12 +21,12 @@ use Rattle.law_office.proofs.Loading.{spellings_last}
 use Rattle.law_office.proofs.Openings.{opened_more}
 
 -- a list that spells entries is opened as these, with the one that is pending or without it
-spelled_found : {S : Type 0} (register : Contents) (tables : IndexMap (List ℕ) WorkTables S) (pending : Option Pending)
-    → opened (spellings register.entries) ≡ Ok register.entries → IfSome pending (IsPendingOn register tables) → (list : Listing)
+spelled_found : {S : Type 0} (register : Contents) (tables : IndexMap (List ℕ) WorkTables S) (index : Kept) (pending : Option Pending)
+    → opened (spellings register.entries) ≡ Ok register.entries → IfSome pending (IsPendingOn register tables index) → (list : Listing)
     → Spells register.entries (pending_of pending) list → IsFoundOf register.entries (pending_of pending) (opened_of list)
-spelled_found register tables None opens may list spells = ap opened_of spells ∙ opens
-spelled_found register tables (Some p) opens may list (inl without) = inl (ap opened_of without ∙ opens)
-spelled_found register tables (Some p) opens may list (inr with) =
+spelled_found register tables index None opens may list spells = ap opened_of spells ∙ opens
+spelled_found register tables index (Some p) opens may list (inl without) = inl (ap opened_of without ∙ opens)
+spelled_found register tables index (Some p) opens may list (inr with) =
     inr (ap opened_of (with ∙ ap Ok (sym (spellings_last register.entries p.entry)))
     ∙ opened_more register.entries p.entry opens may.follows may.kept)
 
@@ -68,7 +69,7 @@ rests_on h readiness old new is held =
 -- what is found after a crash, by the book
 module _ (book : Book) (right : IsRight book) where
   spelled_of : (list : Listing) → SpellsBook book list → IsFoundOf book.register.entries (pending_of book.pending) (opened_of list)
-  spelled_of = spelled_found book.register book.tables book.pending right.opens right.pending
+  spelled_of = spelled_found book.register book.tables book.refs book.pending right.opens right.pending
 
   pub found_now : (h : Holding) (readiness : Readiness) → HoldsBook h readiness book → h.tells
       → IsFoundOf book.register.entries (pending_of book.pending) (opened_of h.list)

@@ -1,3 +1,8 @@
+mod Indexing
+mod After
+mod TargetRules
+mod RefRows
+mod TextRefs
 mod Loading
 mod Reserving
 mod Booked

@@ -9,11 +9,13 @@ use Rattle.law_register.specs.declared.desk.fault_mark.FaultMark.{FaultMark}
 use Rattle.law_register.specs.declared.law.command.Command.{Command}
 use Rattle.law_register.specs.declared.register.entry.Entry.{Entry}
 use Rattle.law_register.specs.declared.register.verdict.Reply.{Reply}
-use Rattle.law_register.specs.Desk.Commands.{Ends, HasCommandCause, marks_after}
+use Rattle.law_register.specs.Desk.Commands.{Ends, EndsWithin, HasCommandCause, marks_after}
 use Rattle.law_register.specs.Desk.States.{IsSound, MayFollow, Standing}
 use Rattle.law_register.specs.Register.Registers.{Contents}
+use Rattle.law_refs.specs.Index.{Kept}
 use Rattle.version_cache.specs.declared.work_tables.WorkTables.{WorkTables}
-use Rattle.law_office.specs.Offices.{IsMarked, IsPendingOn, IsRight, RoseWith, pending_of}
+use Rattle.law_office.specs.Offices.{IsMarked, IsPendingOn, IsRight, RoseWith, judging_of, later_of, pending_of, standing_of}
+use Rattle.law_office.specs.References.{judging_with}
 use Rattle.law_office.specs.declared.book.Book.{Book}
 use Rattle.law_office.specs.declared.book.Pending.{Pending}
 
@@ -63,17 +65,46 @@ rose_none marks count none = start (2 ^ 64 - 1) (length marks) (ap length none)
     start : (most n : ℕ) → n ≡ 0 → count ≡ max count (min (count + n) most)
     start most n is = omega (arith, is)
 
-may_follow : {S : Type 0} (register : Contents) (tables : IndexMap (List ℕ) WorkTables S) (pending : Option Pending)
-    → IfSome pending (IsPendingOn register tables) → IfSome (pending_of pending) (MayFollow register.entries)
-may_follow register tables None may = tt
-may_follow register tables (Some p) may = may.follows
+may_follow : {S : Type 0} (register : Contents) (tables : IndexMap (List ℕ) WorkTables S) (index : Kept) (pending : Option Pending)
+    → IfSome pending (IsPendingOn register tables index) → IfSome (pending_of pending) (MayFollow register.entries)
+may_follow register tables index None may = tt
+may_follow register tables index (Some p) may = may.follows
 
 -- a desk is sound whose book is right and marked
 pub sound_of : (book : Book) (faults : ℕ) (days : Option (ℕ → ℕ)) (origin : List ℕ) → IsRight book
     → IsMarked (pending_of book.pending) book.marks.items
     → IsSound (record { entries = book.register.entries; pending = pending_of book.pending; marks = book.marks.items; faults = faults; days = days; origin = origin })
 sound_of book faults days origin right marked = record {
-  pending = may_follow book.register book.tables book.pending right.pending;
+  pending = may_follow book.register book.tables book.refs book.pending right.pending;
   marked = marked;
   marks = right.marks;
 }
+
+-- a command ends within the same steps where the book before it had the same entries, and that behind it has a mark more
+module _ (drafter : List ℕ) (request : ℕ) (command : Command) (days later : Option (ℕ → ℕ)) (old mid left new : Book)
+    (register : mid.register ≡ old.register) (pending : mid.pending ≡ old.pending) (refs : mid.refs ≡ old.refs)
+    (registers : new.register ≡ left.register) (pendings : new.pending ≡ left.pending) where
+  same_before : standing_of mid days ≡ standing_of old days
+  same_before = λ i. record { entries = (register i).entries; pending = pending_of (pending i); days = days }
+
+  same_behind : standing_of left later ≡ standing_of new later
+  same_behind = sym (λ i. record { entries = (registers i).entries; pending = pending_of (pendings i); days = later })
+
+  same_judging : judging_of mid ≡ judging_of old
+  same_judging = λ i. judging_with (length (register i).entries) (refs i) (later_of (refs i) (pending i))
+
+  marked_within : (before after : ℕ) (result : Result Reply CommandFault)
+      → EndsWithin drafter request command (standing_of mid days) (standing_of left later) (judging_of mid) before after result
+      → EndsWithin drafter request command (standing_of old days) (standing_of new later) (judging_of old) before after result
+  marked_within before after result ends =
+      subst (λ s. EndsWithin drafter request command s (standing_of new later) (judging_of old) before after result) same_before
+      (subst (λ s. EndsWithin drafter request command (standing_of mid days) s (judging_of old) before after result) same_behind
+      (subst (λ (j : List Entry → Entry → ℕ). EndsWithin drafter request command (standing_of mid days) (standing_of left later) j before after result)
+      same_judging ends))
+
+  pub marked_fault : (before after : ℕ) (fault told : CommandFault) → fault ≡ told
+      → EndsWithin drafter request command (standing_of mid days) (standing_of left later) (judging_of mid) before after (Err fault)
+      → EndsWithin drafter request command (standing_of old days) (standing_of new later) (judging_of old) before after (Err told)
+  marked_fault before after fault told is ends =
+      subst (λ (f : CommandFault). EndsWithin drafter request command (standing_of old days) (standing_of new later) (judging_of old) before after (Err f))
+      is (marked_within before after (Err fault) ends)

@@ -8,6 +8,8 @@ use Rattle.law_register.specs.declared.register.entry.Entry.{Entry}
 use Rattle.law_register.specs.Register.KnownNext.{known_now}
 use Rattle.version_cache.specs.declared.work_tables.WorkTables.{WorkTables}
 use Rattle.version_cache.specs.Seen.{work_view}
+use Rattle.law_refs.specs.Index.{Kept}
+use Rattle.law_refs.specs.OfRegister.{IsIndexOf}
 use Rattle.viewpoints.specs.Right as viewpoints
 use Rattle.law_office.specs.Offices.{IsPendingOn, IsRight}
 use Rattle.law_office.specs.Opening.{opened, spellings}
@@ -16,10 +18,10 @@ use Rattle.law_office.specs.declared.book.Book.{Book}
 use Rattle.law_office.specs.declared.book.Pending.{Pending}
 
 pub reserved : (old new : Book) → IsRight old → new.register.entries ≡ old.register.entries → new.tables.entries ≡ old.tables.entries
-    → new.marks ≡ old.marks → new.past ≡ old.past → new.pending ≡ old.pending → old.pending ≡ None → IsRight new
-reserved old new right entries tables marks past pending none = record {
+    → new.marks ≡ old.marks → new.past ≡ old.past → new.refs ≡ old.refs → new.pending ≡ old.pending → old.pending ≡ None → IsRight new
+reserved old new right entries tables marks past refs pending none = record {
   opens = subst (λ (es : List Entry). opened (spellings es) ≡ Ok es) (sym entries) right.opens;
-  pending = subst (λ (p : Option Pending). IfSome p (IsPendingOn new.register new.tables)) (sym (pending ∙ none)) tt;
+  pending = subst (λ (p : Option Pending). IfSome p (IsPendingOn new.register new.tables new.refs)) (sym (pending ∙ none)) tt;
   marks = subst (λ ms. All (λ (mark : FaultMark). mark.entries ≤ length new.register.entries) ms.items) (sym marks)
       (subst (λ (es : List Entry). All (λ (mark : FaultMark). mark.entries ≤ length es) old.marks.items) (sym entries) right.marks);
   tables = λ w.
@@ -27,4 +29,5 @@ reserved old new right entries tables marks past pending none = record {
       (subst (λ (es : List Entry). Matches (known_now es w) (kept_in old.tables w)) (sym entries) (right.tables w));
   past = subst (λ p. viewpoints.IsRight table_on new.register.entries p) (sym past)
       (subst (λ (es : List Entry). viewpoints.IsRight table_on es old.past) (sym entries) right.past);
+  refs = subst (λ (i : Kept). IsIndexOf new.register.entries i) (sym refs) (subst (λ (es : List Entry). IsIndexOf es old.refs) (sym entries) right.refs);
 }

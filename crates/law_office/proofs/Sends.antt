@@ -44,6 +44,8 @@ use Rattle.version_cache.proofs.revision.Revision.TheSendSync as revision
 use Rattle.version_cache.proofs.table.Table.TheSendSync as table
 use Rattle.version_cache.specs.contracts.work_revision.WorkRevision as work_revision
 use Rattle.version_cache.specs.contracts.work_tables.WorkTables as work_tables
+use Rattle.law_refs.proofs.ref_index.RefIndex.TheSendSync as ref_index
+use Rattle.law_refs.proofs.ref_index.RefRevision.TheSendSync as ref_revision
 use Rattle.viewpoints.specs.contracts.past_tables.PastTable as past_table
 use Rattle.viewpoints.specs.contracts.past_tables.PastTables as past_tables
 use Rattle.desk_base.specs.declared.clock.Clock as clock
@@ -104,7 +106,7 @@ pub work_revision_send : IsSend work_revision.the_row
 work_revision_send = search (work_revision_field_send, sendable) depth 10
 
 pub changes_field_send : IsSend (changes.the_field).row
-changes_field_send = search (work_tables_send, work_revision_send, work.the_send, sendable, crosses) depth 30 fits 30000
+changes_field_send = search (work_tables_send, work_revision_send, ref_revision.the_send, work.the_send, sendable, crosses) depth 30 fits 30000
 
 pub pending_field_send : IsSend (pending.the_field).row
 pending_field_send = search (entry_field_send, changes_field_send, sendable, crosses) depth 30 fits 30000
@@ -119,7 +121,7 @@ pub past_tables_send : (T : RattleType) → IsSend T → IsSend (past_tables.the
 past_tables_send T t = search (past_table_send, past_key.the_send, past_key.the_sync, lru.the_send, sendable, crosses) depth 30 fits 30000
 
 pub book_field_send : IsSend (book.the_field).row
-book_field_send = search (register_send, pending_send, fault_mark.the_send, work.the_send, work_tables_send, table.the_send, past_tables_send, index_map.the_send, sendable, crosses) depth 30 fits 30000
+book_field_send = search (register_send, pending_send, fault_mark.the_send, work.the_send, work_tables_send, table.the_send, past_tables_send, ref_index.the_send, index_map.the_send, sendable, crosses) depth 30 fits 30000
 
 pub book_send : IsSend book.the_row
 book_send = search (book_field_send, sendable) depth 10

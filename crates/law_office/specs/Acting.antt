@@ -8,7 +8,7 @@ use Rattle.law_register.specs.declared.register.verdict.Verdict.TheVariants.{Acc
 use Rattle.law_register.specs.Desk.Commands.{AreSettled}
 use Rattle.law_register.specs.Register.Entering.{entered}
 use Rattle.law_register.specs.Register.Verdicts.{verdict}
-use Rattle.law_office.specs.Offices.{pending_of}
+use Rattle.law_office.specs.Offices.{index_standing, pending_of}
 use Rattle.law_office.specs.declared.book.Book.{Book}
 
 -- the entries once it is known of the one that was pending whether it was found
@@ -23,10 +23,11 @@ resolved_end end None found = end
 resolved_end end (Some entry) None = end
 resolved_end end (Some entry) (Some next) = next
 
--- a book is settled, or stays as it was
+-- a book is settled, and its index is the one that stands with its entries; or it stays as it was
 abbrev pub Settles : Book → Book → Result Unit CommandFault → Type 0
 Settles old new (Ok done) =
     AreSettled old.register.entries (pending_of old.pending) new.register.entries × (new.pending ≡ None)
+    × (new.refs ≡ index_standing old new.register.entries)
 Settles old new (Err (fails.Rule rule)) = ⊥
 Settles old new (Err fails.KeeperFault) = (new ≡ old) × IsSome (pending_of old.pending)
 Settles old new (Err fails.Memory) = new ≡ old

@@ -1,8 +1,12 @@
 pub mod Acting
 pub mod Crashing
+pub mod Fits
 pub mod Line
 pub mod Lists
 pub mod Moving
 pub mod Offices
 pub mod Opening
+pub mod RefRows
+pub mod References
 pub mod Tables
+pub mod Targets

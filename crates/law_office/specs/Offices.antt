@@ -12,16 +12,19 @@ use Rattle.law_register.specs.declared.register.entry.Entry.{Entry}
 use Rattle.law_register.specs.Desk.States.{DeskState, MayFollow, Standing}
 use Rattle.law_register.specs.Register.Registers.{Contents}
 use Rattle.entry_codec.specs.Entries.{keeps_rules, spelling}
+use Rattle.law_refs.specs.Index.{Kept}
+use Rattle.law_refs.specs.OfRegister.{IsIndexOf}
 use Rattle.version_cache.specs.declared.work_tables.WorkTables.{WorkTables}
 use Rattle.viewpoints.specs.Right as viewpoints
 use Rattle.law_office.specs.Opening.{opened, spellings}
+use Rattle.law_office.specs.References.{index_after, index_with, judging_with}
 use Rattle.law_office.specs.Tables.{AreChangesOf, AreTablesOf, kept_in, table_on}
 use Rattle.law_office.specs.declared.book.Book.{Book}
 use Rattle.law_office.specs.declared.book.Pending.{Pending}
 
 -- what contracts see of an office: its keeper and its clock as they are now, its entries, the one that is pending,
--- the marks of faults, the keys of what it keeps of past viewpoints, its keeper's count of faults when it was made, and
--- its origin
+-- the marks of faults, the keys of what it keeps of past viewpoints, its index of references, what that is to be once the pending entry
+-- stands behind the others, its keeper's count of faults when it was made, and its origin
 pub record OfficeState (K C : Type 0) : Type 0 where
   pub keeper : K
   pub clock : C
@@ -29,6 +32,8 @@ pub record OfficeState (K C : Type 0) : Type 0 where
   pub pending : Option Entry
   pub marks : List FaultMark
   pub past : List PastKey
+  pub refs : Kept
+  pub later : Option Kept
   pub opened : ℕ
   pub origin : List ℕ
 
@@ -53,25 +58,43 @@ RoseWith marks before now = now ≡ max before (min (before + length marks) (2 ^
 abbrev pub pending_of : Option Pending → Option Entry
 pending_of pending = option_map (λ p. p.entry) pending
 
+-- the index of references once the pending entry stands behind the others, if one is pending
+abbrev pub later_of : Kept → Option Pending → Option Kept
+later_of index pending = option_map (λ p. index_after p.changes.refs index) pending
+
+-- the index that stands with the entries of a book once it is settled
+abbrev pub index_standing : Book → List Entry → Kept
+index_standing book settled = index_with (length book.register.entries) book.refs (later_of book.refs book.pending) settled
+
+-- how many references a book judges for an entry that comes to stand behind its settled entries
+abbrev pub judging_of : Book → List Entry → Entry → ℕ
+judging_of book = judging_with (length book.register.entries) book.refs (later_of book.refs book.pending)
+
+-- the same of an office
+abbrev pub judging_in : {K C : Type 0} → OfficeState K C → List Entry → Entry → ℕ
+judging_in office = judging_with (length office.entries) office.refs office.later
+
 -- an entry that is pending may stand behind the others, there is room for it, its bytes are those that spell it, it keeps
 -- the rules of the format, and its changes are those that it makes of what is kept, where there is room for one work more
-pub record IsPendingOn {S : Type 0} (register : Contents) (tables : IndexMap (List ℕ) WorkTables S) (p : Pending) : Type 0 where
+pub record IsPendingOn {S : Type 0} (register : Contents) (tables : IndexMap (List ℕ) WorkTables S) (index : Kept) (p : Pending)
+    : Type 0 where
   pub follows : MayFollow register.entries p.entry
   pub room : 1 ≤ register.spare
   pub bytes : p.bytes.items ≡ spelling p.entry
   pub kept : keeps_rules p.entry ≡ true
-  pub changes : AreChangesOf register.entries p.entry (kept_in tables) p.changes
+  pub changes : AreChangesOf register.entries p.entry (kept_in tables) index p.changes
   pub space : 1 ≤ spare tables
 
 -- the book of an office is right in itself: its entries are those that an opening finds in what spells them, what is
--- pending is right, its marks were made when so many entries stood as there are, or fewer, and what it keeps of works and
--- of past viewpoints is for its entries
+-- pending is right, its marks were made when so many entries stood as there are, or fewer, and what it keeps of works, of
+-- past viewpoints and of references is for its entries
 pub record IsRight (book : Book) : Type 0 where
   pub opens : opened (spellings book.register.entries) ≡ Ok book.register.entries
-  pub pending : IfSome book.pending (IsPendingOn book.register book.tables)
+  pub pending : IfSome book.pending (IsPendingOn book.register book.tables book.refs)
   pub marks : All (λ mark. mark.entries ≤ length book.register.entries) book.marks.items
   pub tables : AreTablesOf book.register.entries (kept_in book.tables)
   pub past : viewpoints.IsRight table_on book.register.entries book.past
+  pub refs : IsIndexOf book.register.entries book.refs
 
 -- a list of payloads spells entries; where one is pending, it may stand behind them or not
 abbrev pub Spells : List Entry → Option Entry → Listing → Type 0

@@ -15,6 +15,7 @@ use Rattle.law_register.specs.Answer.Renewing.{opening_cost}
 use Rattle.law_register.specs.Law.Same.{same_number}
 use Rattle.law_register.specs.Register.Rules.{register_number}
 use Rattle.law_register.specs.Register.Verdicts.{verdict}
+use Rattle.law_refs.specs.Handing.{judged_at_opening}
 use Rattle.entry_codec.specs.declared.fault.CodecFault.{CodecFault}
 use Rattle.entry_codec.specs.Entries.{spelling, decoding}
 
@@ -116,9 +117,10 @@ StaysUnlessFailed before now fails.Failed = Unit {0}
 StaysUnlessFailed before now (fails.Damaged broken) = now ≡ before
 StaysUnlessFailed before now fails.Memory = now ≡ before
 
--- how many ids are applied to make what is kept of the works that are found; none, where there is damage
+-- how many ids are applied to make what is kept of the works that are found, and how many references of their texts are judged; none,
+-- where there is damage
 abbrev pub cost_opened : Result (List Entry) Damage → ℕ
-cost_opened (Ok entries) = opening_cost entries
+cost_opened (Ok entries) = opening_cost entries + judged_at_opening entries
 cost_opened (Err broken) = 0
 
 -- the steps of an opening that was refused: none, but where there was not enough memory for what is kept of the works

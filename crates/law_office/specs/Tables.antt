@@ -12,6 +12,9 @@ use Rattle.version_cache.specs.declared.work_tables.WorkTables.{WorkTables}
 use Rattle.version_cache.specs.Seen.{table_view, work_revision_view, work_view}
 use Rattle.version_cache.specs.Tables.{version_on}
 use Rattle.version_cache.specs.Works.{AreRevisionsOf, IsForIf, WorkRevisionValue, WorkValue, renewed}
+use Rattle.law_refs.specs.Index.{Kept as IndexValue}
+use Rattle.law_refs.specs.OfRegister.{IsIndexOf}
+use Rattle.law_office.specs.References.{index_after}
 use Rattle.law_office.specs.declared.book.Changes.{Changes}
 
 -- what is kept of each work, if anything is
@@ -77,10 +80,11 @@ abbrev pub Fit : List (List ℕ × WorkRevisionValue) → Kept → Type 0
 Fit revised kept = (work : List ℕ) → FitAll revised work (kept work)
 
 -- changes are those that an entry makes behind these entries: the revisions are of what is kept, and what is kept then is for what the
--- entries with it make known
-pub record AreChangesOf (entries : List Entry) (entry : Entry) (kept : Kept) (changes : Changes) : Type 0 where
+-- entries with it make known, the index of references too
+pub record AreChangesOf (entries : List Entry) (entry : Entry) (kept : Kept) (index : IndexValue) (changes : Changes) : Type 0 where
   pub fit : Fit (map revised_view changes.revised.items) kept
   pub right : AreTablesOf (entries ++ entry ∷ []) (applied changes kept)
+  pub refs : IsIndexOf (entries ++ entry ∷ []) (index_after changes.refs index)
 
 -- one work more is kept, if it is known, for what is known of it
 pub record AddsWork (known : Option Known) (work : List ℕ) (old new : Kept) : Type 0 where

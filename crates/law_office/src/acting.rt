@@ -3,18 +3,19 @@
 ghost use Rattle.std.specs.Prelude.{◌≡◌, ◌+◌, ◌≤◌, ◌↔◌, ◌∷◌, ◌++◌, [], true, None, IfOk};
 ghost use Rattle.law_keeper.specs.Keepers.{Keeps};
 ghost use Rattle.indexmap.specs.IndexMap.{spare};
-ghost use Rattle.law_register.specs.Answer.Renewing.{command_cost, entry_cost};
+ghost use Rattle.law_register.specs.Answer.Renewing.{command_cost, entry_cost, judging_cost};
 ghost use Rattle.law_register.specs.Desk.Commands.{EndsWithin, HasCommandCause, mark_of, marks_after};
 ghost use Rattle.law_register.specs.Desk.States.{MayFollow};
 ghost use Rattle.law_register.specs.Law.Spelling.{is_well_spelled};
 ghost use Rattle.law_register.specs.Register.Verdicts.{verdict};
 ghost use Rattle.law_register.specs.declared.register.verdict.Verdict.TheVariants.{Accepted};
 ghost use Rattle.entry_codec.specs.Entries.{spelling};
+ghost use Rattle.law_refs.specs.Handing.{judged_for};
 ghost use Rattle.law_office.specs.Acting.{Acts, Settles};
 ghost use Rattle.law_office.specs.Crashing.{SpellsBook, SpellsEither};
 ghost use Rattle.law_office.specs.Lists.{EndsOver};
 ghost use Rattle.law_office.specs.Moving.{IsStanding, Leaves, Moves};
-ghost use Rattle.law_office.specs.Offices.{IsPendingOn, IsRight, standing_of};
+ghost use Rattle.law_office.specs.Offices.{IsPendingOn, IsRight, judging_of, standing_of};
 
 use crate::book::{Book, Changes, Pending};
 use crate::changes::make_changes;
@@ -39,7 +40,7 @@ pub(crate) fn command<K: Keeper, C: Clock, L: Ledger>(
     requires spelled { is_well_spelled sent.command ≡ true }
     ensures outcome { EndsWithin sent.drafter sent.request sent.command
         (standing_of book.old (C.days clock.old)) (standing_of book.new (C.days clock.new))
-        steps.old steps.new result }
+        (judging_of book.old) steps.old steps.new result }
     ensures over { EndsOver sent.drafter sent.request sent.command
         (standing_of book.old (C.days clock.old)) (standing_of book.new (C.days clock.new))
         (K.holding keeper.old) (K.holding keeper.new) result }
@@ -77,7 +78,7 @@ fn settle_and_act<K: Keeper, C: Clock, L: Ledger>(
     requires spelled { is_well_spelled sent.command ≡ true }
     ensures outcome { EndsWithin sent.drafter sent.request sent.command
         (standing_of book.old (C.days clock.old)) (standing_of book.new (C.days clock.new))
-        steps.old steps.new result }
+        (judging_of book.old) steps.old steps.new result }
     ensures over { EndsOver sent.drafter sent.request sent.command
         (standing_of book.old (C.days clock.old)) (standing_of book.new (C.days clock.new))
         (K.holding keeper.old) (K.holding keeper.new) result }
@@ -125,7 +126,7 @@ fn settle_pending<K: Keeper>(
 }
 
 // Judges the command of an entry whose law number is not known yet, behind entries of which none is pending.
-#[tactic(auto, unfolding(law_register::specs::Register::Entering::entered, law_register::specs::Answer::Renewing::command_cost))]
+#[tactic(auto, unfolding(law_register::specs::Register::Entering::entered, law_register::specs::Answer::Renewing::command_cost, law_register::specs::Answer::Renewing::judging_cost))]
 fn act<K: Keeper, L: Ledger>(
     alloc: Global,
     keeper: &mut K,
@@ -141,7 +142,8 @@ fn act<K: Keeper, L: Ledger>(
     ensures moves { Moves book.old book.new }
     ensures leaves { Leaves K.holding K.readiness (SpellsEither book.old book.new) keeper.old keeper.new book.new }
     ensures cause { HasCommandCause (K.faults keeper.old) (K.faults keeper.new) result }
-    ensures steps { steps.new ≤ steps.old + command_cost book.old.register.entries entry }
+    ensures steps { steps.new ≤ steps.old + (command_cost book.old.register.entries entry
+        + judging_cost (judged_for book.old.refs) book.old.register.entries entry) }
 {
     match book
         .register
@@ -203,7 +205,8 @@ fn keep<K: Keeper, L: Ledger>(
     ensures moves { Moves book.old book.new }
     ensures leaves { Leaves K.holding K.readiness (SpellsEither book.old book.new) keeper.old keeper.new book.new }
     ensures cause { HasCommandCause (K.faults keeper.old) (K.faults keeper.new) result }
-    ensures steps { steps.new ≤ steps.old + entry_cost book.old.register.entries entry }
+    ensures steps { steps.new ≤ steps.old
+        + (entry_cost book.old.register.entries entry + judged_for book.old.refs book.old.register.entries entry) }
 {
     match book.reserve_entry(&entry) {
         Ok(()) => match prepare(alloc, book, &entry, steps) {
@@ -232,13 +235,21 @@ fn prepare<L: Ledger>(
     requires room { 1 ≤ book.now.register.spare }
     requires space { 1 ≤ spare book.now.tables }
     requires right { IsRight book.now }
-    ensures pending { IfOk result (λ made. IsPendingOn book.now.register book.now.tables
+    ensures pending { IfOk result (λ made. IsPendingOn book.now.register book.now.tables book.now.refs
         (record { entry = entry.now; bytes = made.0; changes = made.1 })) }
-    ensures steps { steps.new ≤ steps.old + entry_cost book.now.register.entries entry.now }
+    ensures steps { steps.new ≤ steps.old + (entry_cost book.now.register.entries entry.now
+        + judged_for book.now.refs book.now.register.entries entry.now) }
 {
     laws::accepted_can_be_spelled(&book.register, entry);
     let bytes = encode(alloc, entry)?;
-    let changes = make_changes(alloc, &book.register, &book.tables, entry, steps)?;
+    let changes = make_changes(
+        alloc,
+        &book.register,
+        &book.tables,
+        &book.refs,
+        entry,
+        steps,
+    )?;
     Ok((bytes, changes))
 }
 
@@ -253,7 +264,7 @@ fn append<K: Keeper>(
 ) -> Result<Reply, CommandFault>
     requires stands { IsStanding K.holding K.readiness keeper.old book.old }
     requires settled { book.old.pending ≡ None }
-    requires follows { IsPendingOn book.old.register book.old.tables pending }
+    requires follows { IsPendingOn book.old.register book.old.tables book.old.refs pending }
     requires accepted { verdict book.old.register.entries pending.entry.drafter pending.entry.request
         pending.entry.command ≡ Accepted pending.entry.law reply }
     ensures acts { Acts pending.entry book.old book.new result }
@@ -268,7 +279,7 @@ fn append<K: Keeper>(
             Ok(reply)
         }
         Err(KeepFault::Failed) => {
-            book.pending = Some(pending);
+            book.leave(pending);
             Err(CommandFault::KeeperFault)
         }
         Err(KeepFault::Memory) => {

@@ -1,8 +1,9 @@
 //! Book: what an office writes down: its register, how far its keeper is known to go, what is pending, the marks of
-//! faults, and what it keeps of works, so that it need not be replayed.
+//! faults, what it keeps of works, so that it need not be replayed, and its index of references.
 
 use frbr_names::WorkName;
 use indexmap::IndexMap;
+use law_refs::{RefIndex, RefRevision};
 use law_register::{Entry, FaultMark, Register};
 use version_cache::{Table, WorkRevision, WorkTables};
 use viewpoints::PastTables;
@@ -17,6 +18,8 @@ pub struct Changes {
     pub enacted: Option<(WorkName, WorkTables)>,
     /// The works of which something else is known with it, each with the revision of what is kept.
     pub revised: Vec<(WorkName, WorkRevision)>,
+    /// What the index of references is to be with it. `None`: it stays as it is.
+    pub refs: Option<RefRevision>,
 }
 
 /// An entry of which it is not known whether the keeper has it.
@@ -45,4 +48,6 @@ pub struct Book {
     pub tables: KeptWorks,
     /// What is kept of past viewpoints.
     pub past: PastTables<Table>,
+    /// The references of these works, each with the rule that its target breaks.
+    pub refs: RefIndex,
 }

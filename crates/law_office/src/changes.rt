@@ -8,13 +8,20 @@ ghost use Rattle.law_register.specs.Register.Indexes as acts;
 ghost use Rattle.law_register.specs.Register.KnownNext.{known_now};
 ghost use Rattle.law_register.specs.Register.LawList.{law_of};
 ghost use Rattle.law_register.specs.Register.Verdicts.{is_accepted, verdict};
+ghost use Rattle.law_refs.specs.Handing.{judged_for};
+ghost use Rattle.law_refs.specs.OfRegister.{IsIndexOf};
 ghost use Rattle.version_cache.specs.Seen.{work_revision_view, work_view};
-ghost use Rattle.version_cache.specs.Works.{AreRevisionsOf, IsForIf, renewed};
+ghost use Rattle.version_cache.specs.Works.{AreRevisionsOf, IsForIf, renewed, work_of, work_revision_of};
 ghost use Rattle.law_office.specs.Tables.{AreChangesOf, AreTablesOf, kept_in};
 
 use crate::book::{Changes, KeptWorks};
+use crate::references::{refs_enacted, refs_revised};
 use desk_base::{Memory, Steps};
 use frbr_names::WorkName;
+use law_refs::laws::{
+    an_entry_hands_in, revision_follows_the_register, what_moves_no_work_leaves_the_index,
+};
+use law_refs::{RefIndex, RefRevision};
 use law_register::laws::entries_are_legal;
 use law_register::replay_laws::bare_acts_stay;
 use law_register::{Act, Command, Entry, Reading, Register, known_after, known_enacted};
@@ -36,38 +43,44 @@ fn act_of(command: &Command) -> Option<&Act>
 fn no_changes(alloc: Global) -> Changes
     ensures enacted { result.enacted ≡ None }
     ensures revised { result.revised.items ≡ [] }
+    ensures refs { result.refs ≡ None }
 {
     Changes {
         enacted: None,
         revised: Vec::new(alloc),
+        refs: None,
     }
 }
 
-fn with_enacted(alloc: Global, work: WorkName, kept: WorkTables) -> Changes
-    ensures enacted { result.enacted ≡ Some (work, kept) }
+fn with_enacted(alloc: Global, enacted: (WorkName, WorkTables), refs: RefRevision) -> Changes
+    ensures enacted { result.enacted ≡ Some enacted }
     ensures revised { result.revised.items ≡ [] }
+    ensures refs { result.refs ≡ Some refs }
 {
     Changes {
-        enacted: Some((work, kept)),
+        enacted: Some(enacted),
         revised: Vec::new(alloc),
+        refs: Some(refs),
     }
 }
 
 // The one revision, in room that was made for it.
 fn with_revised(
     mut revised: Vec<(WorkName, WorkRevision)>,
-    work: WorkName,
-    revision: WorkRevision,
+    one: (WorkName, WorkRevision),
+    refs: Option<RefRevision>,
 ) -> Changes
     requires room { vec_len revised < vec_capacity revised }
     requires none { revised.items ≡ [] }
     ensures enacted { result.enacted ≡ None }
-    ensures revised { result.revised.items ≡ (work, revision) ∷ [] }
+    ensures revised { result.revised.items ≡ one ∷ [] }
+    ensures refs { result.refs ≡ refs }
 {
-    revised.push_reserved((work, revision));
+    revised.push_reserved(one);
     Changes {
         enacted: None,
         revised,
+        refs,
     }
 }
 
@@ -84,6 +97,9 @@ fn make_enacted<L: Ledger>(
         entry.now.request entry.now.command) ≡ true }
     ensures right { IfOk result (λ made.
         IsForIf (known_now (register.now.entries ++ entry.now ∷ []) act.now.work) (work_view made)) }
+    ensures made { IfOk result (λ made. work_view made ≡ work_of (work_view made).known) }
+    ensures known { IfOk result (λ made.
+        known_now (register.now.entries ++ entry.now ∷ []) act.now.work ≡ Some (work_view made).known) }
     ensures steps { steps.new ≤ steps.old }
 {
     entries_are_legal(register);
@@ -96,21 +112,33 @@ fn make_enacted<L: Ledger>(
 fn enacting<L: Ledger>(
     alloc: Global,
     register: &Register,
-    _tables: &KeptWorks,
+    tables: &KeptWorks,
+    index: &RefIndex,
     entry: &Entry,
     act: &Act,
     steps: &mut Steps<L>,
 ) -> Result<Changes, Memory>
-    requires right { AreTablesOf register.now.entries (kept_in _tables.now) }
+    requires right { AreTablesOf register.now.entries (kept_in tables.now) }
+    requires index { IsIndexOf register.now.entries index.now }
     requires enacts { entry.now.command ≡ commands.Enact act.now }
     requires accepted { is_accepted entry.now.law (verdict register.now.entries entry.now.drafter
         entry.now.request entry.now.command) ≡ true }
-    ensures changes { IfOk result (AreChangesOf register.now.entries entry.now (kept_in _tables.now)) }
-    ensures steps { steps.new ≤ steps.old }
+    ensures changes { IfOk result (AreChangesOf register.now.entries entry.now (kept_in tables.now) index.now) }
+    ensures steps { steps.new ≤ steps.old + judged_for index.now register.now.entries entry.now }
 {
+    entries_are_legal(register);
+    an_entry_hands_in();
+    revision_follows_the_register();
     let work = act.work.copy()?;
     let kept = make_enacted(alloc, register, entry, act, steps)?;
-    Ok(with_enacted(alloc, work, kept))
+    let enacted = (work, kept);
+    match refs_enacted(alloc, register, tables, index, entry, &enacted, steps) {
+        Ok(refs) => Ok(with_enacted(alloc, enacted, refs)),
+        Err(Memory) => {
+            drop(enacted);
+            Err(Memory)
+        }
+    }
 }
 
 // The revision of what is kept of the work that an entry concerns, from the day that it touches. What is known of the work is that
@@ -133,6 +161,10 @@ fn revise<L: Ledger>(
     ensures right { IfOk result (λ revision.
         IsForIf (known_now (register.now.entries ++ entry.now ∷ []) _work.now)
         (renewed (work_view kept.now) (work_revision_view revision))) }
+    ensures made { IfOk result (λ revision. work_revision_view revision ≡ work_revision_of (work_view kept.now)
+        (work_revision_view revision).known (touching.touched_day register.now.entries entry.now)) }
+    ensures known { IfOk result (λ revision. known_now (register.now.entries ++ entry.now ∷ []) _work.now
+        ≡ Some (work_revision_view revision).known) }
     ensures steps { steps.new ≤ steps.old + entry_cost register.now.entries entry.now }
 {
     entries_are_legal(register);
@@ -146,25 +178,41 @@ fn revise<L: Ledger>(
 fn revising<L: Ledger>(
     alloc: Global,
     register: &Register,
-    _tables: &KeptWorks,
+    tables: &KeptWorks,
+    index: &RefIndex,
     entry: &Entry,
     work: &WorkName,
     kept: &WorkTables,
     steps: &mut Steps<L>,
 ) -> Result<Changes, Memory>
-    requires right { AreTablesOf register.now.entries (kept_in _tables.now) }
-    requires kept { kept_in _tables.now work.now ≡ Some (work_view kept.now) }
+    requires right { AreTablesOf register.now.entries (kept_in tables.now) }
+    requires index { IsIndexOf register.now.entries index.now }
+    requires kept { kept_in tables.now work.now ≡ Some (work_view kept.now) }
+    requires other { acts.act_of entry.now.command ≡ None }
     requires concerned { touching.work_entered register.now.entries (law_of register.now.entries entry.now)
         ≡ Some work.now }
     requires accepted { is_accepted entry.now.law (verdict register.now.entries entry.now.drafter
         entry.now.request entry.now.command) ≡ true }
-    ensures changes { IfOk result (AreChangesOf register.now.entries entry.now (kept_in _tables.now)) }
-    ensures steps { steps.new ≤ steps.old + entry_cost register.now.entries entry.now }
+    ensures changes { IfOk result (AreChangesOf register.now.entries entry.now (kept_in tables.now) index.now) }
+    ensures steps { steps.new ≤ steps.old
+        + (entry_cost register.now.entries entry.now + judged_for index.now register.now.entries entry.now) }
 {
+    entries_are_legal(register);
+    an_entry_hands_in();
+    revision_follows_the_register();
+    what_moves_no_work_leaves_the_index();
     let name = work.copy()?;
     let revised = Vec::with_capacity(alloc, 1)?;
     let revision = revise(alloc, register, entry, work, kept, steps)?;
-    Ok(with_revised(revised, name, revision))
+    let one = (name, revision);
+    match refs_revised(alloc, register, tables, index, entry, kept, &one, steps) {
+        Ok(refs) => Ok(with_revised(revised, one, refs)),
+        Err(Memory) => {
+            drop(one);
+            drop(revised);
+            Err(Memory)
+        }
+    }
 }
 
 // The changes of an entry that enacts nothing and concerns this work.
@@ -172,22 +220,26 @@ fn changing_work<L: Ledger>(
     alloc: Global,
     register: &Register,
     tables: &KeptWorks,
+    index: &RefIndex,
     entry: &Entry,
     work: &WorkName,
     steps: &mut Steps<L>,
 ) -> Result<Changes, Memory>
     requires right { AreTablesOf register.now.entries (kept_in tables.now) }
+    requires index { IsIndexOf register.now.entries index.now }
     requires other { acts.act_of entry.now.command ≡ None }
     requires concerned { touching.work_entered register.now.entries (law_of register.now.entries entry.now)
         ≡ Some work.now }
     requires accepted { is_accepted entry.now.law (verdict register.now.entries entry.now.drafter
         entry.now.request entry.now.command) ≡ true }
-    ensures changes { IfOk result (AreChangesOf register.now.entries entry.now (kept_in tables.now)) }
-    ensures steps { steps.new ≤ steps.old + entry_cost register.now.entries entry.now }
+    ensures changes { IfOk result (AreChangesOf register.now.entries entry.now (kept_in tables.now) index.now) }
+    ensures steps { steps.new ≤ steps.old
+        + (entry_cost register.now.entries entry.now + judged_for index.now register.now.entries entry.now) }
 {
     entries_are_legal(register);
+    an_entry_hands_in();
     match tables.get(work) {
-        Some(kept) => revising(alloc, register, tables, entry, work, kept, steps),
+        Some(kept) => revising(alloc, register, tables, index, entry, work, kept, steps),
         None => Ok(no_changes(alloc)),
     }
 }
@@ -197,18 +249,23 @@ fn changing<L: Ledger>(
     alloc: Global,
     register: &Register,
     tables: &KeptWorks,
+    index: &RefIndex,
     entry: &Entry,
     steps: &mut Steps<L>,
 ) -> Result<Changes, Memory>
     requires right { AreTablesOf register.now.entries (kept_in tables.now) }
+    requires index { IsIndexOf register.now.entries index.now }
     requires other { acts.act_of entry.now.command ≡ None }
     requires accepted { is_accepted entry.now.law (verdict register.now.entries entry.now.drafter
         entry.now.request entry.now.command) ≡ true }
-    ensures changes { IfOk result (AreChangesOf register.now.entries entry.now (kept_in tables.now)) }
-    ensures steps { steps.new ≤ steps.old + entry_cost register.now.entries entry.now }
+    ensures changes { IfOk result (AreChangesOf register.now.entries entry.now (kept_in tables.now) index.now) }
+    ensures steps { steps.new ≤ steps.old
+        + (entry_cost register.now.entries entry.now + judged_for index.now register.now.entries entry.now) }
 {
+    entries_are_legal(register);
+    what_moves_no_work_leaves_the_index();
     match work_entered(register, entry) {
-        Some(work) => changing_work(alloc, register, tables, entry, work, steps),
+        Some(work) => changing_work(alloc, register, tables, index, entry, work, steps),
         None => Ok(no_changes(alloc)),
     }
 }
@@ -219,17 +276,20 @@ pub(crate) fn make_changes<L: Ledger>(
     alloc: Global,
     register: &Register,
     tables: &KeptWorks,
+    index: &RefIndex,
     entry: &Entry,
     steps: &mut Steps<L>,
 ) -> Result<Changes, Memory>
     requires right { AreTablesOf register.now.entries (kept_in tables.now) }
+    requires index { IsIndexOf register.now.entries index.now }
     requires accepted { is_accepted entry.now.law (verdict register.now.entries entry.now.drafter
         entry.now.request entry.now.command) ≡ true }
-    ensures changes { IfOk result (AreChangesOf register.now.entries entry.now (kept_in tables.now)) }
-    ensures steps { steps.new ≤ steps.old + entry_cost register.now.entries entry.now }
+    ensures changes { IfOk result (AreChangesOf register.now.entries entry.now (kept_in tables.now) index.now) }
+    ensures steps { steps.new ≤ steps.old
+        + (entry_cost register.now.entries entry.now + judged_for index.now register.now.entries entry.now) }
 {
     match act_of(&entry.command) {
-        Some(act) => enacting(alloc, register, tables, entry, act, steps),
-        None => changing(alloc, register, tables, entry, steps),
+        Some(act) => enacting(alloc, register, tables, index, entry, act, steps),
+        None => changing(alloc, register, tables, index, entry, steps),
     }
 }

@@ -5,13 +5,20 @@
 mod acting;
 mod book;
 mod changes;
+mod kept_then;
 pub mod laws;
 mod line;
 mod office;
 mod opening;
+mod ref_rows;
+mod references;
 mod renewing;
 mod sent;
+mod spelled;
 mod tabling;
+mod target_rules;
+mod targets_after;
+mod text_refs;
 mod writing;
 
 pub use book::{Book, Changes, KeptWorks, Pending};

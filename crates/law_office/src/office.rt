@@ -1,6 +1,6 @@
 //! Office: a desk over a keeper and a clock that it is lent. A clause sees both as they are, its entries, the one
-//! that is pending, its marks, the keys of what it keeps of past viewpoints, its keeper's count of faults when it was
-//! made, and where it comes from.
+//! that is pending, its marks, the keys of what it keeps of past viewpoints, its index of references now and once the pending
+//! entry stands behind the others, its keeper's count of faults when it was made, and where it comes from.
 
 ghost use Rattle.std.specs.Prelude.{◌≡◌, ◌≢◌, ◌↔◌, ◌+◌, ◌<◌, ◌≤◌, [], true, None, Some, Ok, IfOk, IfErr, IfSome, IsTrue, is_some};
 ghost use Rattle.law_keeper.specs.Keepers.{Keeps, LeavesOldOrSame};
@@ -17,20 +17,24 @@ ghost use Rattle.law_register.specs.Register.KnownNext.{known_now};
 ghost use Rattle.law_register.specs.Register.LawList.{front};
 ghost use Rattle.law_register.specs.declared.register.known.Known.{Known as KnownValue};
 ghost use Rattle.std.specs.Map.{keys_of};
+ghost use Rattle.law_refs.specs.Handing.{judged_at_opening};
+ghost use Rattle.law_refs.specs.Missing.{IsDangling};
 ghost use Rattle.version_cache.specs.Seen.{table_view};
 ghost use Rattle.version_cache.specs.Tables as tables;
 ghost use Rattle.law_office.specs.Crashing.{crashes_of};
 ghost use Rattle.law_office.specs.Lists.{EndsOver};
-ghost use Rattle.law_office.specs.Offices.{HoldsBook, IsRight, RoseWith, Spells, desk_of, names_of, origin_of, pending_of};
+ghost use Rattle.law_office.specs.Offices.{HoldsBook, IsRight, RoseWith, Spells, desk_of, judging_in, names_of, origin_of, pending_of};
 ghost use Rattle.law_office.specs.Opening.{HasRefusalCause, Refuses, StaysUnlessFailed, cost_opened, opened_of};
 
 use crate::acting::command as do_command;
 use crate::book::Book;
 use crate::sent::Sent;
-use desk_base::{Clock, Memory, Steps};
+use desk_base::{Clock, Day, Memory, Steps};
 use draft_sessions::{draft_of, preview};
 use frbr_names::WorkName;
 use law_keeper::Keeper;
+use law_refs::Dangling;
+use law_refs::laws::what_dangles_is_listed;
 use law_register::laws::entries_are_legal;
 use law_register::{
     Answer, AskFault, Command, CommandFault, Desk, Draft, Drafter, Event, FaultMark, OpenFault,
@@ -76,7 +80,7 @@ pub struct Office<'k, 'c, K: Keeper, C: Clock> {
 
 impl<'k, 'c, K: Keeper, C: Clock> Model for Office<'k, 'c, K, C> {
     ghost use Rattle.std.specs.Map.{keys_of};
-    ghost use Rattle.law_office.specs.Offices.{HoldsBook, IsMarked, IsRight, OfficeState, RoseWith, origin_of, pending_of};
+    ghost use Rattle.law_office.specs.Offices.{HoldsBook, IsMarked, IsRight, OfficeState, RoseWith, later_of, origin_of, pending_of};
 
     ghost Value = { OfficeState K C };
 
@@ -93,6 +97,8 @@ impl<'k, 'c, K: Keeper, C: Clock> Model for Office<'k, 'c, K, C> {
       pending = pending_of o.book.pending;
       marks = o.book.marks.items;
       past = keys_of o.book.past;
+      refs = o.book.refs;
+      later = later_of o.book.refs o.book.pending;
       opened = K.faults o.opened.value;
       origin = origin_of o.keeper.ghost_name o.clock.ghost_name (K.faults o.opened.value);
     } };
@@ -106,7 +112,8 @@ impl<'k, 'c, K: Keeper, C: Clock> Model for Office<'k, 'c, K, C> {
 impl<'k, 'c, K: Keeper, C: Clock> Office<'k, 'c, K, C> {
     /// Opens a keeper, and the office of what it has. A refusal gives keeper and clock back, and the clock was
     /// asked nothing. No payload changes, and a crash at any moment leaves a list that it could leave before, or the
-    /// list itself. It takes one step at most for each id that is applied to make what is kept of the enacted works.
+    /// list itself. It takes one step at most for each id that is applied to make what is kept of the enacted works, and one for each
+    /// reference of their texts.
     pub fn open<L: Ledger>(
         alloc: Global,
         keeper: &'k mut K,
@@ -140,7 +147,8 @@ impl<'k, 'c, K: Keeper, C: Clock> Office<'k, 'c, K, C> {
         ensures past { IfOk result (λ office. office.past ≡ []) }
         ensures steps { (K.holding keeper.old).tells
             → steps.new ≤ steps.old + cost_opened (opened_of (K.holding keeper.old).list) }
-        ensures steps_opened { IfOk result (λ office. steps.new ≤ steps.old + opening_cost office.entries) }
+        ensures steps_opened { IfOk result (λ office. steps.new ≤ steps.old
+            + (opening_cost office.entries + judged_at_opening office.entries)) }
     {
         match Book::open(alloc, keeper, steps) {
             Ok(book) => Ok(Office::new(keeper, clock, book)),
@@ -236,6 +244,15 @@ impl<'k, 'c, K: Keeper, C: Clock> Office<'k, 'c, K, C> {
         }
     }
 
+    /// The references that dangle on a day: those of the text in force whose target breaks a rule, of each work whose act's day has
+    /// come. An entry that is pending is not seen.
+    pub fn dangling(&self, alloc: Global, day: Day) -> Result<Dangling, Memory>
+        ensures { IfOk result (λ found. IsDangling self.now.entries day found) }
+    {
+        what_dangles_is_listed(&self.book.refs);
+        self.book.refs.dangling(alloc, day)
+    }
+
     /// Whether some command was answered by a fault of the keeper.
     pub fn faulted(&self) -> bool
         ensures { IsTrue result ↔ (self.now.marks ≢ []) }
@@ -274,13 +291,15 @@ impl<'k, 'c, K: Keeper, C: Clock> Held for Office<'k, 'c, K, C> {
 impl<'k, 'c, K: Keeper, C: Clock> Desk for Office<'k, 'c, K, C> {
     ghost use Rattle.std.proofs.Common.{refl};
     ghost use Rattle.law_office.specs.Crashing.{crashes_are, crashes_of};
-    ghost use Rattle.law_office.specs.Offices.{desk_of};
+    ghost use Rattle.law_office.specs.Offices.{desk_of, judging_in};
 
     ghost state = { λ office. desk_of K.faults C.days office };
 
     ghost crashes = { λ office. crashes_of (K.holding office.keeper) };
 
     ghost past = { λ office. office.past };
+
+    ghost judging = { λ office. judging_in office };
 
     fn command<L: Ledger>(
         &mut self,
@@ -293,7 +312,7 @@ impl<'k, 'c, K: Keeper, C: Clock> Desk for Office<'k, 'c, K, C> {
         requires { is_well_spelled command ≡ true }
         ensures outcome { let state = desk_of K.faults C.days in
             EndsWithin drafter.now request command (standing (state self.old)) (standing (state self.new))
-            steps.old steps.new result }
+            (judging_in self.old) steps.old steps.new result }
         ensures over { let state = desk_of K.faults C.days in
             EndsOver drafter.now request command (standing (state self.old)) (standing (state self.new))
             (K.holding self.old.keeper) (K.holding self.new.keeper) result }

@@ -5,10 +5,12 @@ ghost use Rattle.std.specs.Map.{keys_of};
 ghost use Rattle.indexmap.specs.IndexMap.{spare};
 ghost use Rattle.version_cache.specs.Seen.{work_revision_view, work_view};
 ghost use Rattle.version_cache.specs.Works.{AreRevisionsOf};
+ghost use Rattle.law_office.specs.References.{index_after};
 ghost use Rattle.law_office.specs.Tables.{Fit, applied, enacted_view, kept_in, revised_view, with_enacted, with_revision, with_revisions};
 
 use crate::book::{Changes, KeptWorks};
 use frbr_names::WorkName;
+use law_refs::{RefIndex, RefRevision};
 use version_cache::{WorkRevision, WorkTables};
 
 // Takes the revision of a work.
@@ -59,13 +61,28 @@ fn enact(tables: &mut KeptWorks, enacted: Option<(WorkName, WorkTables)>)
     }
 }
 
+// Takes the revision of the index, if there is one.
+fn renew_refs(index: &mut RefIndex, refs: Option<RefRevision>)
+    ensures { index.new ≡ index_after refs index.old }
+{
+    if let Some(revision) = refs {
+        index.commit(revision);
+    }
+}
+
 // Makes changes, for which there is room.
-pub(crate) fn apply(tables: &mut KeptWorks, changes: Changes)
+pub(crate) fn apply(tables: &mut KeptWorks, index: &mut RefIndex, changes: Changes)
     requires fit { Fit (map revised_view changes.revised.items) (kept_in tables.old) }
     requires space { 1 ≤ spare tables.old }
-    ensures { (w : List ℕ) → kept_in tables.new w ≡ applied changes (kept_in tables.old) w }
+    ensures tables { (w : List ℕ) → kept_in tables.new w ≡ applied changes (kept_in tables.old) w }
+    ensures index { index.new ≡ index_after changes.refs index.old }
 {
-    let Changes { enacted, revised } = changes;
+    let Changes {
+        enacted,
+        revised,
+        refs,
+    } = changes;
     renew_all(tables, revised);
     enact(tables, enacted);
+    renew_refs(index, refs);
 }

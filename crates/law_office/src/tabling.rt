@@ -1,11 +1,15 @@
-//! Tabling: what is kept of each work is made once a keeper is opened.
+//! Tabling: what is kept of each work is made once a keeper is opened, and the index of references.
 
-ghost use Rattle.std.specs.Prelude.{◌≡◌, ◌≢◌, ◌+◌, ◌≤◌, ◌++◌, ◌∷◌, [], None, Ok, IfErr, IfOk, OnOk, map, option_map};
+ghost use Rattle.std.specs.Prelude.{◌≡◌, ◌≢◌, ◌+◌, ◌≤◌, ◌++◌, ◌∷◌, [], ℕ, List, None, Some, Ok, IfErr, IfOk, OnOk, map, option_map};
 ghost use Rattle.std.specs.List.{sum_by};
 ghost use Rattle.std.specs.Map.{keys_of};
 ghost use Rattle.law_register.specs.Answer.Renewing.{costs_from, opening_cost};
 ghost use Rattle.law_register.specs.Register.KnownNext.{known_now};
+ghost use Rattle.indexmap.specs.IndexMap.{spare};
+ghost use Rattle.law_refs.specs.Handing.{judged_at_opening, rows_if, rows_made, rows_opened};
+ghost use Rattle.law_refs.specs.OfRegister.{IsIndexOf};
 ghost use Rattle.version_cache.specs.Seen.{work_view};
+ghost use Rattle.version_cache.specs.Works.{work_of};
 ghost use Rattle.viewpoints.specs.Right as viewpoints;
 ghost use Rattle.law_keeper.specs.Keepers.{Keeps, LeavesOldOrSame};
 ghost use Rattle.law_register.specs.declared.desk.open_fault.OpenFault.TheVariants as fails;
@@ -13,16 +17,19 @@ ghost use Rattle.law_office.specs.Line.{AreInLine};
 ghost use Rattle.law_office.specs.Offices.{HoldsBook, IsRight};
 ghost use Rattle.law_office.specs.Opening as spec;
 ghost use Rattle.law_office.specs.Opening.{HasOpenCause, Opens, StaysUnlessFailed, TakesRefused, cost_opened, opened_of};
-ghost use Rattle.law_office.specs.Tables.{AddsWork, AreTablesOf, Matches, kept_in, table_on};
+ghost use Rattle.law_office.specs.Tables.{AddsWork, AreTablesOf, Matches, kept_in, table_on, with_enacted};
 
 use crate::book::{Book, KeptWorks};
 use crate::line::{DatedWork, line_of};
 use crate::opening::Opened;
+use crate::ref_rows::add_made;
+use crate::references::index_of;
 use crate::renewing::add;
 use desk_base::{Memory, Steps};
 use frbr_names::WorkName;
 use indexmap::IndexMap;
 use law_keeper::Keeper;
+use law_refs::{RefIndex, RefRows};
 use law_register::laws::entries_are_legal;
 use law_register::{OpenFault, Register, known_at};
 use replay_core::FromEnacted;
@@ -40,6 +47,8 @@ fn make_work<L: Ledger>(
 ) -> Result<Option<WorkTables>, Memory>
     ensures made { IfOk result
         (λ made. Matches (known_now register.now.entries work.now) (option_map work_view made)) }
+    ensures is { IfOk result
+        (λ made. option_map work_view made ≡ option_map work_of (known_now register.now.entries work.now)) }
     ensures steps { steps.new ≤ steps.old + costs_from (known_now register.now.entries work.now) 0 }
 {
     match known_at(alloc, register, work, register.front())? {
@@ -48,83 +57,147 @@ fn make_work<L: Ledger>(
     }
 }
 
-// Keeps a work, if it is known.
+// Keeps a work of which this was just made, and adds the rows of its references.
+fn add_with_rows(
+    alloc: Global,
+    tables: &mut KeptWorks,
+    rows: &mut RefRows,
+    work: WorkName,
+    made: WorkTables,
+) -> Result<(), Memory>
+    requires space { 1 ≤ spare tables.old }
+    requires made { work_view made ≡ work_of (work_view made).known }
+    ensures kept { OnOk result ((w : List ℕ) → kept_in tables.new w
+        ≡ with_enacted (Some (work, work_view made)) w (kept_in tables.old w)) }
+    ensures key { OnOk result (kept_in tables.old work ≡ None
+        → keys_of tables.new.entries ≡ keys_of tables.old.entries ++ work ∷ []) }
+    ensures rows { OnOk result (rows.new ≡ rows.old ++ rows_made work (work_view made).known) }
+{
+    match add_made(alloc, &work, &made, rows) {
+        Ok(()) => {
+            add(tables, work, made);
+            Ok(())
+        }
+        Err(Memory) => {
+            drop(work);
+            drop(made);
+            Err(Memory)
+        }
+    }
+}
+
+// Keeps a work, if it is known, and adds the rows of its references.
 fn add_work<L: Ledger>(
     alloc: Global,
     register: &Register,
     work: &WorkName,
     tables: &mut KeptWorks,
+    rows: &mut RefRows,
     steps: &mut Steps<L>,
 ) -> Result<(), Memory>
     ensures kept { OnOk result (AddsWork (known_now register.now.entries work.now) work.now
         (kept_in tables.old) (kept_in tables.new)) }
     ensures key { OnOk result (known_now register.now.entries work.now ≢ None → kept_in tables.old work.now ≡ None
         → keys_of tables.new.entries ≡ keys_of tables.old.entries ++ work.now ∷ []) }
+    ensures rows { OnOk result
+        (rows.new ≡ rows.old ++ rows_if (rows_made work.now) (known_now register.now.entries work.now)) }
     ensures steps { steps.new ≤ steps.old + costs_from (known_now register.now.entries work.now) 0 }
 {
     tables.reserve(1)?;
     let name = work.copy()?;
     match make_work(alloc, register, work, steps)? {
-        Some(made) => add(tables, name, made),
-        None => drop(name),
+        Some(made) => add_with_rows(alloc, tables, rows, name, made),
+        None => {
+            drop(name);
+            Ok(())
+        }
     }
-    Ok(())
 }
 
-// Makes what is kept of works in line, of one after another.
+// Makes what is kept of works in line, and the rows of their references, of one after another.
 fn add_all<L: Ledger>(
     alloc: Global,
     register: &Register,
     line: &[DatedWork],
     tables: &mut KeptWorks,
+    rows: &mut RefRows,
     steps: &mut Steps<L>,
 ) -> Result<(), Memory>
     requires none { tables.old.entries ≡ [] }
+    requires no_rows { rows.old ≡ [] }
     requires line { AreInLine register.now.entries (map (λ d. d.work) line.now) }
     ensures right { OnOk result (AreTablesOf register.now.entries (kept_in tables.new)) }
     ensures keys { OnOk result (keys_of tables.new.entries ≡ map (λ d. d.work) line.now) }
+    ensures rows { OnOk result (rows.new ≡ rows_opened register.now.entries (map (λ d. d.work) line.now)) }
     ensures steps { steps.new ≤ steps.old
         + sum_by (λ work. costs_from (known_now register.now.entries work) 0) (map (λ d. d.work) line.now) }
 {
     entries_are_legal(register);
     for dated in line {
-        add_work(alloc, register, &dated.work, tables, steps)?;
+        add_work(alloc, register, &dated.work, tables, rows, steps)?;
     }
     Ok(())
 }
 
-// Makes what is kept of all works, in line.
+// Makes what is kept of all works, in line, and the rows of their references.
 #[tactic(auto, unfolding(law_register::specs::Answer::Renewing::opening_cost))]
 fn make_tables<L: Ledger>(
     alloc: Global,
     register: &Register,
     steps: &mut Steps<L>,
-) -> Result<KeptWorks, Memory>
-    ensures right { IfOk result (λ tables. AreTablesOf register.now.entries (kept_in tables)) }
-    ensures line { IfOk result (λ tables. AreInLine register.now.entries (keys_of tables.entries)) }
+) -> Result<(KeptWorks, RefRows), Memory>
+    ensures right { IfOk result (λ made. AreTablesOf register.now.entries (kept_in made.0)) }
+    ensures line { IfOk result (λ made. AreInLine register.now.entries (keys_of made.0.entries)) }
+    ensures rows { IfOk result (λ made. made.1 ≡ rows_opened register.now.entries (keys_of made.0.entries)) }
     ensures steps { steps.new ≤ steps.old + opening_cost register.now.entries }
 {
     let line = line_of(alloc, register)?;
     let mut tables = IndexMap::new(alloc);
-    add_all(alloc, register, line.as_slice(), &mut tables, steps)?;
-    Ok(tables)
+    let mut rows = RefRows::new(alloc);
+    add_all(
+        alloc,
+        register,
+        line.as_slice(),
+        &mut tables,
+        &mut rows,
+        steps,
+    )?;
+    Ok((tables, rows))
 }
 
-// What is kept of works and of past viewpoints.
+// What is kept of works, and the index of their references.
+fn make_index<L: Ledger>(
+    alloc: Global,
+    register: &Register,
+    steps: &mut Steps<L>,
+) -> Result<(KeptWorks, RefIndex), Memory>
+    ensures right { IfOk result (λ made. AreTablesOf register.now.entries (kept_in made.0)) }
+    ensures line { IfOk result (λ made. AreInLine register.now.entries (keys_of made.0.entries)) }
+    ensures index { IfOk result (λ made. IsIndexOf register.now.entries made.1) }
+    ensures steps { steps.new ≤ steps.old + (opening_cost register.now.entries + judged_at_opening register.now.entries) }
+{
+    entries_are_legal(register);
+    let (tables, rows) = make_tables(alloc, register, steps)?;
+    let index = index_of(alloc, register, &tables, &rows, steps)?;
+    Ok((tables, index))
+}
+
+// What is kept of works, of past viewpoints and of references.
 fn make_kept<L: Ledger>(
     alloc: Global,
     register: &Register,
     steps: &mut Steps<L>,
-) -> Result<(KeptWorks, PastTables<Table>), Memory>
+) -> Result<(KeptWorks, PastTables<Table>, RefIndex), Memory>
     ensures tables { IfOk result (λ kept. AreTablesOf register.now.entries (kept_in kept.0)) }
     ensures line { IfOk result (λ kept. AreInLine register.now.entries (keys_of kept.0.entries)) }
     ensures none { IfOk result (λ kept. kept.1 ≡ []) }
     ensures past { IfOk result (λ kept. viewpoints.IsRight table_on register.now.entries kept.1) }
-    ensures steps { steps.new ≤ steps.old + opening_cost register.now.entries }
+    ensures index { IfOk result (λ kept. IsIndexOf register.now.entries kept.2) }
+    ensures steps { steps.new ≤ steps.old + (opening_cost register.now.entries + judged_at_opening register.now.entries) }
 {
     let past = PastTables::new(alloc)?;
-    let tables = make_tables(alloc, register, steps)?;
-    Ok((tables, past))
+    let (tables, refs) = make_index(alloc, register, steps)?;
+    Ok((tables, past, refs))
 }
 
 // The same, where want of memory is told as an opening tells it.
@@ -140,7 +213,8 @@ fn book_of<L: Ledger>(
     ensures right { IfOk result IsRight }
     ensures line { IfOk result (λ book. AreInLine book.register.entries (keys_of book.tables.entries)) }
     ensures memory { IfErr result (λ fault. fault ≡ fails.Memory) }
-    ensures steps { steps.new ≤ steps.old + opening_cost opened.register.entries }
+    ensures steps { steps.new ≤ steps.old
+        + (opening_cost opened.register.entries + judged_at_opening opened.register.entries) }
 {
     match Book::with_tables(alloc, opened, steps) {
         Ok(book) => Ok(book),
@@ -168,7 +242,8 @@ impl Book {
             → IfErr result (StaysUnlessFailed (K.faults keeper.old) (K.faults keeper.new)) }
         ensures steps { (K.holding keeper.old).tells
             → steps.new ≤ steps.old + cost_opened (opened_of (K.holding keeper.old).list) }
-        ensures steps_opened { IfOk result (λ book. steps.new ≤ steps.old + opening_cost book.register.entries) }
+        ensures steps_opened { IfOk result (λ book. steps.new ≤ steps.old
+            + (opening_cost book.register.entries + judged_at_opening book.register.entries)) }
         ensures steps_refused { IfErr result (TakesRefused (K.holding keeper.old) steps.old steps.new) }
     {
         match Opened::open(alloc, keeper) {
@@ -178,7 +253,8 @@ impl Book {
     }
 
     /// The book of an office, of what was opened: with what is to be kept of each enacted work, made in line, of the latest
-    /// act first. It takes one step at most for each id that is applied.
+    /// act first, and the index of references. It takes one step at most for each id that is applied, and one for each reference
+    /// of their texts.
     pub fn with_tables<L: Ledger>(
         alloc: Global,
         opened: Opened,
@@ -190,10 +266,11 @@ impl Book {
         ensures new { IfOk result (λ book. (book.pending ≡ None) × (book.marks.items ≡ []) × (keys_of book.past ≡ [])) }
         ensures right { IfOk result IsRight }
         ensures line { IfOk result (λ book. AreInLine book.register.entries (keys_of book.tables.entries)) }
-        ensures steps { steps.new ≤ steps.old + opening_cost opened.register.entries }
+        ensures steps { steps.new ≤ steps.old
+            + (opening_cost opened.register.entries + judged_at_opening opened.register.entries) }
     {
         match make_kept(alloc, &opened.register, steps) {
-            Ok((tables, past)) => {
+            Ok((tables, past, refs)) => {
                 let Opened { register, end } = opened;
                 Ok(Book {
                     register,
@@ -202,6 +279,7 @@ impl Book {
                     marks: Vec::new(alloc),
                     tables,
                     past,
+                    refs,
                 })
             }
             Err(Memory) => {

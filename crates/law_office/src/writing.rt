@@ -1,13 +1,15 @@
 //! What is written into a book. None of it takes memory but the room for a mark.
 
-ghost use Rattle.std.specs.Prelude.{◌≡◌, ◌+◌, ◌≤◌, ◌<◌, ◌∷◌, ◌++◌, [], None, Ok, IfOk, OnOk, length, vec_len, vec_capacity};
+ghost use Rattle.std.specs.Prelude.{◌≡◌, ◌+◌, ◌≤◌, ◌<◌, ◌∷◌, ◌++◌, [], None, Some, Ok, IfOk, OnOk, length, vec_len, vec_capacity};
 ghost use Rattle.indexmap.specs.IndexMap.{spare};
 ghost use Rattle.law_register.specs.Desk.Commands.{mark_of};
 ghost use Rattle.viewpoints.specs.Right as viewpoints;
 ghost use Rattle.law_office.specs.Acting.{resolved, resolved_end};
 ghost use Rattle.law_office.specs.Opening.{opened, spellings};
 ghost use Rattle.law_office.specs.Moving.{Moves};
-ghost use Rattle.law_office.specs.Offices.{IsPendingOn, IsRight, pending_of};
+ghost use Rattle.law_refs.specs.OfRegister.{IsIndexOf};
+ghost use Rattle.law_office.specs.Offices.{IsPendingOn, IsRight, index_standing, pending_of};
+ghost use Rattle.law_office.specs.References.{index_after};
 ghost use Rattle.law_office.specs.Tables.{AreTablesOf, kept_in, table_on};
 
 use crate::book::{Book, Pending};
@@ -46,6 +48,7 @@ impl Book {
         ensures end { self.new.end ≡ self.old.end }
         ensures marks { self.new.marks.items ≡ self.old.marks.items }
         ensures past { self.new.past ≡ self.old.past }
+        ensures refs { self.new.refs ≡ self.old.refs }
         ensures right { IsRight self.new }
     {
         self.marks.reserve(1)?;
@@ -87,6 +90,7 @@ impl Book {
         ensures entries { self.new.register.entries ≡ self.old.register.entries }
         ensures room { OnOk result (1 ≤ self.new.register.spare) }
         ensures space { OnOk result (1 ≤ spare self.new.tables) }
+        ensures refs { self.new.refs ≡ self.old.refs }
         ensures pending { self.new.pending ≡ self.old.pending }
         ensures end { self.new.end ≡ self.old.end }
         ensures moves { Moves self.old self.new }
@@ -100,13 +104,15 @@ impl Book {
     // An entry that the keeper has stands behind the others, up to this cursor, and what is kept is for it.
     pub(crate) fn commit(&mut self, pending: Pending, end: u64)
         requires right { IsRight self.old }
-        requires follows { IsPendingOn self.old.register self.old.tables pending }
+        requires follows { IsPendingOn self.old.register self.old.tables self.old.refs pending }
         ensures entries { self.new.register.entries ≡ self.old.register.entries ++ pending.entry ∷ [] }
         ensures opens { opened (spellings self.new.register.entries) ≡ Ok self.new.register.entries }
         ensures end { self.new.end ≡ end }
         ensures pending { self.new.pending ≡ self.old.pending }
         ensures moves { Moves self.old self.new }
         ensures tables { AreTablesOf self.new.register.entries (kept_in self.new.tables) }
+        ensures refs { self.new.refs ≡ index_after pending.changes.refs self.old.refs }
+        ensures index { IsIndexOf self.new.register.entries self.new.refs }
         ensures right { viewpoints.IsRight table_on self.new.register.entries self.new.past }
     {
         let Pending {
@@ -115,8 +121,22 @@ impl Book {
             changes,
         } = pending;
         self.register.push(entry);
-        apply(&mut self.tables, changes);
+        apply(&mut self.tables, &mut self.refs, changes);
         self.end = end;
+    }
+
+    // The keeper has an entry, or has not: it is pending.
+    pub(crate) fn leave(&mut self, pending: Pending)
+        requires right { IsRight self.old }
+        requires follows { IsPendingOn self.old.register self.old.tables self.old.refs pending }
+        ensures entries { self.new.register.entries ≡ self.old.register.entries }
+        ensures end { self.new.end ≡ self.old.end }
+        ensures pending { pending_of self.new.pending ≡ Some pending.entry }
+        ensures moves { Moves self.old self.new }
+        ensures right { IsRight self.new }
+    {
+        let earlier = self.pending.replace(pending);
+        drop(earlier);
     }
 
     // The entry that is pending was found, up to this cursor, or was not: it is pending no more.
@@ -126,6 +146,7 @@ impl Book {
             ≡ resolved self.old.register.entries (pending_of self.old.pending) found }
         ensures end { self.new.end ≡ resolved_end self.old.end (pending_of self.old.pending) found }
         ensures pending { self.new.pending ≡ None }
+        ensures refs { self.new.refs ≡ index_standing self.old self.new.register.entries }
         ensures moves { Moves self.old self.new }
         ensures right { IsRight self.new }
     {

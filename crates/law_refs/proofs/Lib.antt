@@ -3,6 +3,11 @@ mod Behind
 mod Broken
 mod ByRegister
 mod Covered
+mod Entering
 mod Handed
 mod Latest
+mod Opening
+mod Resting
 mod Revised
+mod Texts
+mod Unmoved

@@ -1,5 +1,6 @@
 pub mod Counting
 pub mod Covering
+pub mod Handing
 pub mod Index
 pub mod Judging
 pub mod Listed

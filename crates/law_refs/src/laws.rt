@@ -1,12 +1,15 @@
 //! Laws of the index, each as the contract of a function with an empty body.
 
-ghost use Rattle.std.specs.Prelude.{◌≡◌, ◌++◌, ℕ, List, [], map};
+ghost use Rattle.std.specs.Prelude.{◌≡◌, ◌++◌, ◌∷◌, true, ℕ, IsPermutation, List, [], map};
 ghost use Rattle.std.specs.Cmp.Lexicographic.{slice_cmp};
 ghost use Rattle.std.specs.List.Sorted.{IsStrictlySortedBy};
 ghost use Rattle.std.specs.Map.{keys_of};
 ghost use Rattle.std.specs.Ordering.{nat_cmp};
 ghost use Rattle.law_register.specs.declared.register.entry.Entry.{Entry};
-ghost use Rattle.law_refs.specs.Index.{Kept, first_day, revised, rows_that_stay};
+ghost use Rattle.law_register.specs.Register.LawList.{law_of, laws, works_enacted};
+ghost use Rattle.law_register.specs.Register.Verdicts.{is_legal};
+ghost use Rattle.law_refs.specs.Handing.{judged_at_opening, judged_for, moved_by, rows_of_entry, rows_opened};
+ghost use Rattle.law_refs.specs.Index.{Kept, first_day, refs_in, revised, rows_that_stay};
 ghost use Rattle.law_refs.specs.Judging.{Answers};
 ghost use Rattle.law_refs.specs.Listed.{dangling_on};
 ghost use Rattle.law_refs.specs.Missing.{IsDangling, missing};
@@ -60,4 +63,40 @@ pub fn new_index_is_of_no_entries()
 pub fn revision_follows_the_register()
     ensures { (before after : List Entry) (moved : List (List ℕ)) (rows : List RefRow) (index : Kept)
         → IsIndexOf before index → FollowsChange before after moved rows → IsIndexOf after (revised (missing after) moved rows index) }
+{}
+
+/// What an entry hands in that comes to stand behind legal ones is what the register has with it: of the work that it enacts, or of
+/// which it touches a day, the references of its texts from that day on; before that day no text has others, and what refers to
+/// another work is answered as before.
+pub fn an_entry_hands_in()
+    ensures { (entries : List Entry) (entry : Entry) → is_legal (entries ++ entry ∷ []) ≡ true
+        → FollowsChange entries (entries ++ entry ∷ []) (moved_by entries entry) (rows_of_entry entries entry) }
+{}
+
+/// What an opening hands in of the works that are enacted, in whatever order, is what the register has.
+pub fn an_opening_hands_in()
+    ensures { (entries : List Entry) (works : List (List ℕ)) → is_legal entries ≡ true
+        → IsPermutation (works_enacted (laws entries)) works → FollowsChange [] entries works (rows_opened entries works) }
+{}
+
+/// In whatever order works are taken, an opening judges as many references.
+pub fn an_opening_judges()
+    ensures { (entries : List Entry) (works : List (List ℕ)) → IsPermutation (works_enacted (laws entries)) works
+        → refs_in (rows_opened entries works) ≡ judged_at_opening entries }
+{}
+
+/// An entry of a draft moves no work, and hands in nothing.
+pub fn drafts_hand_in_nothing()
+    ensures moved { (entries : List Entry) (entry : Entry) → law_of entries entry ≡ [] → moved_by entries entry ≡ [] }
+    ensures rows { (entries : List Entry) (entry : Entry) → law_of entries entry ≡ [] → rows_of_entry entries entry ≡ [] }
+{}
+
+/// An entry that moves no work hands in nothing, no reference is judged for it, and the index of a register is that of the register
+/// with it.
+pub fn what_moves_no_work_leaves_the_index()
+    ensures rows { (entries : List Entry) (entry : Entry) → moved_by entries entry ≡ [] → rows_of_entry entries entry ≡ [] }
+    ensures steps { (entries : List Entry) (entry : Entry) (index : Kept) → moved_by entries entry ≡ []
+        → judged_for index entries entry ≡ 0 }
+    ensures index { (entries : List Entry) (entry : Entry) (index : Kept) → is_legal (entries ++ entry ∷ []) ≡ true
+        → moved_by entries entry ≡ [] → IsIndexOf entries index → IsIndexOf (entries ++ entry ∷ []) index }
 {}

@@ -6,7 +6,7 @@ use Rattle.law_register.specs.declared.register.entry.Entry.{Entry}
 use Rattle.law_register.specs.declared.register.verdict.Reply.{Reply}
 use Rattle.law_register.specs.declared.register.verdict.Verdict.{Verdict}
 use Rattle.law_register.specs.declared.register.verdict.Verdict.TheVariants.{Accepted, Repeat, Refused}
-use Rattle.law_register.specs.Answer.Renewing.{command_cost, cost_said, costs_touched, entry_cost}
+use Rattle.law_register.specs.Answer.Renewing.{command_cost, cost_said, costs_touched, entry_cost, judging_cost, judging_said}
 use Rattle.law_register.specs.Answer.Touched.{day_entered, touched_day, touched_days, with_day, work_entered}
 use Rattle.law_register.specs.Register.Drafts.{draft_of}
 use Rattle.law_register.specs.Register.LawList.{law_command, law_of}
@@ -16,6 +16,12 @@ pub entry_is_paid : (es : List Entry) (e : Entry) (law : Option ℕ) (reply : Re
     → command_cost es e ≡ entry_cost es (record e { law = law })
 unfolding command_cost
 entry_is_paid es e law reply accepted = ap (cost_said es e) accepted
+
+pub judging_is_paid : (judging : List Entry → Entry → ℕ) (es : List Entry) (e : Entry) (law : Option ℕ) (reply : Reply)
+    → verdict es e.drafter e.request e.command ≡ Accepted law reply
+    → judging_cost judging es e ≡ judging es (record e { law = law })
+unfolding judging_cost
+judging_is_paid judging es e law reply accepted = ap (judging_said judging es e) accepted
 
 -- what touches no work costs nothing
 no_works : (named : Option (List ℕ)) → with_day named None ≡ []

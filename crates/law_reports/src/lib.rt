@@ -2,6 +2,7 @@
 #![tactic(auto)]
 
 mod correspondences;
+mod dangling_rows;
 mod events;
 pub mod laws;
 mod lifecycles;
@@ -9,6 +10,7 @@ mod table;
 mod unapplied_mods;
 
 pub use correspondences::correspondence;
+pub use dangling_rows::dangling_refs;
 pub use events::EventKind;
 pub use lifecycles::lifecycle;
 pub use unapplied_mods::unapplied;

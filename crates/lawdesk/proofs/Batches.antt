@@ -9,8 +9,9 @@ use Rattle.law_http.specs.declared.streaming.StreamEnd.{StreamEnd}
 use Rattle.law_http.specs.declared.streaming.StreamEnd.TheVariants as ends
 use Rattle.law_keeper.specs.Keepers.{Holding, Keeps, LeavesOldOrSame}
 use Rattle.law_office.specs.Crashing.{crashes_of}
-use Rattle.law_office.specs.Offices.{OfficeState, desk_of}
+use Rattle.law_office.specs.Offices.{OfficeState, desk_of, judging_in}
 use Rattle.law_office.specs.Opening.{HasDamageCause, HasRefusalCause, Refuses, StaysUnlessFailed, TakesRefused, opened_of}
+use Rattle.law_refs.specs.Handing.{judged_at_opening}
 use Rattle.law_register.specs.Answer.Renewing.{opening_cost}
 use Rattle.law_register.specs.Desk.States.{IsFoundOf}
 use Rattle.law_register.specs.declared.desk.damage.Damage.{Damage}
@@ -227,7 +228,7 @@ module _ {S W K C : Type 0} (left : S → Option (List ℕ)) (read_faults : S �
       → Keeps (holding keeper) (holding opened)
       → LeavesOldOrSame (holding keeper) (holding opened)
       → keeper_faults opened ≡ keeper_faults keeper
-      → begun ≤ steps + opening_cost entries
+      → begun ≤ steps + (opening_cost entries + judged_at_opening entries)
       → ServesOver left written holding keeper_faults days source source_new sink sink_new opened keeper_new clock clock_new begun later entries
       served
       → HasReadCause served.end (read_faults source) (read_faults source_new)
@@ -240,7 +241,7 @@ module _ {S W K C : Type 0} (left : S → Option (List ℕ)) (read_faults : S �
       ap keeper_faults (serves.is_new).keeper_is ∙ faults in
       let ended : keeper_faults keeper_new ≡ keeper_faults (serves.closed).keeper = ap keeper_faults serves.kept in
       let at_low = λ (low : (status ≡ 0) ⊎ (status ≡ 1)).
-      determined (desk_of keeper_faults days) (λ (o : OfficeState K C). crashes_of (holding o.keeper)) (λ (o : OfficeState K C). o.past)
+      determined (desk_of keeper_faults days) (λ (o : OfficeState K C). crashes_of (holding o.keeper)) (λ (o : OfficeState K C). o.past) (λ (o : OfficeState K C). judging_in o)
       (left source) (left source_new) (written sink) (written sink_new) serves.office serves.closed begun later served serves.streamed
       (serves.is_new).none_pending (low_is_faultless served status is low) in
       record {

@@ -14,11 +14,11 @@ use Rattle.frbr_names.specs.Parts.{after_front}
 use Rattle.dossier_text.specs.Jobs.{text_on}
 use Rattle.lawdesk.specs.Jobs.{counted, export_job, from_one, generate_job, generate_with, job_of, plain_job, serve_job, serve_with, text_job}
 use Rattle.law_register.specs.Answer.Questions.{reading_named}
-use Rattle.lawdesk.specs.ReportJobs.{correspondence_job, correspondence_on, lifecycle_job, report_job, short_job, unapplied_job, work_named}
+use Rattle.lawdesk.specs.ReportJobs.{correspondence_job, correspondence_on, dangling_job, lifecycle_job, report_job, short_job, unapplied_job, work_named}
 use Rattle.lawdesk.specs.Taking.{begins_with_dash}
 use Rattle.lawdesk.specs.declared.job.Job.TheVariants.{Export, Report, Serve, Text}
 use Rattle.law_register.specs.declared.answer.question.Reading.TheVariants.{Force}
-use Rattle.lawdesk.specs.declared.report_job.ReportJob.TheVariants.{Lifecycle, Unapplied}
+use Rattle.lawdesk.specs.declared.report_job.ReportJob.TheVariants.{Dangling, Lifecycle, Unapplied}
 
 either : (a b : Bool) → (a || b) ≡ true → (a ≡ true) ⊎ (b ≡ true)
 either true b some = inl refl
@@ -88,10 +88,13 @@ next_none (Some n) next none = none n
 -- ---- the words of a report
 
 short_dashed : (name word : List ℕ) → (begins_with_dash name ≡ true) ⊎ (begins_with_dash word ≡ true) → short_job name word ≡ None
-short_dashed name word (inl dash) = rw (no_name name (codes "lifecycle") dash refl, no_name name (codes "unapplied") dash refl) refl
+short_dashed name word (inl dash) =
+    rw (no_name name (codes "lifecycle") dash refl, no_name name (codes "unapplied") dash refl, no_name name (codes "dangling") dash refl) refl
 short_dashed name word (inr dash) =
-    both_none (bytes_eq name (codes "lifecycle")) (bytes_eq name (codes "unapplied")) (lifecycle_job word) (unapplied_job word) None
-    (ap (λ o. option_map (λ w. Lifecycle w) o) (no_work word dash)) (ap (λ o. option_map (λ d. Unapplied d) o) (no_day word dash)) refl
+    both_none (bytes_eq name (codes "lifecycle")) (bytes_eq name (codes "unapplied")) (lifecycle_job word) (unapplied_job word)
+    (cond (bytes_eq name (codes "dangling")) (dangling_job word) None)
+    (ap (λ o. option_map (λ w. Lifecycle w) o) (no_work word dash)) (ap (λ o. option_map (λ d. Unapplied d) o) (no_day word dash))
+    (then_none (bytes_eq name (codes "dangling")) (dangling_job word) (ap (λ o. option_map (λ d. Dangling d) o) (no_day word dash)))
 
 correspondence_dashed : (work first second : List ℕ)
     → (begins_with_dash work ≡ true) ⊎ ((begins_with_dash first ≡ true) ⊎ (begins_with_dash second ≡ true))

@@ -14,15 +14,12 @@ pub mod WordForms
 pub mod WordFronts
 pub mod SameOpening
 pub mod Tellings
+pub mod Dangles
 pub mod Exports
 pub mod Follows
 pub mod Runs
 pub mod OtherLengths
 pub mod Served
-pub mod ServingWorks
-pub mod ServingGates
-pub mod ServingVisits
-pub mod ServingFour
 pub mod ServingRuns
 pub mod MovesTold
 pub mod TwoRuns

@@ -2,13 +2,13 @@
 use Rattle.std.proofs.Common.{◌≡◌, ◌≢◌, inl, inr, ℕ, List, Option, Some, None, refl, arith}
 use Rattle.law_keeper.specs.Keepers.{Holding, IsHolding}
 use Rattle.law_register.specs.declared.desk.open_fault.OpenFault.TheVariants as fails
+use Rattle.desk_serving.specs.declared.serve_job.ServeJob.{ServeJob}
 use Rattle.lawdesk.specs.Exporting.{RanExport}
 use Rattle.lawdesk.specs.Following.{RanFollow}
 use Rattle.lawdesk.specs.Jobs.{serving_of, serving_part}
 use Rattle.lawdesk.specs.Running.{Did, Ran}
 use Rattle.lawdesk.specs.declared.job.Job.{Job}
 use Rattle.lawdesk.specs.declared.job.Job.TheVariants.{Batch, Check, Export, Follow, Generate, Report, Serve, Text}
-use Rattle.lawdesk.specs.declared.serving.serve_job.ServeJob.{ServeJob}
 use Rattle.lawdesk.proofs.Staying.{keeps_same}
 use Rattle.lawdesk.proofs.Wanting.{batch_wanting, check_wanting, generate_wanting, leaves_same, report_wanting, text_wanting}
 

@@ -5,12 +5,12 @@ use Rattle.std.specs.Str.{bytes_eq}
 use Rattle.dossier_text.specs.declared.text_job.TextJob.{TextJob}
 use Rattle.law_register.specs.Answer.Questions.{reading_named}
 use Rattle.law_register.proofs.Puts.{bytes_same}
+use Rattle.desk_serving.specs.declared.serve_job.ServeJob.{ServeJob}
 use Rattle.lawdesk.specs.Jobs.{counted, export_job, from_one, generate_job, generate_with, job_of, pair_job, plain_job, serve_job, serve_named, serving_of, text_job, triple_job, word_job}
 use Rattle.lawdesk.specs.ReportJobs.{report_job}
 use Rattle.lawdesk.specs.declared.job.Job.{Job}
 use Rattle.lawdesk.specs.declared.job.Job.TheVariants.{Batch, Check, Export, Follow, Report, Serve, Text}
 use Rattle.lawdesk.specs.declared.report_job.ReportJob.{ReportJob}
-use Rattle.lawdesk.specs.declared.serving.serve_job.ServeJob.{ServeJob}
 
 -- no other job is that
 mapped_report : (job : Option ReportJob) → serving_of (option_map (λ j. Report j) job) ≡ None

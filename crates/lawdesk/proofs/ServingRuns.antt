@@ -20,10 +20,10 @@ use Rattle.law_register.specs.declared.desk.event.Event.TheVariants.{Entered}
 use Rattle.law_register.specs.declared.desk.fault_mark.FaultMark.{FaultMark}
 use Rattle.law_register.specs.declared.desk.open_fault.OpenFault.{OpenFault}
 use Rattle.law_register.specs.declared.register.entry.Entry.{Entry}
+use Rattle.desk_serving.specs.Gates.{AskInAll, SomeGateRose, WereGatesServed}
 use Rattle.lawdesk.specs.Batching.{TellsRefusal}
 use Rattle.lawdesk.specs.Outliving.{BeginWith}
 use Rattle.lawdesk.specs.Serving.{IsEnded, IsServeStatus, IsServed, IsUnopened, RanServe, ServesGates, front_line, served_status}
-use Rattle.lawdesk.specs.ServingGates.{AskInAll, SomeGateRose, WereGatesServed}
 use Rattle.lawdesk.proofs.Batches.{refusal_cause, refusal_stays, refusal_status_is}
 
 -- ---- histories of entries alone

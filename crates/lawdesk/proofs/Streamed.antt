@@ -6,7 +6,7 @@ use Rattle.law_http.specs.declared.streaming.Served.{Served}
 use Rattle.law_keeper.specs.Keepers.{Holding, IsHolding, IsSettled}
 use Rattle.law_keeper.specs.declared.readiness.Readiness.{Readiness}
 use Rattle.law_office.specs.Crashing.{IsFoundIn, crashes_are, crashes_of}
-use Rattle.law_office.specs.Offices.{Holds, HoldsBook, IsRight, OfficeState, Spells, desk_of, pending_of}
+use Rattle.law_office.specs.Offices.{Holds, HoldsBook, IsRight, OfficeState, Spells, desk_of, judging_in, pending_of}
 use Rattle.law_office.specs.Opening.{opened_of}
 use Rattle.law_office.specs.declared.book.Book.{Book}
 use Rattle.law_office.specs.declared.book.Pending.{Pending}
@@ -51,6 +51,7 @@ module _ {S W K C : Type 0} (left : S → Option (List ℕ)) (written : W → Op
   pub serves_over : (source source_new : S) (sink sink_new : W) (keeper_new : K) (clock_new : C) (steps later : ℕ) (served : Served)
       (closed : OfficeState K C)
       → IsStreamed (desk_of keeper_faults days) (λ (o : OfficeState K C). crashes_of (holding o.keeper)) (λ (o : OfficeState K C). o.past)
+      (λ (o : OfficeState K C). judging_in o)
       (left source) (left source_new) (written sink) (written sink_new) office closed steps later served
       → keeper_new ≡ closed.keeper → clock_new ≡ closed.clock
       → ((holding keeper_new).tells → Spells closed.entries closed.pending (holding keeper_new).list)

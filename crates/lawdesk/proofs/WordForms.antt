@@ -16,7 +16,8 @@ use Rattle.lawdesk.specs.ReportJobs.{correspondence_on, work_named}
 use Rattle.lawdesk.specs.declared.amiss.Amiss.{Amiss}
 use Rattle.lawdesk.specs.declared.job.Job.{Job}
 use Rattle.lawdesk.specs.declared.job.Job.TheVariants.{Export, Report, Serve, Text}
-use Rattle.lawdesk.specs.declared.report_job.ReportJob.TheVariants.{Lifecycle, Unapplied}
+use Rattle.lawdesk.specs.declared.report_job.ReportJob.{ReportJob}
+use Rattle.lawdesk.specs.declared.report_job.ReportJob.TheVariants.{Dangling, Lifecycle, Unapplied}
 
 -- none of the words is wrong
 abbrev pub fits : Option Amiss → Bool
@@ -122,10 +123,10 @@ of_work : (work : Option (List ℕ)) (a : Amiss)
 of_work None a = refl
 of_work (Some work) a = refl
 
-of_day : (day : Option ℕ) (a : Amiss)
-    → is_some (option_map (λ job. Report job) (option_map (λ d. Unapplied d) day)) ≡ fits (cond (is_some day) None (Some a))
-of_day None a = refl
-of_day (Some day) a = refl
+of_day : (table : ℕ → ReportJob) (day : Option ℕ) (a : Amiss)
+    → is_some (option_map (λ job. Report job) (option_map table day)) ≡ fits (cond (is_some day) None (Some a))
+of_day table None a = refl
+of_day table (Some day) a = refl
 
 of_both : (work : Option (List ℕ)) (first second : Option ℕ) (a b c : Amiss)
     → is_some (option_map (λ job. Report job)
@@ -153,10 +154,18 @@ lifecycle_fits (work ∷ more ∷ others ∷ other ∷ words) = one_more (is_som
 unapplied_fits : (words : List (List ℕ))
     → is_some (job_of (codes "report" ∷ codes "unapplied" ∷ words)) ≡ fits (amiss (codes "report" ∷ codes "unapplied" ∷ words))
 unapplied_fits [] = refl
-unapplied_fits (day ∷ []) = of_day (day_of day) _
+unapplied_fits (day ∷ []) = of_day (λ d. Unapplied d) (day_of day) _
 unapplied_fits (day ∷ more ∷ []) = one_more (is_some (day_of day)) _ _
 unapplied_fits (day ∷ more ∷ others ∷ []) = one_more (is_some (day_of day)) _ _
 unapplied_fits (day ∷ more ∷ others ∷ other ∷ words) = one_more (is_some (day_of day)) _ _
+
+dangling_fits : (words : List (List ℕ))
+    → is_some (job_of (codes "report" ∷ codes "dangling" ∷ words)) ≡ fits (amiss (codes "report" ∷ codes "dangling" ∷ words))
+dangling_fits [] = refl
+dangling_fits (day ∷ []) = of_day (λ d. Dangling d) (day_of day) _
+dangling_fits (day ∷ more ∷ []) = one_more (is_some (day_of day)) _ _
+dangling_fits (day ∷ more ∷ others ∷ []) = one_more (is_some (day_of day)) _ _
+dangling_fits (day ∷ more ∷ others ∷ other ∷ words) = one_more (is_some (day_of day)) _ _
 
 correspondence_fits : (words : List (List ℕ)) → is_some (job_of (codes "report" ∷ codes "correspondence" ∷ words))
     ≡ fits (amiss (codes "report" ∷ codes "correspondence" ∷ words))
@@ -169,30 +178,34 @@ correspondence_fits (work ∷ first ∷ second ∷ more ∷ words) =
 
 -- a table of another name
 no_table : (name : List ℕ) (words : List (List ℕ)) → bytes_eq name (codes "lifecycle") ≡ false
-    → bytes_eq name (codes "correspondence") ≡ false → bytes_eq name (codes "unapplied") ≡ false
+    → bytes_eq name (codes "correspondence") ≡ false → bytes_eq name (codes "unapplied") ≡ false → bytes_eq name (codes "dangling") ≡ false
     → is_some (job_of (codes "report" ∷ name ∷ words)) ≡ fits (amiss (codes "report" ∷ name ∷ words))
-no_table name [] first second third = rw (first, second, third) refl
-no_table name (word ∷ []) first second third = rw (first, second, third) refl
-no_table name (word ∷ other ∷ []) first second third = rw (first, second, third) refl
-no_table name (word ∷ other ∷ more ∷ []) first second third = rw (first, second, third) refl
-no_table name (word ∷ other ∷ more ∷ others ∷ words) first second third = rw (first, second, third) refl
+no_table name [] first second third fourth = rw (first, second, third, fourth) refl
+no_table name (word ∷ []) first second third fourth = rw (first, second, third, fourth) refl
+no_table name (word ∷ other ∷ []) first second third fourth = rw (first, second, third, fourth) refl
+no_table name (word ∷ other ∷ more ∷ []) first second third fourth = rw (first, second, third, fourth) refl
+no_table name (word ∷ other ∷ more ∷ others ∷ words) first second third fourth = rw (first, second, third, fourth) refl
 
 -- these words are a form exactly where none is wrong
 abbrev IsTold : List (List ℕ) → Type 0
 IsTold words = is_some (job_of words) ≡ fits (amiss words)
 
 -- what holds of each table, and of a name that is none, holds of a name
-pub by_table : (P : List ℕ → Type 0) → P (codes "lifecycle") → P (codes "correspondence") → P (codes "unapplied") → (name : List ℕ)
+pub by_table : (P : List ℕ → Type 0) → P (codes "lifecycle") → P (codes "correspondence") → P (codes "unapplied") → P (codes "dangling")
+    → (name : List ℕ)
     → (bytes_eq name (codes "lifecycle") ≡ false → bytes_eq name (codes "correspondence") ≡ false
-    → bytes_eq name (codes "unapplied") ≡ false → P name)
+    → bytes_eq name (codes "unapplied") ≡ false → bytes_eq name (codes "dangling") ≡ false → P name)
     → P name
-by_table P lifecycle correspondence unapplied name none = elim (either_way (bytes_eq name (codes "lifecycle"))) [
+by_table P lifecycle correspondence unapplied dangling name none = elim (either_way (bytes_eq name (codes "lifecycle"))) [
   | inl is ↦ subst P (sym (bytes_same name (codes "lifecycle") is)) lifecycle
   | inr first ↦ elim (either_way (bytes_eq name (codes "correspondence"))) [
     | inl is ↦ subst P (sym (bytes_same name (codes "correspondence") is)) correspondence
     | inr second ↦ elim (either_way (bytes_eq name (codes "unapplied"))) [
       | inl is ↦ subst P (sym (bytes_same name (codes "unapplied") is)) unapplied
-      | inr third ↦ none first second third
+      | inr third ↦ elim (either_way (bytes_eq name (codes "dangling"))) [
+        | inl is ↦ subst P (sym (bytes_same name (codes "dangling") is)) dangling
+        | inr fourth ↦ none first second third fourth
+      ]
     ]
   ]
 ]
@@ -201,7 +214,7 @@ report_fits : (words : List (List ℕ)) → IsTold (codes "report" ∷ words)
 report_fits [] = refl
 report_fits (name ∷ words) =
     by_table (λ n. IsTold (codes "report" ∷ n ∷ words)) (lifecycle_fits words) (correspondence_fits words) (unapplied_fits words)
-    name (no_table name words)
+    (dangling_fits words) name (no_table name words)
 
 -- ---- all words
 

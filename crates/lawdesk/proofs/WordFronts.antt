@@ -247,14 +247,22 @@ unapplied_first words found is =
     (two_before found.index inner.behind inner.index_is) inner.more
     inner.front (λ less others. inner.wrong (two_less inner.behind words less) others)
 
+dangling_first : (words : List (List ℕ)) → Firsts (codes "report" ∷ codes "dangling" ∷ words)
+unfolding AreShown day_of pair_of day_on number_of
+dangling_first words found is =
+    let inner : IsAt 2 (Day ∷ []) words found = at 2 (Day ∷ []) words found refl is in
+    first (codes "report" ∷ codes "dangling" ∷ words) found (suc (suc inner.behind))
+    (two_before found.index inner.behind inner.index_is) inner.more
+    inner.front (λ less others. inner.wrong (two_less inner.behind words less) others)
+
 -- a table that is missing, or is none
 no_table_first : (name : List ℕ) (words : List (List ℕ)) → bytes_eq name (codes "lifecycle") ≡ false
-    → bytes_eq name (codes "correspondence") ≡ false → bytes_eq name (codes "unapplied") ≡ false
+    → bytes_eq name (codes "correspondence") ≡ false → bytes_eq name (codes "unapplied") ≡ false → bytes_eq name (codes "dangling") ≡ false
     → Firsts (codes "report" ∷ name ∷ words)
 unfolding day_of pair_of day_on number_of
-no_table_first name words one two three found is =
+no_table_first name words one two three four found is =
     let none : (others : List (List ℕ)) → amiss (codes "report" ∷ name ∷ others) ≡ Some (record { index = 1; wanted = Table }) =
-    λ others. rw (one, two, three) refl in
+    λ others. rw (one, two, three, four) refl in
     let same : Some (record { index = 1; wanted = Table }) ≡ Some found = sym (none words) ∙ is in
     first (codes "report" ∷ name ∷ words) found 1 (missing false (record { index = 1; wanted = Table }) found same)
     (codes "unapplied" ∷ codes "2011-01-01" ∷ []) refl (λ less others. none others ∙ same)
@@ -266,7 +274,7 @@ report_first [] found is =
     (codes "unapplied" ∷ codes "2011-01-01" ∷ []) refl (λ less others. absurd (omega (arith, less)))
 report_first (name ∷ words) found is =
     by_table (λ n. Firsts (codes "report" ∷ n ∷ words)) (lifecycle_first words) (correspondence_first words) (unapplied_first words)
-    name (no_table_first name words) found is
+    (dangling_first words) name (no_table_first name words) found is
 
 no_command_first : (word : List ℕ) (words : List (List ℕ)) → IsOther word → Firsts (word ∷ words)
 no_command_first word words o found is =

@@ -22,7 +22,8 @@ is_command word =
 
 abbrev pub is_table : List ℕ → Bool
 is_table name =
-    bytes_eq name (codes "lifecycle") || (bytes_eq name (codes "correspondence") || bytes_eq name (codes "unapplied"))
+    bytes_eq name (codes "lifecycle") || (bytes_eq name (codes "correspondence") || (bytes_eq name (codes "unapplied")
+    || bytes_eq name (codes "dangling")))
 
 -- a word is what is wanted
 abbrev pub is_wanted : Wanted → List ℕ → Bool

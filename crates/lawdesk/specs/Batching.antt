@@ -9,8 +9,9 @@ use Rattle.law_http.specs.declared.streaming.StreamEnd.{StreamEnd}
 use Rattle.law_http.specs.declared.streaming.StreamEnd.TheVariants as ends
 use Rattle.law_keeper.specs.Keepers.{Holding, Keeps, LeavesOldOrSame}
 use Rattle.law_office.specs.Crashing.{crashes_of}
-use Rattle.law_office.specs.Offices.{OfficeState, Spells, desk_of}
+use Rattle.law_office.specs.Offices.{OfficeState, Spells, desk_of, judging_in}
 use Rattle.law_office.specs.Opening.{HasRefusalCause, Refuses, StaysUnlessFailed, TakesRefused, opened_of}
+use Rattle.law_refs.specs.Handing.{judged_at_opening}
 use Rattle.law_register.specs.Answer.Renewing.{opening_cost}
 use Rattle.law_register.specs.Desk.States.{IsFoundOf}
 use Rattle.law_register.specs.declared.desk.damage.Damage.{Damage}
@@ -73,7 +74,7 @@ pub record ServesOver {S W K C : Type 0} (left : S → Option (List ℕ)) (writt
   pub is_new : IsNewOffice keeper clock entries office
   -- what was heard of all that the source had left, how each request was answered, and what was written; where a read
   -- of the source failed, what it has left stands behind what was heard
-  pub streamed : IsStreamed (desk_of keeper_faults days) (λ o. crashes_of (holding o.keeper)) (λ o. o.past)
+  pub streamed : IsStreamed (desk_of keeper_faults days) (λ o. crashes_of (holding o.keeper)) (λ o. o.past) (λ o. judging_in o)
       (left source) (left source_new) (written sink) (written sink_new) office closed steps later served
   -- the keeper and the clock are left as the stream left them: neither was asked for more
   pub kept : keeper_new ≡ closed.keeper
@@ -120,9 +121,9 @@ module _ {S W K C : Type 0} (left : S → Option (List ℕ)) (read_faults : S �
     pub same : Keeps (holding keeper) (holding opened)
     pub faults : keeper_faults opened ≡ keeper_faults keeper
     -- how many steps were taken when the stream began: one at most for each id that is applied to make what is kept of the
-    -- works
+    -- works, and for each reference that is judged
     pub begun : ℕ
-    pub making : begun ≤ steps + opening_cost entries
+    pub making : begun ≤ steps + (opening_cost entries + judged_at_opening entries)
     pub served : Served
     pub serves : ServesOver left written holding keeper_faults days
         source source_new sink sink_new opened keeper_new clock clock_new begun later entries served

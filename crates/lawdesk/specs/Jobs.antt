@@ -6,10 +6,10 @@ use Rattle.dossier_text.specs.Jobs.{text_named}
 use Rattle.law_register.specs.Answer.Questions.{reading_named}
 use Rattle.law_register.specs.declared.answer.question.Reading.{Reading}
 use Rattle.law_register.specs.declared.answer.question.Reading.TheVariants.{Force}
+use Rattle.desk_serving.specs.declared.serve_job.ServeJob.{ServeJob}
 use Rattle.lawdesk.specs.declared.job.Job.{Job}
 use Rattle.lawdesk.specs.declared.job.Job.TheVariants.{Text, Check, Batch, Report, Generate, Export, Follow, Serve}
 use Rattle.lawdesk.specs.ReportJobs.{report_job}
-use Rattle.lawdesk.specs.declared.serving.serve_job.ServeJob.{ServeJob}
 
 -- the job of the text on the day that a word names in a reading, if both were named
 abbrev pub text_job : List ℕ → Option Reading → Option Job

@@ -16,5 +16,3 @@ pub mod Telling
 pub mod Exporting
 pub mod Following
 pub mod Serving
-pub mod ServingGates
-pub mod ServingWork

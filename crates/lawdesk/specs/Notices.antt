@@ -43,7 +43,7 @@ shown word index = if is_plain word then word else place_name index
 -- what is wanted, in words
 abbrev pub wanted_text : Wanted → List ℕ
 wanted_text Command = codes "a command"
-wanted_text Table = codes "a table, lifecycle, correspondence or unapplied"
+wanted_text Table = codes "a table, lifecycle, correspondence, unapplied or dangling"
 wanted_text Day = codes "a day, as 2011-01-01"
 wanted_text Reading = codes "a reading, force or efficacy"
 wanted_text Work = codes "the IRI of an act, as /akn/gb/act/2010-05-01/7"

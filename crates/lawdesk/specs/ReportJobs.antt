@@ -6,7 +6,7 @@ use Rattle.desk_base.specs.Days.{day_of}
 use Rattle.frbr_names.specs.Works.{Work, work_of}
 use Rattle.frbr_names.specs.declared.fault.NameFault.{NameFault}
 use Rattle.lawdesk.specs.declared.report_job.ReportJob.{ReportJob}
-use Rattle.lawdesk.specs.declared.report_job.ReportJob.TheVariants.{Lifecycle, Correspondence, Unapplied}
+use Rattle.lawdesk.specs.declared.report_job.ReportJob.TheVariants.{Lifecycle, Correspondence, Unapplied, Dangling}
 
 -- the work of an IRI that was read, if it was
 abbrev pub work_read : Result Work NameFault → Option (List ℕ)
@@ -35,18 +35,23 @@ correspondence_job work first second =
 abbrev pub unapplied_job : List ℕ → Option ReportJob
 unapplied_job day = option_map (λ d. Unapplied d) (day_of day)
 
+-- which references dangle on a day
+abbrev pub dangling_job : List ℕ → Option ReportJob
+dangling_job day = option_map (λ d. Dangling d) (day_of day)
+
 -- the table of two words
 abbrev pub short_job : List ℕ → List ℕ → Option ReportJob
 short_job name word =
     if bytes_eq name (codes "lifecycle") then lifecycle_job word
-    else if bytes_eq name (codes "unapplied") then unapplied_job word else None
+    else if bytes_eq name (codes "unapplied") then unapplied_job word
+    else if bytes_eq name (codes "dangling") then dangling_job word else None
 
 -- the table of four words
 abbrev pub long_job : List ℕ → List ℕ → List ℕ → List ℕ → Option ReportJob
 long_job name work first second =
     if bytes_eq name (codes "correspondence") then correspondence_job work first second else None
 
--- `lifecycle WORK`, `correspondence WORK DATE DATE` and `unapplied DATE` ask for a table, and no other words
+-- `lifecycle WORK`, `correspondence WORK DATE DATE`, `unapplied DATE` and `dangling DATE` ask for a table, and no other words
 abbrev pub report_job : List (List ℕ) → Option ReportJob
 report_job (name ∷ word ∷ []) = short_job name word
 report_job (name ∷ work ∷ first ∷ second ∷ []) = long_job name work first second

@@ -2,12 +2,12 @@
 use Rattle.std.specs.Prelude.{ℕ, ◌≡◌, ◌⊎◌, ◌↔◌, List, Option, Some, None, unwrap_or}
 use Rattle.desk_gates.specs.Tallies.{Tally}
 use Rattle.law_keeper.specs.Keepers.{Holding}
+use Rattle.desk_serving.specs.declared.serve_job.ServeJob.{ServeJob}
 use Rattle.lawdesk.specs.Jobs.{job_of, serving_of}
 use Rattle.lawdesk.specs.Moving.{IsMoveStatus, for_other}
 use Rattle.lawdesk.specs.Running.{Ran}
 use Rattle.lawdesk.specs.Serving.{RanServe}
 use Rattle.lawdesk.specs.Statuses.{IsStatus}
-use Rattle.lawdesk.specs.declared.serving.serve_job.ServeJob.{ServeJob}
 
 -- the statuses of a run over one register, and those of a move
 abbrev pub IsStatusOfTwo : ℕ → Type 0

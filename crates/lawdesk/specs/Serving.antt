@@ -15,9 +15,9 @@ use Rattle.law_register.specs.Register.Verdicts.{is_legal}
 use Rattle.law_register.specs.declared.desk.event.Event.TheVariants.{Entered}
 use Rattle.law_register.specs.declared.desk.open_fault.OpenFault.{OpenFault}
 use Rattle.law_register.specs.declared.register.entry.Entry.{Entry}
+use Rattle.desk_serving.specs.Gates.{AskInAll, SomeGateRose, WereGatesServed}
 use Rattle.lawdesk.specs.Batching.{TellsRefusal}
 use Rattle.lawdesk.specs.Outliving.{BeginWith}
-use Rattle.lawdesk.specs.ServingGates.{AskInAll, SomeGateRose, WereGatesServed}
 
 -- the statuses of `serve`: 0 each gate gave as many connections as it was to give, 4 the sink failed, 5 the keeper failed
 -- when it was opened, or some mark says that it did, 6 what is kept is damaged, 7 for want of memory, 8 a gate failed

@@ -1,5 +1,5 @@
 -- What a run of `report` leaves: a table of what the register that a keeper keeps knows, or what keeps it from being made.
-use Rattle.std.specs.Prelude.{ℕ, ◌≡◌, ◌≢◌, List, Option, Result, Ok, Err, ◌⊎◌}
+use Rattle.std.specs.Prelude.{ℕ, ◌≡◌, ◌≢◌, Bool, true, false, List, Option, Result, Ok, Err, ◌⊎◌}
 use Rattle.desk_base.specs.Streams.{AppendsFront, risen}
 use Rattle.akn_json.specs.Printing.Refusals.{query_data}
 use Rattle.law_journal.specs.Grammar.{Listing}
@@ -11,6 +11,7 @@ use Rattle.law_register.specs.declared.desk.open_fault.OpenFault.{OpenFault}
 use Rattle.law_register.specs.declared.desk.open_fault.OpenFault.TheVariants as fails
 use Rattle.law_register.specs.declared.register.entry.Entry.{Entry}
 use Rattle.law_reports.specs.Correspondences.{correspondence}
+use Rattle.law_reports.specs.Dangling.{IsDanglingTable}
 use Rattle.law_reports.specs.Lifecycles.{lifecycle}
 use Rattle.law_reports.specs.Unapplied.{IsUnapplied}
 use Rattle.lawdesk.specs.Checking.{told_damage}
@@ -18,7 +19,7 @@ use Rattle.dossier_text.specs.Reports.{Told, line_of}
 use Rattle.dossier_text.specs.Runs.{IsWritten}
 use Rattle.dossier_text.specs.declared.report.Report.{Report}
 use Rattle.lawdesk.specs.declared.report_job.ReportJob.{ReportJob}
-use Rattle.lawdesk.specs.declared.report_job.ReportJob.TheVariants.{Lifecycle, Correspondence, Unapplied}
+use Rattle.lawdesk.specs.declared.report_job.ReportJob.TheVariants.{Lifecycle, Correspondence, Unapplied, Dangling}
 
 -- a table is told, and one that a rule refuses is refused with it
 abbrev pub told_table : Result (List ℕ) QueryRule → Told
@@ -30,6 +31,12 @@ abbrev pub IsReport : ReportJob → List Entry → Told → Type 0
 IsReport (Lifecycle work) entries told = told ≡ told_table (lifecycle entries work)
 IsReport (Correspondence work first second) entries told = told ≡ told_table (correspondence entries work first second)
 IsReport (Unapplied day) entries told = (told.status ≡ 0) × IsUnapplied entries day told.bytes
+IsReport (Dangling day) entries told = (told.status ≡ 0) × IsDanglingTable entries day told.bytes
+
+-- a job asks for what the register says by itself, without what an office keeps of it
+abbrev pub asks_register : ReportJob → Bool
+asks_register (Dangling day) = false
+asks_register job = true
 
 -- this is told where these entries were opened, or damage was found
 abbrev pub IsReportOf : ReportJob → Result (List Entry) Damage → Told → Type 0

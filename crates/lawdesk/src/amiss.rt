@@ -67,7 +67,7 @@ const CORRESPONDENCE: &[Wanted] = &[
     Wanted::Day,
 ];
 
-const UNAPPLIED: &[Wanted] = &[Wanted::Command, Wanted::Table, Wanted::Day];
+const OF_DAY: &[Wanted] = &[Wanted::Command, Wanted::Table, Wanted::Day];
 
 // Whether a word is the name of a command.
 fn is_command(word: &str) -> bool
@@ -87,7 +87,7 @@ fn is_later(word: &str) -> bool
 fn is_table(name: &str) -> bool
     ensures { result ≡ spec.is_table name.now }
 {
-    name == "lifecycle" || name == "correspondence" || name == "unapplied"
+    name == "lifecycle" || name == "correspondence" || name == "unapplied" || name == "dangling"
 }
 
 // Whether a word is what is wanted.
@@ -119,7 +119,7 @@ fn wants_of_table(name: &str) -> &'static [Wanted]
     if name == "correspondence" {
         return CORRESPONDENCE;
     }
-    UNAPPLIED
+    OF_DAY
 }
 
 // What is wanted of the words behind this one, which there is.

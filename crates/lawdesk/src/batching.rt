@@ -74,7 +74,7 @@ fn serve_desk<S: Source, W: Sink, D: Desk, L: Ledger>(
     desk: &mut D,
     steps: &mut Steps<L>,
 ) -> Served
-    ensures served { IsStreamed D.state D.crashes D.past (S.left source.old) (S.left source.new)
+    ensures served { IsStreamed D.state D.crashes D.past D.judging (S.left source.old) (S.left source.new)
         (W.written sink.old) (W.written sink.new) desk.old desk.new steps.old steps.new result }
     ensures reads { HasReadCause result.end (S.faults source.old) (S.faults source.new) }
     ensures writes { HasWriteCause result.end (W.faults sink.old) (W.faults sink.new) }

@@ -7,10 +7,10 @@ ghost use Rattle.lawdesk.specs.ReportJobs.{report_job};
 ghost use Rattle.lawdesk.specs.declared.job.Job.TheVariants as jobs;
 
 use crate::report_job::ReportJob;
-use crate::serving::serve_job::ServeJob;
 use crate::taking::{has_dash, take_words};
 use clap::ArgMatches;
 use desk_base::{Memory, decimal_number};
+use desk_serving::ServeJob;
 use dossier_text::TextJob;
 use law_register::Reading;
 use std::alloc::Global;

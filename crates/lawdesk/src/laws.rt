@@ -116,6 +116,8 @@ pub fn usage_is_this()
         ++ codes "which of another" ++ 10 ∷
         codes "  report unapplied DATE                 a table of what could not be applied on "
         ++ codes "that day, and why" ++ 10 ∷
+        codes "  report dangling DATE                  a table of which references dangle on that "
+        ++ codes "day, and why" ++ 10 ∷
         codes "  generate SEED COUNT                   makes a register in memory, and tells what "
         ++ codes "became of its commands" ++ 10 ∷
         codes "  export FROM                           the entries of the register that stand "

@@ -124,7 +124,7 @@ fn wanted_text(wanted: Wanted) -> &'static str
 {
     match wanted {
         Wanted::Command => "a command",
-        Wanted::Table => "a table, lifecycle, correspondence or unapplied",
+        Wanted::Table => "a table, lifecycle, correspondence, unapplied or dangling",
         Wanted::Day => "a day, as 2011-01-01",
         Wanted::Reading => "a reading, force or efficacy",
         Wanted::Work => "the IRI of an act, as /akn/gb/act/2010-05-01/7",

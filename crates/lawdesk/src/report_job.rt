@@ -30,6 +30,11 @@ pub enum ReportJob {
         /// The day.
         day: Day,
     },
+    /// Which references dangle on a day, of all works.
+    Dangling {
+        /// The day.
+        day: Day,
+    },
 }
 
 // The work that a word names.
@@ -85,6 +90,13 @@ fn unapplied_job(day: &str) -> Option<ReportJob>
     Some(ReportJob::Unapplied { day })
 }
 
+fn dangling_job(day: &str) -> Option<ReportJob>
+    ensures { result ≡ spec.dangling_job day.now }
+{
+    let day = Day::from_text(day)?;
+    Some(ReportJob::Dangling { day })
+}
+
 // The table that two words behind `report` ask for.
 fn short_job(alloc: Global, name: &str, word: &str) -> Result<Option<ReportJob>, Memory>
     ensures job { IfOk result (λ job. job ≡ spec.short_job name.now word.now) }
@@ -95,6 +107,9 @@ fn short_job(alloc: Global, name: &str, word: &str) -> Result<Option<ReportJob>,
     }
     if name == "unapplied" {
         return Ok(unapplied_job(word));
+    }
+    if name == "dangling" {
+        return Ok(dangling_job(word));
     }
     Ok(None)
 }

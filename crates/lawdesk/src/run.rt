@@ -2,12 +2,12 @@
 
 ghost use Rattle.std.specs.Prelude.{◌≡◌, ◌↔◌, ℕ, None, Some, length, map, string_bytes};
 ghost use Rattle.std.specs.List.{AllByRecursion};
+ghost use Rattle.desk_serving.specs.Work.{IsSettled};
+ghost use Rattle.desk_serving.specs.declared.serve_job.ServeJob.{ServeJob};
 ghost use Rattle.lawdesk.specs.Jobs.{job_of, serving_of, serving_part};
 ghost use Rattle.lawdesk.specs.Running.{Did, Ran};
 ghost use Rattle.lawdesk.specs.Serving.{RanServe};
-ghost use Rattle.lawdesk.specs.ServingWork.{IsSettled};
 ghost use Rattle.lawdesk.specs.Statuses.{IsStatus};
-ghost use Rattle.lawdesk.specs.declared.serving.serve_job.ServeJob.{ServeJob};
 
 use crate::batching::batch;
 use crate::checking::check;

@@ -2,10 +2,10 @@
 
 ghost use Rattle.std.specs.Prelude.{◌≡◌, ◌↔◌, ℕ, None, Some, false, length, map, option_map, string_bytes, IsTrue, List};
 ghost use Rattle.std.specs.List.{AllByRecursion};
+ghost use Rattle.desk_serving.specs.Work.{IsSettled};
 ghost use Rattle.lawdesk.specs.Jobs.{job_of};
 ghost use Rattle.lawdesk.specs.Moving.{RanMove, for_other, is_move};
 ghost use Rattle.lawdesk.specs.RunningTwo.{IsStatusOfTwo, RanOver, behind};
-ghost use Rattle.lawdesk.specs.ServingWork.{IsSettled};
 
 use crate::moving::move_register;
 use crate::run::run;

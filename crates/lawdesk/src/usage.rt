@@ -15,6 +15,7 @@ Commands:
   report lifecycle WORK                 a table of what happened to an act
   report correspondence WORK DATE DATE  a table of which provision of one day is which of another
   report unapplied DATE                 a table of what could not be applied on that day, and why
+  report dangling DATE                  a table of which references dangle on that day, and why
   generate SEED COUNT                   makes a register in memory, and tells what became of its commands
   export FROM                           the entries of the register that stand above a number, as frames
   follow                                takes the frames on standard input into the register

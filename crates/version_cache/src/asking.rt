@@ -46,6 +46,13 @@ impl Table {
         self.reading
     }
 
+    /// Its rows, by ascending days. It takes no memory.
+    pub fn rows(&self) -> &[Row]
+        ensures { rows_view result.now ≡ (table_view self.now).rows }
+    {
+        self.rows.as_slice()
+    }
+
     /// How many rows have a day that is not after this one. It takes no memory.
     pub fn breakpoint(&self, day: Day) -> usize
         ensures { result ≡ length (rows_until day (table_view self.now).rows) }

@@ -19,3 +19,22 @@ pub struct Revision {
     ghost late: { list_all (λ day. nat_le touched day) (days_in rows.items) ≡ true },
     ghost room: { vec_len rows + kept ≤ vec_capacity rows },
 }
+
+impl Revision {
+    ghost use Rattle.version_cache.specs.Rows.{rows_view};
+    ghost use Rattle.version_cache.specs.Seen.{revision_view};
+
+    /// The day from which on the table is made anew.
+    pub fn touched(&self) -> Day
+        ensures { result ≡ (revision_view self.now).touched }
+    {
+        self.touched
+    }
+
+    /// The rows that it brings: those of the table from that day on. It takes no memory.
+    pub fn rows(&self) -> &[Row]
+        ensures { rows_view result.now ≡ (revision_view self.now).rows }
+    {
+        self.rows.as_slice()
+    }
+}

@@ -1,6 +1,9 @@
 //! WorkRevision: what is to be kept of a work in place of what is. A clause sees what is known now, and the revisions of both tables
 //! (`work_revision_view`).
 
+ghost use Rattle.std.specs.Prelude.{◌≡◌, option_map};
+ghost use Rattle.version_cache.specs.Seen.{revision_view, work_revision_view};
+
 use crate::Revision;
 use law_register::Known;
 
@@ -9,4 +12,24 @@ use law_register::Known;
 pub struct WorkRevision {
     pub(crate) known: Known,
     pub(crate) tables: Option<(Revision, Revision)>,
+}
+
+impl WorkRevision {
+    /// What is known now of the work.
+    pub fn known(&self) -> &Known
+        ensures { result.now ≡ (work_revision_view self.now).known }
+    {
+        &self.known
+    }
+
+    /// The revision of its table of force. `None`: no day is touched.
+    pub fn force(&self) -> Option<&Revision>
+        ensures { option_map (λ force. revision_view force.now) result
+            ≡ option_map (λ both. both.0) (work_revision_view self.now).tables }
+    {
+        match &self.tables {
+            Some((force, _)) => Some(force),
+            None => None,
+        }
+    }
 }

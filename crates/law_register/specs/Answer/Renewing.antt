@@ -1,4 +1,5 @@
--- What it costs to keep the versions of works up to date: one step at most for each id that is applied.
+-- What it costs to keep the versions of works up to date, and what is known of their references: one step at most for each id that is applied,
+-- and one for each reference that is judged.
 use Rattle.std.specs.Prelude.{ℕ, ◌+◌, List, [], ◌∷◌, ◌++◌, Option, Some, None}
 use Rattle.std.specs.List.{sum_by}
 use Rattle.law_register.specs.declared.answer.question.Reading.TheVariants.{Force, Efficacy}
@@ -39,6 +40,17 @@ cost_said entries e (Refused rule) = 0
 -- how many ids are applied at most for a command behind entries, given as an entry whose law number is not known yet
 unfoldable pub command_cost : List Entry → Entry → ℕ
 command_cost entries e = cost_said entries e (verdict entries e.drafter e.request e.command)
+
+-- how many references are judged anew by what is said of the entry, where so many are for an entry that stands behind others; none for one
+-- that is a repeat or is refused
+abbrev pub judging_said : (List Entry → Entry → ℕ) → List Entry → Entry → Verdict → ℕ
+judging_said judging entries e (Accepted law reply) = judging entries (record e { law = law })
+judging_said judging entries e (Repeat reply) = 0
+judging_said judging entries e (Refused rule) = 0
+
+-- how many references are judged anew at most for a command behind entries, given as an entry whose law number is not known yet
+unfoldable pub judging_cost : (List Entry → Entry → ℕ) → List Entry → Entry → ℕ
+judging_cost judging entries e = judging_said judging entries e (verdict entries e.drafter e.request e.command)
 
 -- how many ids are applied to make the versions of all works that entries enact, in both readings
 unfoldable pub opening_cost : List Entry → ℕ

@@ -12,7 +12,7 @@ use Rattle.law_register.specs.declared.register.entry.Entry.{Entry}
 use Rattle.law_register.specs.declared.register.rules.Rule.{Rule}
 use Rattle.law_register.specs.declared.register.verdict.Reply.{Reply}
 use Rattle.law_register.specs.declared.register.verdict.Verdict.TheVariants.{Accepted}
-use Rattle.law_register.specs.Answer.Renewing.{command_cost}
+use Rattle.law_register.specs.Answer.Renewing.{command_cost, judging_cost}
 use Rattle.law_register.specs.Desk.States.{DeskState, Found, IsFoundOf, Standing}
 use Rattle.law_register.specs.Register.Entering.{entered, entry_of}
 use Rattle.law_register.specs.Register.Verdicts.{verdict}
@@ -73,19 +73,25 @@ module _ (drafter : List ℕ) (request : ℕ) (command : Command) (old new : Sta
   Ends (Err fails.KeeperFault) = (Waits old new × IsSome old.pending) ⊎ IsPending
   Ends (Err fails.Memory) = Waits old new ⊎ IsIdle
 
+  -- the steps that a command may take whose entry stands behind these, where so many references are judged anew for an entry: one for each id
+  -- that is applied, and one for each of these references
+  abbrev pub acting_cost : (List Entry → Entry → ℕ) → List Entry → ℕ → ℕ
+  acting_cost judging settled day =
+      command_cost settled (entry_of drafter request day None command) + judging_cost judging settled (entry_of drafter request day None command)
+
   -- the steps that a command may take, by how it ended: none where it was refused, is a repeat, or was not judged
-  abbrev pub spending : (result : Result Reply CommandFault) → Ends result → ℕ
-  spending (Ok reply) replied = command_cost replied.settled (entry_of drafter request replied.day None command)
-  spending (Err (fails.Rule rule)) refused = 0
-  spending (Err fails.KeeperFault) (inl waited) = 0
-  spending (Err fails.KeeperFault) (inr left) = command_cost new.entries (entry_of drafter request left.day None command)
-  spending (Err fails.Memory) (inl waited) = 0
-  spending (Err fails.Memory) (inr idle) = command_cost new.entries (entry_of drafter request idle.day None command)
+  abbrev pub spending : (List Entry → Entry → ℕ) → (result : Result Reply CommandFault) → Ends result → ℕ
+  spending judging (Ok reply) replied = acting_cost judging replied.settled replied.day
+  spending judging (Err (fails.Rule rule)) refused = 0
+  spending judging (Err fails.KeeperFault) (inl waited) = 0
+  spending judging (Err fails.KeeperFault) (inr left) = acting_cost judging new.entries left.day
+  spending judging (Err fails.Memory) (inl waited) = 0
+  spending judging (Err fails.Memory) (inr idle) = acting_cost judging new.entries idle.day
 
   -- a command ends, and so many steps were taken before it, and after
-  pub record EndsWithin (before after : ℕ) (result : Result Reply CommandFault) : Type 0 where
+  pub record EndsWithin (judging : List Entry → Entry → ℕ) (before after : ℕ) (result : Result Reply CommandFault) : Type 0 where
     pub ends : Ends result
-    pub within : after ≤ before + spending result ends
+    pub within : after ≤ before + spending judging result ends
 
 -- a mark of a command that is answered when these entries stand
 abbrev pub mark_of : List ℕ → ℕ → List Entry → FaultMark

@@ -1,8 +1,8 @@
 //! Desk: who takes commands and answers questions. A clause sees its entries, the one that is pending, the marks of
 //! faults, its keeper's count of faults, the days that its clock tells, the names of what it was lent, what a crash leaves
-//! of it, and of which past viewpoints it keeps tables.
+//! of it, of which past viewpoints it keeps tables, and how many references it judges for an entry.
 
-ghost use Rattle.std.specs.Prelude.{◌≡◌, ◌+◌, ◌<◌, ◌≤◌, true, List, IfOk, IsSome};
+ghost use Rattle.std.specs.Prelude.{ℕ, ◌≡◌, ◌+◌, ◌<◌, ◌≤◌, true, List, IfOk, IsSome};
 ghost use Rattle.desk_base.specs.Crashes.{AreCrashes, Crashes};
 ghost use Rattle.law_register.specs.Answer.Answers.{Answers};
 ghost use Rattle.law_register.specs.Answer.Asking.{answer_at};
@@ -15,6 +15,7 @@ ghost use Rattle.law_register.specs.Law.Spelling.{is_well_spelled};
 ghost use Rattle.law_register.specs.Register.Drafts.{draft_of};
 ghost use Rattle.law_register.specs.Register.LawList.{front};
 ghost use Rattle.law_register.specs.declared.answer.past_key.PastKey.{PastKey};
+ghost use Rattle.law_register.specs.declared.register.entry.Entry.{Entry};
 
 use crate::{
     Answer, AskFault, Command, CommandFault, Draft, Drafter, Event, Question, Register, Reply,
@@ -36,11 +37,14 @@ pub trait Desk: Held<Item = Event> {
     /// The keys of the tables that it keeps of past viewpoints, the latest first.
     ghost past: { Self → List PastKey };
 
+    /// How many references it judges anew at most for an entry that comes to stand behind entries.
+    ghost judging: { Self → List Entry → Entry → ℕ };
+
     /// Does a well-spelled command of a drafter's request. First a pending entry is settled, then the clock is asked
     /// once for the day, then the command is judged: a repeat gets the first reply, and one that is accepted becomes
     /// an entry of that day, once the keeper has it. Where the keeper fails, the command leaves a mark. It takes one step
-    /// at most for each id that is applied to keep the versions of the works that its entry touches up to date, and none
-    /// where it is refused, is a repeat, or is not judged.
+    /// at most for each id that is applied to keep the versions of the works that its entry touches up to date, one for
+    /// each reference that is judged anew, and none where it is refused, is a repeat, or is not judged.
     fn command<L: Ledger>(
         &mut self,
         alloc: Global,
@@ -51,7 +55,7 @@ pub trait Desk: Held<Item = Event> {
     ) -> Result<Reply, CommandFault>
         requires { is_well_spelled command ≡ true }
         ensures outcome { EndsWithin drafter.now request command
-            (standing (state self.old)) (standing (state self.new)) steps.old steps.new result }
+            (standing (state self.old)) (standing (state self.new)) (judging self.old) steps.old steps.new result }
         ensures marks { (state self.new).marks ≡ marks_after (state self.old).marks
             (mark_of drafter.now request (state self.new).entries) result }
         ensures cause { HasCommandCause (state self.old).faults (state self.new).faults result }

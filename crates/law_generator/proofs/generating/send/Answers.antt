@@ -24,5 +24,5 @@ returns-clause-cause g c =
 pub returns-clause-steps : goal.returns-clause-steps
 returns-clause-steps g c =
     spent c.args.request c.args.command (standing (g.D.Desk.state c.args.desk.now)) (standing (g.D.Desk.state c.command-outcome.new.self))
-    c.requires.ready c.args.drafter.now c.command-outcome.result c.args.steps.now c.command-outcome.new.steps c.requires.drafter
+    c.requires.ready (g.D.Desk.judging c.args.desk.now) c.args.drafter.now c.command-outcome.result c.args.steps.now c.command-outcome.new.steps c.requires.drafter
     c.command-outcome.ensures.outcome.ends c.command-outcome.ensures.outcome.within

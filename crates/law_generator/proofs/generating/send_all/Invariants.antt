@@ -1,9 +1,9 @@
 -- So far the desk has the entries of the course, the draws have its state, no fault was counted, and no more steps were
 -- taken than its commands may.
-use Rattle.std.proofs.Common.{◌≡◌, ◌≤◌, ◌+◌}
+use Rattle.std.proofs.Common.{ℕ, ◌≡◌, ◌≤◌, ◌+◌}
 use Rattle.law_register.specs.Desk.States.{standing}
 use Rattle.law_generator.specs.Courses as spec
-use Rattle.law_generator.specs.Courses.{IsReady}
+use Rattle.law_generator.specs.Courses.{AreJudgedWithin, IsReady}
 use Rattle.law_generator.proofs.generating.send_all.Given as goal
 
 abbrev pub invariant-loop-done : goal.invariant-loop-done
@@ -12,6 +12,7 @@ invariant-loop-done g l = record {
   draws : l.draws.state ≡ (spec.course l.seed l.done).state;
   ready : IsReady (standing (g.D.Desk.state l.desk));
   counted : (g.D.Desk.state l.desk).faults ≡ (g.D.Desk.state l.initial.desk).faults;
-  stepped : l.steps ≤ l.initial.steps + spec.course_cost l.seed l.done;
+  stepped : (most : ℕ → ℕ) → AreJudgedWithin (λ d. (g.D.Desk.state d).entries) g.D.Desk.judging l.seed most
+      → l.steps ≤ l.initial.steps + spec.course_cost most l.seed l.done;
   within : l.done ≤ l.count;
 }

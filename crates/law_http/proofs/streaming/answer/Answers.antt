@@ -4,7 +4,7 @@ use Rattle.law_http.proofs.streaming.answer.Goals as goal
 
 pub returns-clause-served : goal.returns-clause-served
 returns-clause-served g c = λ left rest over first.
-    answered_by (ServesCounted g.D.Desk.state g.D.Desk.crashes g.D.Desk.past) left rest over _ _
+    answered_by (ServesCounted g.D.Desk.state g.D.Desk.crashes g.D.Desk.past g.D.Desk.judging) left rest over _ _
     (c.args.desk.now, c.args.steps.now) (c.respond_by-response.new.desk, c.respond_by-response.new.steps) _ _ _
     c.args.request.now c.respond_by-response.result _ _ first c.respond_by-response.ensures
     c.put_before-end.ensures.puts c.end_where.ensures c.is_fault-faulted.ensures

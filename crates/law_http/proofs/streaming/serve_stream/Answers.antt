@@ -9,9 +9,9 @@ use Rattle.law_http.proofs.streaming.serve_stream.Goals as goal
 pub returns-in-Some-clause-served : goal.returns-in-Some-clause-served
 returns-in-Some-clause-served g c =
     let left = g.K.Link.left in let written = g.K.Link.written in
-    streamed_of g.D.Desk.state g.D.Desk.crashes g.D.Desk.past (left c.args.link.now) (left c.serve_member-member.new.link) (written c.args.link.now) (written c.serve_member-member.new.link)
+    streamed_of g.D.Desk.state g.D.Desk.crashes g.D.Desk.past g.D.Desk.judging (left c.args.link.now) (left c.serve_member-member.new.link) (written c.args.link.now) (written c.serve_member-member.new.link)
     c.args.desk.now c.serve_member-member.new.desk c.args.steps.now c.serve_member-member.new.steps _
-    (served_in_the_end (ServesCounted g.D.Desk.state g.D.Desk.crashes g.D.Desk.past) (left c.args.link.now) (prepend_known c.members.rest (left c.members.link)) (prepend_known c.serve_member-member.new.rest (left c.serve_member-member.new.link)) (left c.serve_member-member.new.link)
+    (served_in_the_end (ServesCounted g.D.Desk.state g.D.Desk.crashes g.D.Desk.past g.D.Desk.judging) (left c.args.link.now) (prepend_known c.members.rest (left c.members.link)) (prepend_known c.serve_member-member.new.rest (left c.serve_member-member.new.link)) (left c.serve_member-member.new.link)
     (written c.args.link.now) (written c.members.link) (written c.serve_member-member.new.link) (c.args.desk.now, c.args.steps.now) (c.members.desk, c.members.steps) (c.serve_member-member.new.desk, c.serve_member-member.new.steps)
     c.members.faulted c.serve_member-member.result.faulted c.either-faulted.result c.serve_member-member.result.end c.in-Some.end
     c.members.invariant.goes_on c.serve_member-member.ensures.served c.in-Some.is c.either-faulted.ensures)
@@ -19,9 +19,9 @@ returns-in-Some-clause-served g c =
 pub returns-in-Some-clause-desk_origin : goal.returns-in-Some-clause-desk_origin
 returns-in-Some-clause-desk_origin g c =
     let left = g.K.Link.left in let written = g.K.Link.written in
-    origin_in_the_end g.D.Desk.state g.D.Desk.crashes g.D.Desk.past (left c.args.link.now) (left c.serve_member-member.new.link) (written c.args.link.now) (written c.serve_member-member.new.link)
+    origin_in_the_end g.D.Desk.state g.D.Desk.crashes g.D.Desk.past g.D.Desk.judging (left c.args.link.now) (left c.serve_member-member.new.link) (written c.args.link.now) (written c.serve_member-member.new.link)
     c.args.desk.now c.serve_member-member.new.desk c.args.steps.now c.serve_member-member.new.steps _
-    (served_in_the_end (ServesCounted g.D.Desk.state g.D.Desk.crashes g.D.Desk.past) (left c.args.link.now) (prepend_known c.members.rest (left c.members.link)) (prepend_known c.serve_member-member.new.rest (left c.serve_member-member.new.link)) (left c.serve_member-member.new.link)
+    (served_in_the_end (ServesCounted g.D.Desk.state g.D.Desk.crashes g.D.Desk.past g.D.Desk.judging) (left c.args.link.now) (prepend_known c.members.rest (left c.members.link)) (prepend_known c.serve_member-member.new.rest (left c.serve_member-member.new.link)) (left c.serve_member-member.new.link)
     (written c.args.link.now) (written c.members.link) (written c.serve_member-member.new.link) (c.args.desk.now, c.args.steps.now) (c.members.desk, c.members.steps) (c.serve_member-member.new.desk, c.serve_member-member.new.steps)
     c.members.faulted c.serve_member-member.result.faulted c.either-faulted.result c.serve_member-member.result.end c.in-Some.end
     c.members.invariant.goes_on c.serve_member-member.ensures.served c.in-Some.is c.either-faulted.ensures)
@@ -30,7 +30,7 @@ pub members-preserved : goal.members-preserved
 members-preserved g c =
     let left = g.K.Link.left in let written = g.K.Link.written in record {
       goes_on =
-          goes_on_served (ServesCounted g.D.Desk.state g.D.Desk.crashes g.D.Desk.past) (left c.args.link.now) (prepend_known c.members.rest (left c.members.link)) (prepend_known c.serve_member-member.new.rest (left c.serve_member-member.new.link)) (left c.serve_member-member.new.link)
+          goes_on_served (ServesCounted g.D.Desk.state g.D.Desk.crashes g.D.Desk.past g.D.Desk.judging) (left c.args.link.now) (prepend_known c.members.rest (left c.members.link)) (prepend_known c.serve_member-member.new.rest (left c.serve_member-member.new.link)) (left c.serve_member-member.new.link)
           (written c.args.link.now) (written c.members.link) (written c.serve_member-member.new.link) (c.args.desk.now, c.args.steps.now) (c.members.desk, c.members.steps) (c.serve_member-member.new.desk, c.serve_member-member.new.steps)
           c.members.faulted c.serve_member-member.result.faulted c.either-faulted.result c.serve_member-member.result.end
           c.members.invariant.goes_on c.serve_member-member.ensures.served c.in-None.is c.either-faulted.ensures;

@@ -6,7 +6,7 @@ use Rattle.law_http.proofs.streaming.serve_stream.Given as goal
 
 abbrev pub invariant-members : goal.invariant-members
 invariant-members g l = record {
-  goes_on : GoesOn (ServesCounted g.D.Desk.state g.D.Desk.crashes g.D.Desk.past) (g.K.Link.left l.fn.link) (prepend_known l.rest (g.K.Link.left l.link))
+  goes_on : GoesOn (ServesCounted g.D.Desk.state g.D.Desk.crashes g.D.Desk.past g.D.Desk.judging) (g.K.Link.left l.fn.link) (prepend_known l.rest (g.K.Link.left l.link))
       (g.K.Link.written l.fn.link) (g.K.Link.written l.link) (l.fn.desk, l.fn.steps) (l.desk, l.steps) l.faulted;
   room : length l.rest + g.K.Link.room l.link ≤ g.K.Link.room l.fn.link;
   reads : g.K.Link.read_faults l.link ≡ g.K.Link.read_faults l.fn.link;

@@ -1,4 +1,4 @@
-use Rattle.std.proofs.Common.{◌≡◌, ◌∙◌, ◌++◌, ◌∷◌, [], sym, ap, subst, arith, ℕ, List, Option, Some}
+use Rattle.std.proofs.Common.{◌≡◌, ◌∙◌, ◌++◌, ◌∷◌, [], sym, ap, ap₂, subst, arith, ℕ, List, Option, Some}
 use Rattle.law_register.specs.declared.register.known.Known.{Known}
 use Rattle.law_register.specs.Answer.Renewing.{both_costs}
 use Rattle.law_register.specs.Answer.Touched.{touched_days, work_entered}
@@ -6,7 +6,7 @@ use Rattle.law_register.specs.Register.KnownNext.{known_now, up_to}
 use Rattle.law_register.specs.Register.LawList.{front, law_of}
 use Rattle.law_register.proofs.Grown.{if_ok}
 use Rattle.version_cache.specs.Seen.{work_revision_view, work_view}
-use Rattle.version_cache.specs.Works.{AreRightUntil, IsFor, IsForIf, renewed}
+use Rattle.version_cache.specs.Works.{AreRightUntil, IsFor, IsForIf, WorkRevisionValue, renewed, work_revision_of}
 use Rattle.law_office.proofs.Following.{cost_among, day_there, kept_known, kept_named, right_before}
 use Rattle.law_office.proofs.changes.revise.Goals as goal
 
@@ -54,6 +54,25 @@ returns-clause-right g c =
     (ap (λ (k : Known). k.act.work) c.known-old.ensures ∙ kept_named es w kept c.requires.right) c.in_ok-known.ensures.known in
     if_ok c.revise.result (λ r. IsFor new (renewed kept (work_revision_view r))) _
     (λ r for. subst (λ (k : Option Known). IsForIf k (renewed kept (work_revision_view r))) (sym is) for) c.revise.ensures.right
+
+pub returns-clause-made : goal.returns-clause-made
+returns-clause-made g c =
+    let kept = work_view c.args.kept.now in
+    if_ok c.revise.result (λ r. work_revision_view r ≡ work_revision_of kept c.in_ok-known.known c.in_ok-day.day) _
+    (λ r is. is ∙ ap₂ (work_revision_of kept) (sym (ap (λ (v : WorkRevisionValue). v.known) is)) c.in_ok-day.ensures) c.revise.ensures.revision
+
+pub returns-clause-known : goal.returns-clause-known
+returns-clause-known g c =
+    let es = c.args.register.now.entries in
+    let e = c.args.entry.now in
+    let w = c.args._work.now in
+    let kept = work_view c.args.kept.now in
+    let new = c.in_ok-known.known in
+    let is : known_now (es ++ e ∷ []) w ≡ Some new =
+    subst (λ (x : List ℕ). known_now (es ++ e ∷ []) x ≡ Some new)
+    (ap (λ (k : Known). k.act.work) c.known-old.ensures ∙ kept_named es w kept c.requires.right) c.in_ok-known.ensures.known in
+    if_ok c.revise.result (λ r. work_revision_view r ≡ work_revision_of kept new c.in_ok-day.day) _
+    (λ r made. is ∙ ap Some (sym (ap (λ (v : WorkRevisionValue). v.known) made))) c.revise.ensures.revision
 
 pub returns-clause-steps : goal.returns-clause-steps
 returns-clause-steps g c =

@@ -1,11 +1,13 @@
 use Rattle.std.proofs.Common.{rules, ◌≡◌, ◌∙◌, ◌+◌, ◌<◌, sym, ap, subst, arith, drop, take, length, List, [], ◌∷◌, ◌++◌, ℕ, None, option_map}
-use Rattle.std.proofs.lemmas.List.{drop_more, map-append, take_more}
+use Rattle.std.proofs.lemmas.List.{append_assoc, drop_more, map-append, take_more}
 use Rattle.std.proofs.lemmas.List.Sums.{sum_by-cons}
 use Rattle.std.specs.List.{sum_by}
 use Rattle.std.specs.Map.{keys_of, lookup}
 use Rattle.std.specs.Str.{bytes_eq}
 use Rattle.law_register.specs.Answer.Renewing.{costs_from}
 use Rattle.law_register.specs.Register.KnownNext.{known_now}
+use Rattle.law_refs.specs.Handing.{rows_if, rows_made, rows_opened}
+use Rattle.law_refs.specs.declared.ref_row.RefRow.{RefRow}
 use Rattle.version_cache.specs.Seen.{work_view}
 use Rattle.law_office.specs.declared.line.DatedWork.{DatedWork}
 use Rattle.law_office.specs.Tables.{kept_in}
@@ -21,6 +23,7 @@ loop-dated-init g c =
       kept = none_so_far es (kept_in c.args.tables.now) works
           (λ w. ap (λ es. option_map work_view (lookup (bytes_eq w) es)) c.requires.none) (all_in_line es works c.requires.line);
       keys = ap keys_of c.requires.none;
+      rows = ap (λ (rows : List RefRow). rows ++ rows_opened es works) c.requires.no_rows;
       steps = omega arith;
     }
 
@@ -47,5 +50,9 @@ loop-dated-preserved g c =
       keys = c.in_ok-add_work.ensures.key known (ap (option_map work_view) none)
           ∙ ap (λ (ks : List (List ℕ)). ks ++ d.work ∷ []) c.loop-dated.invariant.keys
           ∙ sym (ap works_of taken ∙ map-append (λ (d : DatedWork). d.work) (take i line) (d ∷ []));
+      rows = ap (λ (rows : List RefRow). rows ++ rows_opened es rest) c.in_ok-add_work.ensures.rows
+          ∙ append_assoc c.loop-dated.rows (rows_if (rows_made d.work) (known_now es d.work)) (rows_opened es rest)
+          ∙ ap (λ (ws : List (List ℕ)). c.loop-dated.rows ++ rows_opened es ws) (sym left)
+          ∙ c.loop-dated.invariant.rows;
       steps = omega (arith, sum, c.loop-dated.invariant.steps, c.add_work.ensures.steps);
     }

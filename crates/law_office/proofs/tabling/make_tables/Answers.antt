@@ -2,6 +2,7 @@ use Rattle.std.proofs.Common.{◌∙◌, sym, subst, ap, arith, ℕ, List}
 use Rattle.std.specs.List.{sum_by}
 use Rattle.law_register.specs.Answer.Renewing.{costs_from, opening_cost}
 use Rattle.law_register.specs.Register.KnownNext.{known_now}
+use Rattle.law_refs.specs.Handing.{rows_opened}
 use Rattle.law_office.specs.declared.line.DatedWork.{DatedWork}
 use Rattle.law_office.specs.Line.{AreInLine}
 use Rattle.law_office.proofs.InLine.{sum_in_line, works_of}
@@ -39,3 +40,6 @@ pub returns-clause-line : goal.returns-clause-line
 returns-clause-line g c =
     subst (AreInLine c.args.register.now.entries)
     (ap works_of (sym c.as_slice.ensures.value) ∙ sym c.in_ok-add_all.ensures.keys) c.in_ok-line.ensures
+
+pub returns-clause-rows : goal.returns-clause-rows
+returns-clause-rows g c = c.in_ok-add_all.ensures.rows ∙ ap (rows_opened c.args.register.now.entries) (sym c.in_ok-add_all.ensures.keys)

@@ -1,5 +1,6 @@
 use Rattle.std.proofs.Common.{sym, subst, ◌++◌, ◌∷◌, [], Option}
 use Rattle.law_register.specs.Register.KnownNext.{known_now}
+use Rattle.law_refs.specs.OfRegister.{IsIndexOf}
 use Rattle.viewpoints.proofs.Staying.{right_stays}
 use Rattle.version_cache.specs.Works.{WorkValue}
 use Rattle.law_office.specs.Tables.{Matches, table_on}
@@ -15,7 +16,12 @@ pub returns-clause-tables : goal.returns-clause-tables
 returns-clause-tables c =
     rw c.push.ensures
     (λ w. subst (λ (k : Option WorkValue). Matches (known_now (c.args.self.now.register.entries ++ c.args.pending.entry ∷ []) w) k)
-    (sym (c.apply.ensures w)) (c.requires.follows.changes.right w))
+    (sym (c.apply.ensures.tables w)) (c.requires.follows.changes.right w))
+
+pub returns-clause-index : goal.returns-clause-index
+returns-clause-index c =
+    rw c.push.ensures
+    (subst (IsIndexOf (c.args.self.now.register.entries ++ c.args.pending.entry ∷ [])) (sym c.apply.ensures.index) c.requires.follows.changes.refs)
 
 pub returns-clause-right : goal.returns-clause-right
 returns-clause-right c =

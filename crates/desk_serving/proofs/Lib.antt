@@ -1,0 +1,4 @@
+pub mod Works
+pub mod Together
+pub mod Visits
+pub mod OneByOne

@@ -1,0 +1,76 @@
+//! The references of a text, in its order: those of each provision before those of the provisions beneath it.
+
+ghost use Rattle.std.specs.Prelude.{◌≡◌, ◌++◌, true, IfOk, OnOk, map, option_map};
+ghost use Rattle.std.specs.List.{All};
+ghost use Rattle.act_tree.specs.Branches.{branches_of};
+ghost use Rattle.act_tree.specs.Eids as eids;
+ghost use Rattle.act_tree.specs.Seen.{branch_at, has_node, provision_at, tree_view};
+ghost use Rattle.law_refs.specs.Missing as spec;
+
+use act_tree::{NodeId, Tree, eid_below};
+use desk_base::{Memory, Text};
+use law_refs::{NodeRef, NodeRefs};
+use std::alloc::Global;
+
+// Adds the references of a provision.
+fn add_refs(eid: &Text, refs: &[Text], found: &mut NodeRefs) -> Result<(), Memory>
+    ensures { OnOk result (found.new ≡ found.old ++ spec.refs_at eid.now refs.now) }
+{
+    for iri in refs {
+        found.push(NodeRef {
+            eid: eid.copy()?,
+            iri: iri.copy()?,
+        })?;
+    }
+    Ok(())
+}
+
+// The eId of a provision below the one of the eId `above`, or right below the root where that is `None`.
+fn eid_of(alloc: Global, tree: &Tree, above: Option<&str>, id: NodeId) -> Result<Text, Memory>
+    requires { has_node tree.now id ≡ true }
+    ensures { IfOk result
+        (λ eid. eid ≡ eids.eid_below (tree_view tree.now).numbering (option_map (λ s. s.now) above.entry)
+        (provision_at tree.now id).own.element (provision_at tree.now id).own.num) }
+{
+    let provision = tree.provision(id);
+    eid_below(
+        alloc,
+        tree.numbering(),
+        above,
+        provision.element,
+        provision.num,
+    )
+}
+
+// Adds the references of provisions with all beneath them, below the one of the eId `above`, or right below the root where that is
+// `None`. It takes as much stack as the tree is deep.
+fn add_all(
+    alloc: Global,
+    tree: &Tree,
+    above: Option<&str>,
+    ids: &[NodeId],
+    found: &mut NodeRefs,
+) -> Result<(), Memory>
+    requires { All (λ id. has_node tree.now id ≡ true) ids.now }
+    ensures { OnOk result (found.new ≡ found.old ++ spec.all_branch_refs (tree_view tree.now).numbering
+        (option_map (λ s. s.now) above.entry) (branches_of (map (branch_at tree.now) ids.now))) }
+{
+    for id in ids {
+        let eid = eid_of(alloc, tree, above, *id)?;
+        let provision = tree.provision(*id);
+        add_refs(&eid, provision.refs.as_slice(), found)?;
+        let children = tree.children(*id);
+        add_all(alloc, tree, Some(eid.as_str()), children, found)?;
+    }
+    Ok(())
+}
+
+/// The references of a text.
+pub(crate) fn text_refs(alloc: Global, tree: &Tree) -> Result<NodeRefs, Memory>
+    ensures { IfOk result (λ refs. refs ≡ spec.text_refs (tree_view tree.now)) }
+{
+    let mut found = NodeRefs::new(alloc);
+    let top = tree.children(tree.root());
+    add_all(alloc, tree, None, top, &mut found)?;
+    Ok(found)
+}

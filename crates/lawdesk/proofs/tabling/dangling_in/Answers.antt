@@ -1,0 +1,8 @@
+use Rattle.lawdesk.proofs.Dangles.{listed}
+use Rattle.lawdesk.proofs.tabling.dangling_in.Goals as goal
+
+pub returns : goal.returns
+returns c =
+    let book = c.args.book.now in
+    listed c.dangling.result book.register.entries c.args.day book.refs
+    (c.what_dangles_is_listed.ensures book.register.entries c.args.day (c.requires).refs) c.dangling.ensures

@@ -1,0 +1,9 @@
+-- The count of faults is that of the opening.
+use Rattle.lawdesk.proofs.tabling.dangling_kept.Goals as goal
+
+pub returns-clause-cause : goal.returns-clause-cause
+returns-clause-cause g c = c.report_booked-report.ensures.cause _ _ c.open-booked.ensures.cause
+
+pub returns-clause-stays : goal.returns-clause-stays
+returns-clause-stays g c = λ told.
+    c.report_booked-report.ensures.stays _ _ c.open-booked.ensures.cause (c.open-booked.ensures.stays told)
