@@ -235,15 +235,15 @@ def disks():
         check(f"{what}, no call on the journal fails", beyond, [])
 
 
-def images_of_disks():
+def images_of_disks(seed=None, most=48):
     """What a crash may leave at each moment of a run of which a call on the journal fails, alone or with all behind it: each image is opened and has
-    each entry whose 201 was written, perhaps one more. Over the three requests each run and each moment; over the commands of the stream some that
-    are drawn."""
-    seed = time.time_ns() % 1_000_000_000
+    each entry whose 201 was written, perhaps one more. Over the three requests each run and each moment; over the commands of the stream so many runs
+    and six moments of each, which are drawn, or each of both where `most` is none (`tests/crash images`)."""
+    seed = time.time_ns() % 1_000_000_000 if seed is None else seed
     commands = [row for row in mixed.MIXED if row[0].startswith(b"POST /commands ")]
     with concurrent.futures.ThreadPoolExecutor(os.cpu_count()) as pool:
-        for what, rows, most in (("three requests", mixed.THREE, None), (f"{len(commands)} commands", commands, 48)):
-            count = images_of_runs(pool, f"{what}, of seed {seed},", rows, random.Random(seed), most)
+        for what, rows, drawn in (("three requests", mixed.THREE, None), (f"{len(commands)} commands", commands, most)):
+            count = images_of_runs(pool, f"{what}, of seed {seed},", rows, random.Random(seed), drawn)
             print(f"{count} images of journals on which a call failed, {what}, seed {seed}")
 
 

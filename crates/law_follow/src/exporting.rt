@@ -16,6 +16,7 @@ use desk_base::Sink;
 use law_keeper::Keeper;
 use law_register::{OpenFault, Register};
 use std::alloc::Global;
+use std::mem::forget;
 
 /// Why the frames of a keeper were not written.
 #[derive(Clone, Copy, Debug, PartialEq, Eq)]
@@ -59,7 +60,7 @@ fn exported(put: Result<(), PutFault>) -> Result<(), ExportFault>
 
 /// Opens a keeper, and writes the frames of all payloads above a number, in order, each by one call. All of them are judged
 /// before the first is written. No payload changes, and a crash at any moment leaves a list that it could leave before, or
-/// the list itself.
+/// the list itself. A program ends with it, and the register's memory goes with the program.
 pub fn export<K: Keeper, W: Sink>(
     alloc: Global,
     keeper: &mut K,
@@ -76,7 +77,7 @@ pub fn export<K: Keeper, W: Sink>(
     match Replica::open(alloc, keeper) {
         Ok(replica) => {
             let put = put_above(alloc, &replica.register, sink, from as usize);
-            drop(replica);
+            forget(replica);
             exported(put)
         }
         Err(fault) => Err(ExportFault::Open(fault)),

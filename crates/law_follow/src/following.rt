@@ -17,6 +17,7 @@ use desk_base::Source;
 use law_keeper::Keeper;
 use law_register::laws;
 use std::alloc::Global;
+use std::mem::forget;
 
 // Reads the frame at a place of the stream, if the stream goes on.
 fn next_frame<S: Source>(
@@ -144,6 +145,9 @@ fn follow_frames<S: Source, K: Keeper>(
 /// first that is refused ends it: nothing behind it is read. What the keeper has then is what the step of a follower makes of
 /// its list over the messages that were read, after a fault of the keeper with the payload of the last one or without it; and
 /// a crash at any moment leaves a list that it could leave before, or one between.
+///
+/// A program ends with it: the register's memory goes with the program, since to free it entry by entry takes a tenth of the
+/// time of an opening.
 pub fn follow<S: Source, K: Keeper>(
     alloc: Global,
     source: &mut S,
@@ -158,7 +162,7 @@ pub fn follow<S: Source, K: Keeper>(
         Ok(replica) => {
             let mut replica = replica;
             let followed = follow_frames(alloc, source, keeper, &mut replica);
-            drop(replica);
+            forget(replica);
             followed
         }
         Err(fault) => Err(FollowFault::Open(fault)),

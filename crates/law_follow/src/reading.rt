@@ -21,7 +21,7 @@ fn read_bytes<S: Source>(alloc: Global, source: &mut S, size: usize) -> Result<V
     ensures cause { spec.HasReadCause (S.faults source.old) (S.faults source.new) result }
 {
     let mut bytes = Vec::with_capacity(alloc, size)?;
-    let mut piece = [0; 8_192];
+    let mut piece = [0; 512];
     while bytes.len() < size {
         let room = piece.len().min(size - bytes.len());
         let count = source.read(&mut piece[..room])?;

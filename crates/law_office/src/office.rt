@@ -19,11 +19,12 @@ ghost use Rattle.law_register.specs.declared.register.known.Known.{Known as Know
 ghost use Rattle.std.specs.Map.{keys_of};
 ghost use Rattle.law_refs.specs.Handing.{judged_at_opening};
 ghost use Rattle.law_refs.specs.Missing.{IsDangling};
+ghost use Rattle.law_refs.specs.OfRegister.{IsIndexOf};
 ghost use Rattle.version_cache.specs.Seen.{table_view};
 ghost use Rattle.version_cache.specs.Tables as tables;
 ghost use Rattle.law_office.specs.Crashing.{crashes_of};
 ghost use Rattle.law_office.specs.Lists.{EndsOver};
-ghost use Rattle.law_office.specs.Offices.{HoldsBook, IsRight, RoseWith, Spells, desk_of, judging_in, names_of, origin_of, pending_of};
+ghost use Rattle.law_office.specs.Offices.{HoldsBook, IsRight, RoseWith, Spells, desk_of, judging_in, later_of, names_of, origin_of, pending_of};
 ghost use Rattle.law_office.specs.Opening.{HasRefusalCause, Refuses, StaysUnlessFailed, cost_opened, opened_of};
 
 use crate::acting::command as do_command;
@@ -145,6 +146,8 @@ impl<'k, 'c, K: Keeper, C: Clock> Office<'k, 'c, K, C> {
         ensures origin { IfOk result (λ office. office.origin
             ≡ origin_of keeper.entry.ghost_name clock.entry.ghost_name (K.faults keeper.old)) }
         ensures past { IfOk result (λ office. office.past ≡ []) }
+        ensures refs { IfOk result (λ office. IsIndexOf office.entries office.refs) }
+        ensures later { IfOk result (λ office. office.later ≡ None) }
         ensures steps { (K.holding keeper.old).tells
             → steps.new ≤ steps.old + cost_opened (opened_of (K.holding keeper.old).list) }
         ensures steps_opened { IfOk result (λ office. steps.new ≤ steps.old
@@ -170,6 +173,8 @@ impl<'k, 'c, K: Keeper, C: Clock> Office<'k, 'c, K, C> {
         ensures pending { result.pending ≡ pending_of book.pending }
         ensures marks { result.marks ≡ book.marks.items }
         ensures past { result.past ≡ keys_of book.past }
+        ensures refs { result.refs ≡ book.refs }
+        ensures later { result.later ≡ later_of book.refs book.pending }
         ensures keeper { result.keeper ≡ keeper.old }
         ensures clock { result.clock ≡ clock.old }
         ensures count { result.opened ≡ K.faults keeper.old }

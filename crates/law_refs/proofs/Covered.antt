@@ -1,5 +1,5 @@
 -- What is noted covers what it covered before, and each reference that was noted.
-use Rattle.std.proofs.Common.{◌≡◌, ◌∙◌, ℕ, sym, ap, refl, subst, Bool, true, false, ◌||◌, ◌&&◌, not, cond, List, [], ◌∷◌, ◌++◌, map, inl, inr}
+use Rattle.std.proofs.Common.{◌≡◌, ◌∙◌, ℕ, sym, ap, ap₂, refl, subst, Bool, true, false, ◌||◌, ◌&&◌, not, cond, List, [], ◌∷◌, ◌++◌, map, inl, inr}
 use Rattle.std.specs.Prelude.{◌==◌, filter, Ok, Err, Option}
 use Rattle.std.specs.Cmp.Lexicographic.{pointwise}
 use Rattle.std.specs.List.{list_any, list_all}
@@ -10,10 +10,11 @@ use Rattle.std.proofs.lemmas.Slice.Eq.{bytes_eq-Decides}
 use Rattle.frbr_names.specs.Expressions.{Expression, expression_of}
 use Rattle.frbr_names.specs.Reads.{Read}
 use Rattle.law_refs.specs.Covering.{all_noted, are_still, cover, is_covered, is_covered_read, noted, noted_read, with_names}
-use Rattle.law_refs.specs.Judging.{Answers, cause_now, cause_of, is_of_one, judged_again, names_one}
+use Rattle.law_refs.specs.Judging.{Answers, cause_now, cause_of, is_of_one, judged, judged_again, names_one}
 use Rattle.law_refs.specs.Names.{is_among, with_name}
 use Rattle.law_refs.specs.Rows.{again_row, again_work, is_before, rows_before}
 use Rattle.law_refs.specs.declared.node_ref.JudgedRef.{JudgedRef}
+use Rattle.law_refs.specs.declared.node_ref.NodeRef.{NodeRef}
 use Rattle.law_refs.specs.declared.ref_row.DayRefs.{DayRefs}
 use Rattle.law_refs.specs.declared.ref_row.WorkRefs.{WorkRefs}
 
@@ -24,7 +25,7 @@ among_cond text names more true found = found
 among_cond text names more false found = list_any-append (bytes_eq text) names more ∙ ap (λ b. b || is_among text more) found
 
 -- what is among names stays so where one is added
-among_stays : (text name : List ℕ) (names : List (List ℕ)) → is_among text names ≡ true → is_among text (with_name names name) ≡ true
+pub among_stays : (text name : List ℕ) (names : List (List ℕ)) → is_among text names ≡ true → is_among text (with_name names name) ≡ true
 among_stays text name names found = among_cond text names (name ∷ []) (list_any (pointwise ◌==◌ name) names) found
 
 new_cond : (name : List ℕ) (names : List (List ℕ)) (t : Bool) → list_any (bytes_eq name) names ≡ t → is_among name (cond t names (names ++ name ∷ [])) ≡ true
@@ -35,8 +36,16 @@ new_cond name names false none =
     ∙ ap (λ b. b || false) ((bytes_eq-Decides name name).1 refl)
 
 -- what is added is among them
-among_new : (name : List ℕ) (names : List (List ℕ)) → is_among name (with_name names name) ≡ true
+pub among_new : (name : List ℕ) (names : List (List ℕ)) → is_among name (with_name names name) ≡ true
 among_new name names = new_cond name names (list_any (pointwise ◌==◌ name) names) refl
+
+-- what is among them is not added
+stays_cond : (names more : List (List ℕ)) (t : Bool) → t ≡ true → names ≡ cond t names more
+stays_cond names more true found = refl
+stays_cond names more false none = absurd (true≢false (sym none))
+
+pub name_stays : (text : List ℕ) (names : List (List ℕ)) → is_among text names ≡ true → names ≡ with_name names text
+name_stays text names found = stays_cond names (names ++ text ∷ []) (list_any (pointwise ◌==◌ text) names) found
 
 names_stay : (text : List ℕ) (names others : List (List ℕ)) → is_among text names ≡ true → is_among text (with_names names others) ≡ true
 names_stay text names [] found = found
@@ -77,15 +86,17 @@ noted_covers iri names = by (expression_of iri)
     by (Ok target) = among_new target.work.text names
     by (Err fault) = refl
 
-pub all_noted_stays : (iri : List ℕ) (names : List (List ℕ)) (refs : List JudgedRef) → is_covered names iri ≡ true → is_covered (all_noted names refs) iri ≡ true
+all_noted_stays : (iri : List ℕ) (names : List (List ℕ)) (refs : List NodeRef) → is_covered names iri ≡ true → is_covered (all_noted names refs) iri ≡ true
 all_noted_stays iri names [] covered = covered
-all_noted_stays iri names (kept ∷ refs) covered = all_noted_stays iri (noted names kept.iri) refs (noted_stays iri kept.iri names covered)
+all_noted_stays iri names (one ∷ refs) covered = all_noted_stays iri (noted names one.iri) refs (noted_stays iri one.iri names covered)
 
 -- each reference that was noted is covered
-pub all_noted_covers : (names : List (List ℕ)) (refs : List JudgedRef) → list_all (λ (kept : JudgedRef). is_covered (all_noted names refs) kept.iri) refs ≡ true
-all_noted_covers names [] = refl
-all_noted_covers names (kept ∷ refs) =
-    and_from _ _ (all_noted_stays kept.iri (noted names kept.iri) refs (noted_covers kept.iri names)) (all_noted_covers (noted names kept.iri) refs)
+all_noted_covers : (answers : Answers) (names : List (List ℕ)) (refs : List NodeRef)
+    → list_all (λ (kept : JudgedRef). is_covered (all_noted names refs) kept.iri) (map (judged answers) refs) ≡ true
+unfolding judged
+all_noted_covers answers names [] = refl
+all_noted_covers answers names (one ∷ refs) =
+    and_from _ _ (all_noted_stays one.iri (noted names one.iri) refs (noted_covers one.iri names)) (all_noted_covers answers (noted names one.iri) refs)
 
 copied_covers : (iri : List ℕ) (names : List (List ℕ)) → is_covered names iri ≡ true → is_covered (with_names [] names) iri ≡ true
 unfolding is_covered
@@ -110,21 +121,25 @@ cover_more names more each rows =
     rows
 
 -- what was noted of rows, with what is noted of one more, covers both
-cover_behind : (names : List (List ℕ)) (rows : List DayRefs) (row : DayRefs) → cover names rows ≡ true → cover (all_noted (with_names [] names) row.refs) (rows ++ row ∷ []) ≡ true
-cover_behind names rows row covered =
-    list_all-append (λ (one : DayRefs). list_all (λ (kept : JudgedRef). is_covered (all_noted (with_names [] names) row.refs) kept.iri) one.refs) rows (row ∷ [])
+cover_behind : (answers : Answers) (names : List (List ℕ)) (rows : List DayRefs) (from : Option ℕ) (refs : List NodeRef) → cover names rows ≡ true
+    → cover (all_noted names refs) (rows ++ record { from = from; refs = map (judged answers) refs } ∷ []) ≡ true
+cover_behind answers names rows from refs covered =
+    list_all-append (λ (one : DayRefs). list_all (λ (kept : JudgedRef). is_covered (all_noted names refs) kept.iri) one.refs) rows
+    (record { from = from; refs = map (judged answers) refs } ∷ [])
     ∙ and_from _ _
-    (cover_more names (all_noted (with_names [] names) row.refs)
-    (λ iri found. all_noted_stays iri (with_names [] names) row.refs (copied_covers iri names found)) rows covered)
-    (and_from _ _ (all_noted_covers (with_names [] names) row.refs) refl)
+    (cover_more names (all_noted names refs) (λ iri found. all_noted_stays iri names refs found) rows covered)
+    (and_from _ _ (all_noted_covers answers names refs) refl)
 
-pub cover_extended : (targets start noted : List (List ℕ)) (rows copied longer : List DayRefs) (row : DayRefs) (refs : List JudgedRef)
-    → start ≡ with_names [] targets → noted ≡ all_noted start refs → refs ≡ row.refs → copied ≡ rows → longer ≡ copied ++ row ∷ [] → cover targets rows ≡ true
-    → cover noted longer ≡ true
-cover_extended targets start noted rows copied longer row refs begun all of_row same behind covered =
-    ap (λ names. cover names longer) (all ∙ ap (λ names. all_noted names refs) begun ∙ ap (all_noted (with_names [] targets)) of_row)
-    ∙ ap (cover (all_noted (with_names [] targets) row.refs)) (behind ∙ ap (λ (rs : List DayRefs). rs ++ row ∷ []) same)
-    ∙ cover_behind targets rows row covered
+-- the same, where what is noted is begun in memory of its own
+pub cover_extended : (answers : Answers) (targets start now : List (List ℕ)) (rows copied longer : List DayRefs) (from : Option ℕ) (refs : List NodeRef)
+    (kept : List JudgedRef) → start ≡ with_names [] targets → now ≡ all_noted start refs → kept ≡ map (judged answers) refs → copied ≡ rows
+    → longer ≡ copied ++ record { from = from; refs = kept } ∷ [] → cover targets rows ≡ true → cover now longer ≡ true
+cover_extended answers targets start now rows copied longer from refs kept begun noted is same behind covered =
+    ap (λ names. cover names longer) (noted ∙ ap (λ names. all_noted names refs) begun)
+    ∙ ap (cover (all_noted (with_names [] targets) refs))
+    (behind ∙ ap₂ (λ (rs : List DayRefs) (js : List JudgedRef). rs ++ record { from = from; refs = js } ∷ []) same is)
+    ∙ cover_behind answers (with_names [] targets) rows from refs
+    (cover_more targets (with_names [] targets) (λ iri found. copied_covers iri targets found) rows covered)
 
 filtered_by : {X : Type 0} (p : X → Bool) (x : X) (ys : List X) (t : Bool) → p x ≡ true → list_all p ys ≡ true → list_all p (cond t (x ∷ ys) ys) ≡ true
 filtered_by p x ys true here rest = and_from (p x) (list_all p ys) here rest

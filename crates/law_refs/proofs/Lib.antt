@@ -1,4 +1,5 @@
 mod Anew
+mod Begins
 mod Behind
 mod Broken
 mod ByRegister

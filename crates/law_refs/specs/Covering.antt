@@ -6,6 +6,7 @@ use Rattle.frbr_names.specs.Reads.{Read}
 use Rattle.law_refs.specs.Judging.{names_one}
 use Rattle.law_refs.specs.Names.{is_among, with_name}
 use Rattle.law_refs.specs.declared.node_ref.JudgedRef.{JudgedRef}
+use Rattle.law_refs.specs.declared.node_ref.NodeRef.{NodeRef}
 use Rattle.law_refs.specs.declared.ref_row.DayRefs.{DayRefs}
 
 -- the target that a text was read as is of one of these works, or there is none
@@ -35,9 +36,9 @@ unfoldable pub noted : List (List ℕ) → List ℕ → List (List ℕ)
 noted works iri = noted_read works (expression_of iri)
 
 -- these works with those that references name
-abbrev pub all_noted : List (List ℕ) → List JudgedRef → List (List ℕ)
+abbrev pub all_noted : List (List ℕ) → List NodeRef → List (List ℕ)
 all_noted works [] = works
-all_noted works (kept ∷ refs) = all_noted (noted works kept.iri) refs
+all_noted works (one ∷ refs) = all_noted (noted works one.iri) refs
 
 -- these works with others
 abbrev pub with_names : List (List ℕ) → List (List ℕ) → List (List ℕ)

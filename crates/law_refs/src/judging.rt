@@ -1,12 +1,15 @@
 //! Judging references: one after another, by what targets say.
 
-ghost use Rattle.std.specs.Prelude.{◌≡◌, ◌+◌, ◌≤◌, [], ◌∷◌, IfOk, length, map};
+ghost use Rattle.std.specs.Prelude.{◌≡◌, ◌+◌, ◌≤◌, [], ◌∷◌, IfOk, OnOk, ◌==◌, length, map};
+ghost use Rattle.std.specs.List.{list_any, starts_with};
+ghost use Rattle.law_refs.specs.Covering as covering;
 ghost use Rattle.law_refs.specs.Judging as spec;
 ghost use Rattle.law_refs.specs.Counting.{moved_refs};
 
 use crate::{JudgedRef, NodeRef, RefList, SharedList, Targets, Works};
 use desk_base::{Memory, Steps};
-use frbr_names::parse_expression;
+use frbr_names::laws::read_expression_is_spelled;
+use frbr_names::{WorkName, parse_expression};
 use std::alloc::Global;
 use std::sync::ledger::Ledger;
 
@@ -26,9 +29,28 @@ fn cause_of<T: Targets, L: Ledger>(
     }
 }
 
-/// Whether what a reference refers to is of one of these works.
+// Whether a text begins with the IRI of a work.
+fn begins_with(work: &WorkName, iri: &str) -> bool
+    ensures { result ≡ starts_with ◌==◌ iri.now work.now }
+{
+    iri.as_bytes().starts_with(work.as_str().as_bytes())
+}
+
+// Whether a text begins with the IRI of one of these works.
+fn begins_with_one(works: &Works, iri: &str) -> bool
+    ensures { result ≡ list_any (λ work. starts_with ◌==◌ iri.now work) works.now }
+{
+    for work in works.as_slice() {
+        if begins_with(work, iri) {
+            return true;
+        }
+    }
+    false
+}
+
+// Whether the target that a text is read as is of one of these works.
 #[tactic(auto, unfolding(crate::specs::Judging::names_one))]
-pub fn names_one(works: &Works, iri: &str) -> bool
+fn is_of_one(works: &Works, iri: &str) -> bool
     ensures { result ≡ spec.names_one works.now iri.now }
 {
     match parse_expression(iri) {
@@ -37,17 +59,53 @@ pub fn names_one(works: &Works, iri: &str) -> bool
     }
 }
 
+/// Whether what a reference refers to is of one of these works. What does not begin with the IRI of one is not read.
+pub fn names_one(works: &Works, iri: &str) -> bool
+    ensures { result ≡ spec.names_one works.now iri.now }
+{
+    read_expression_is_spelled(iri.as_bytes());
+    if begins_with_one(works, iri) {
+        return is_of_one(works, iri);
+    }
+    false
+}
+
+// What breaks the target of a reference, whose work is noted.
+#[tactic(auto, unfolding(crate::specs::Judging::cause_of, crate::specs::Covering::noted))]
+fn cause_noting<T: Targets, L: Ledger>(
+    alloc: Global,
+    targets: &T,
+    iri: &str,
+    works: &mut Works,
+    steps: &mut Steps<L>,
+) -> Result<Option<u8>, Memory>
+    ensures cause { IfOk result (λ cause. cause ≡ spec.cause_of (T.broken_rule targets.now) iri.now) }
+    ensures noted { OnOk result (works.new ≡ covering.noted works.old iri.now) }
+    ensures steps { steps.new ≤ steps.old + 1 }
+{
+    match parse_expression(iri) {
+        Ok(target) => {
+            works.note(alloc, &target.work)?;
+            let cause = targets.broken(alloc, &target, steps)?;
+            Ok(cause)
+        }
+        Err(_) => Ok(None),
+    }
+}
+
 #[tactic(auto, unfolding(crate::specs::Judging::judged))]
 fn judge<T: Targets, L: Ledger>(
     alloc: Global,
     targets: &T,
     placed: &NodeRef,
+    works: &mut Works,
     steps: &mut Steps<L>,
 ) -> Result<JudgedRef, Memory>
     ensures judged { IfOk result (λ judged. judged ≡ spec.judged (T.broken_rule targets.now) placed.now) }
+    ensures noted { OnOk result (works.new ≡ covering.noted works.old placed.now.iri) }
     ensures steps { steps.new ≤ steps.old + 1 }
 {
-    let cause = cause_of(alloc, targets, placed.iri.as_str(), steps)?;
+    let cause = cause_noting(alloc, targets, placed.iri.as_str(), works, steps)?;
     Ok(JudgedRef {
         eid: placed.eid.copy()?,
         iri: placed.iri.copy()?,
@@ -55,21 +113,24 @@ fn judge<T: Targets, L: Ledger>(
     })
 }
 
-/// References, judged in order.
+/// References, judged in order. The works that they name are noted.
 pub fn judge_all<T: Targets, L: Ledger>(
     alloc: Global,
     targets: &T,
     refs: &[NodeRef],
+    works: &mut Works,
     steps: &mut Steps<L>,
 ) -> Result<SharedList<JudgedRef>, Memory>
     ensures judged { IfOk result (λ judged. judged ≡ map (spec.judged (T.broken_rule targets.now)) refs.now) }
+    ensures noted { OnOk result (works.new ≡ covering.all_noted works.old refs.now) }
     ensures steps { steps.new ≤ steps.old + length refs.now }
 {
     let mut judged = RefList::new(alloc);
     for one in refs {
-        judged.push(judge(alloc, targets, one, steps)?)?;
+        judged.push(judge(alloc, targets, one, works, steps)?)?;
     }
-    SharedList::new(alloc, judged)
+    let shared = SharedList::new(alloc, judged)?;
+    Ok(shared)
 }
 
 // What breaks a reference now, where these works moved.

@@ -1,6 +1,6 @@
 //! KeptWork: what is kept of a work. A clause sees its rows, and not the works that are noted as those which its references name.
 
-ghost use Rattle.std.specs.Prelude.{◌≡◌, ◌+◌, ◌≤◌, ◌∷◌, ◌++◌, [], map, true, false, IfOk, OnOk};
+ghost use Rattle.std.specs.Prelude.{◌≡◌, ◌+◌, ◌≤◌, ◌∷◌, ◌++◌, [], map, length, true, false, IfOk, OnOk};
 ghost use Rattle.std.specs.List.{list_any};
 ghost use Rattle.law_refs.specs.Covering as covering;
 ghost use Rattle.law_refs.specs.Covering.{are_still};
@@ -8,10 +8,10 @@ ghost use Rattle.law_refs.specs.Index.{moved_in_rows};
 ghost use Rattle.law_refs.specs.Names.{is_among};
 ghost use Rattle.law_refs.specs.Rows as spec;
 
-use crate::judging::judge_all_again;
-use crate::{DayRefs, JudgedRef, RefList, Targets, WorkRefs, Works};
+use crate::judging::{judge_all, judge_all_again};
+use crate::{DayRefs, RefList, RefRow, Targets, WorkRefs, Works};
 use desk_base::{Day, Memory, Steps};
-use frbr_names::{WorkName, parse_expression};
+use frbr_names::WorkName;
 use std::alloc::Global;
 use std::marker::Model;
 use std::sync::Arc;
@@ -120,27 +120,6 @@ fn rows_again<T: Targets, L: Ledger>(
     Ok(now)
 }
 
-// Notes the work that a reference names, if it names one.
-#[tactic(auto, unfolding(crate::specs::Covering::noted))]
-fn note(alloc: Global, works: &mut Works, iri: &str) -> Result<(), Memory>
-    ensures { OnOk result (works.new ≡ covering.noted works.old iri.now) }
-{
-    match parse_expression(iri) {
-        Ok(target) => works.insert(WorkName::copy_of(alloc, &target.work)?),
-        Err(_) => Ok(()),
-    }
-}
-
-// Notes the works that references name.
-fn note_all(alloc: Global, works: &mut Works, refs: &[JudgedRef]) -> Result<(), Memory>
-    ensures { OnOk result (works.new ≡ covering.all_noted works.old refs.now) }
-{
-    for kept in refs {
-        note(alloc, works, kept.iri.as_str())?;
-    }
-    Ok(())
-}
-
 // The same works, in memory of their own.
 fn copy_works(alloc: Global, works: &Works) -> Result<Works, Memory>
     ensures { IfOk result (λ copied. copied ≡ covering.with_names [] works.now) }
@@ -164,23 +143,33 @@ fn has_one(noted: &Works, works: &[WorkName]) -> bool
     false
 }
 
-// What is kept of a work with these rows, and one more behind them.
-fn extended(
+// What is kept of a work with these rows, and one more behind them, judged. The works that its references name are noted with those
+// that are.
+#[tactic(auto, unfolding(crate::specs::Rows::day_row))]
+fn extended<T: Targets, L: Ledger>(
     alloc: Global,
-    act_day: Day,
+    targets: &T,
     rows: &[DayRefs],
-    targets: &Works,
-    row: DayRefs,
+    named: &Works,
+    row: &RefRow,
+    steps: &mut Steps<L>,
 ) -> Result<KeptWork, Memory>
-    requires { covering.cover targets.now rows.now ≡ true }
-    ensures { IfOk result (λ kept. kept ≡ record { act_day = act_day; rows = rows.now ++ row ∷ [] }) }
+    requires { covering.cover named.now rows.now ≡ true }
+    ensures kept { IfOk result (λ kept. kept ≡ record {
+      act_day = row.now.act_day;
+      rows = rows.now ++ spec.day_row (T.broken_rule targets.now) row.now ∷ [];
+    }) }
+    ensures steps { steps.new ≤ steps.old + length row.now.refs }
 {
-    let mut noted = copy_works(alloc, targets)?;
-    note_all(alloc, &mut noted, row.refs.as_slice())?;
+    let mut noted = copy_works(alloc, named)?;
+    let judged = judge_all(alloc, targets, row.refs.as_slice(), &mut noted, steps)?;
     let mut copied = copy_rows(alloc, rows)?;
-    copied.push(row)?;
+    copied.push(DayRefs {
+        from: row.from,
+        refs: judged,
+    })?;
     let refs = WorkRefs {
-        act_day,
+        act_day: row.act_day,
         rows: copied,
     };
     Ok(KeptWork {
@@ -190,25 +179,39 @@ fn extended(
 }
 
 impl KeptWork {
-    /// What is kept of a work with one row.
-    pub fn begun(alloc: Global, act_day: Day, row: DayRefs) -> Result<KeptWork, Memory>
-        ensures { IfOk result (λ kept. kept ≡ record { act_day = act_day; rows = row ∷ [] }) }
+    /// What is kept of a work with one row, which is judged.
+    pub fn begun<T: Targets, L: Ledger>(
+        alloc: Global,
+        targets: &T,
+        row: &RefRow,
+        steps: &mut Steps<L>,
+    ) -> Result<KeptWork, Memory>
+        ensures kept { IfOk result (λ kept. kept ≡ record {
+          act_day = row.now.act_day;
+          rows = spec.day_row (T.broken_rule targets.now) row.now ∷ [];
+        }) }
+        ensures steps { steps.new ≤ steps.old + length row.now.refs }
     {
         let none = Works::new(alloc);
-        extended(alloc, act_day, &[], &none, row)
+        extended(alloc, targets, &[], &none, row, steps)
     }
 
-    /// The same with a row behind the others.
-    pub fn with_row(&self, alloc: Global, act_day: Day, row: DayRefs) -> Result<KeptWork, Memory>
-        ensures { IfOk result (λ kept. kept ≡ record { act_day = act_day; rows = self.now.rows ++ row ∷ [] }) }
+    /// The same with a row behind the others, which is judged.
+    pub fn with_row<T: Targets, L: Ledger>(
+        &self,
+        alloc: Global,
+        targets: &T,
+        row: &RefRow,
+        steps: &mut Steps<L>,
+    ) -> Result<KeptWork, Memory>
+        ensures kept { IfOk result (λ kept. kept ≡ record {
+          act_day = row.now.act_day;
+          rows = self.now.rows ++ spec.day_row (T.broken_rule targets.now) row.now ∷ [];
+        }) }
+        ensures steps { steps.new ≤ steps.old + length row.now.refs }
     {
-        extended(
-            alloc,
-            act_day,
-            self.refs.rows.as_slice(),
-            &self.targets,
-            row,
-        )
+        let rows = self.refs.rows.as_slice();
+        extended(alloc, targets, rows, &self.targets, row, steps)
     }
 
     /// The same, shared.

@@ -1,15 +1,14 @@
 //! Revising an index: what is handed in of a work takes the place of what is kept of it from a day on, and of what stays only those
 //! references are judged again whose target is of a work that moved.
 
-ghost use Rattle.std.specs.Prelude.{◌≡◌, ◌+◌, ◌≤◌, ◌∷◌, [], length, IfOk, OnOk};
+ghost use Rattle.std.specs.Prelude.{◌≡◌, ◌+◌, ◌≤◌, length, IfOk, OnOk};
 ghost use Rattle.std.specs.Option.{option_copied};
 ghost use Rattle.law_refs.specs.Index as spec;
-ghost use Rattle.law_refs.specs.Rows.{again_work};
+ghost use Rattle.law_refs.specs.Rows.{again_work, day_row};
 
-use crate::judging::judge_all;
 use crate::kept_work::KeptWork;
 use crate::ref_index::KeptWorks;
-use crate::{DayRefs, RefIndex, RefRevision, RefRow, RefRows, Targets, Works};
+use crate::{RefIndex, RefRevision, RefRow, RefRows, Targets, Works};
 use desk_base::{Day, Memory, Steps};
 use frbr_names::WorkName;
 use std::alloc::Global;
@@ -86,21 +85,24 @@ fn all_again<T: Targets, L: Ledger>(
 }
 
 // What is kept of a work with a row behind the others.
-fn with_row(
+fn with_row<T: Targets, L: Ledger>(
     alloc: Global,
+    targets: &T,
     kept: Option<&KeptWork>,
-    act_day: Day,
-    row: DayRefs,
+    row: &RefRow,
+    steps: &mut Steps<L>,
 ) -> Result<KeptWork, Memory>
-    ensures { IfOk result (λ now. now ≡ spec.with_row_behind act_day row (option_copied kept.entry)) }
+    ensures kept { IfOk result (λ now. now
+        ≡ spec.with_row_behind row.now.act_day (day_row (T.broken_rule targets.now) row.now) (option_copied kept.entry)) }
+    ensures steps { steps.new ≤ steps.old + length row.now.refs }
 {
     match kept {
-        Some(kept) => kept.with_row(alloc, act_day, row),
-        None => KeptWork::begun(alloc, act_day, row),
+        Some(kept) => kept.with_row(alloc, targets, row, steps),
+        None => KeptWork::begun(alloc, targets, row, steps),
     }
 }
 
-#[tactic(auto, unfolding(crate::specs::Index::put, crate::specs::Rows::day_row))]
+#[tactic(auto, unfolding(crate::specs::Index::put))]
 fn put<T: Targets, L: Ledger>(
     alloc: Global,
     targets: &T,
@@ -111,12 +113,7 @@ fn put<T: Targets, L: Ledger>(
     ensures works { OnOk result (works.new.entries ≡ spec.put (T.broken_rule targets.now) works.old.entries row.now) }
     ensures steps { steps.new ≤ steps.old + length row.now.refs }
 {
-    let refs = judge_all(alloc, targets, row.refs.as_slice(), steps)?;
-    let judged = DayRefs {
-        from: row.from,
-        refs,
-    };
-    let now = with_row(alloc, works.get(&row.work), row.act_day, judged)?;
+    let now = with_row(alloc, targets, works.get(&row.work), row, steps)?;
     works.insert(row.work.copy()?, now)?;
     Ok(())
 }

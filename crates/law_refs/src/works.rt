@@ -8,7 +8,7 @@ ghost use Rattle.std.specs.Str.{bytes_eq};
 ghost use Rattle.law_refs.specs.Names.{is_among, with_name};
 
 use desk_base::Memory;
-use frbr_names::WorkName;
+use frbr_names::{WorkIri, WorkName};
 use indexmap::{Equivalent, IndexSet};
 use std::alloc::Global;
 use std::hash::Hash;
@@ -61,6 +61,17 @@ impl Works {
         ensures { OnOk result (self.new ≡ with_name self.old work) }
     {
         self.names.insert(work)?;
+        Ok(())
+    }
+
+    /// Adds a work by its IRI, if it is not there. Only then it takes memory.
+    pub fn note(&mut self, alloc: Global, work: &WorkIri<'_>) -> Result<(), Memory>
+        ensures { OnOk result (self.new ≡ with_name self.old work.now.text.now) }
+    {
+        if self.has(work.text) {
+            return Ok(());
+        }
+        self.insert(WorkName::copy_of(alloc, work)?)?;
         Ok(())
     }
 

@@ -1,6 +1,6 @@
 -- What a run of `batch` leaves follows of how its stream ended, or of why no register was opened.
-use Rattle.std.proofs.Common.{◌≡◌, ◌≢◌, ◌⊎◌, ◌<◌, ◌≤◌, refl, sym, ap, subst, ◌∙◌, inl, inr, ℕ, zero, suc, ◌+◌, Bool, true, false, List, Option, None, Result, Ok, Err, arith, rules}
-use Rattle.desk_base.specs.Streams.{AppendsFront, Rose, risen}
+use Rattle.std.proofs.Common.{◌≡◌, ◌≢◌, ◌⊎◌, ◌<◌, ◌≤◌, refl, sym, ap, subst, ◌∙◌, inl, inr, ℕ, zero, suc, ◌+◌, Bool, true, false, List, Option, Ok, arith, rules}
+use Rattle.desk_base.specs.Streams.{Rose, risen}
 use Rattle.law_http.proofs.Faultless.{determined}
 use Rattle.law_http.specs.Faultless.{IsDetermined, IsFaultless, IsWhole}
 use Rattle.law_http.specs.Streaming.{HasReadCause, HasWriteCause, RoseBy, faults_told}
@@ -10,17 +10,17 @@ use Rattle.law_http.specs.declared.streaming.StreamEnd.TheVariants as ends
 use Rattle.law_keeper.specs.Keepers.{Holding, Keeps, LeavesOldOrSame}
 use Rattle.law_office.specs.Crashing.{crashes_of}
 use Rattle.law_office.specs.Offices.{OfficeState, desk_of, judging_in}
-use Rattle.law_office.specs.Opening.{HasDamageCause, HasRefusalCause, Refuses, StaysUnlessFailed, TakesRefused, opened_of}
+use Rattle.law_office.specs.Opening.{HasRefusalCause, Refuses, StaysUnlessFailed, TakesRefused, opened_of}
 use Rattle.law_refs.specs.Handing.{judged_at_opening}
 use Rattle.law_register.specs.Answer.Renewing.{opening_cost}
 use Rattle.law_register.specs.Desk.States.{IsFoundOf}
-use Rattle.law_register.specs.declared.desk.damage.Damage.{Damage}
 use Rattle.law_register.specs.declared.desk.open_fault.OpenFault.{OpenFault}
-use Rattle.law_register.specs.declared.desk.open_fault.OpenFault.TheVariants as fails
 use Rattle.law_register.specs.declared.register.entry.Entry.{Entry}
-use Rattle.lawdesk.specs.Batching.{IsBatchStatus, IsServed, RanBatch, ServesOver, TellsRefusal, stream_status}
+use Rattle.lawdesk.specs.Batching.{IsBatchStatus, IsServed, RanBatch, ServesOver, stream_status}
+use Rattle.lawdesk.specs.Telling.{TellsUnopened}
 use Rattle.lawdesk.proofs.Beginning.{since_began}
 use Rattle.lawdesk.proofs.Stepping.{served_faults}
+use Rattle.lawdesk.proofs.Tellings.{refusal_cause, refusal_stays, unopened_cause, unopened_stays, unopened_status}
 
 -- the statuses of a stream
 stream_status_is : (end : StreamEnd) (faulted : Bool) → IsBatchStatus (stream_status end faulted)
@@ -133,34 +133,7 @@ rose_by : (n before now : ℕ) → n ≢ 0 → RoseBy n before now → Rose befo
 rose_by zero before now some rose = absurd (some refl)
 rose_by (suc n) before now some rose = omega (arith, rose)
 
--- the statuses of a refused opening
-pub refusal_status_is : (fault : OpenFault) (before after : Option (List ℕ)) (status : ℕ)
-    → TellsRefusal fault before after status
-    → (status ≡ 4) ⊎ ((status ≡ 5) ⊎ ((status ≡ 6) ⊎ (status ≡ 7)))
-refusal_status_is (fails.Damaged damage) before after status (inl told) = inr (inr (inl told.0))
-refusal_status_is (fails.Damaged damage) before after status (inr (inl told)) = inl told.0
-refusal_status_is (fails.Damaged damage) before after status (inr (inr told)) = inr (inr (inr told))
-refusal_status_is fails.Failed before after status told = inr (inl told)
-refusal_status_is fails.Memory before after status told = inr (inr (inr told))
-
-rose_once : (before now : ℕ) → now ≡ risen before → Rose before now
-rose_once before now is = subst (λ (n : ℕ). risen before ≤ n) (sym is) (omega arith)
-
-pub refusal_cause : (fault : OpenFault) (before after : Option (List ℕ)) (status faults now : ℕ)
-    → TellsRefusal fault before after status → HasRefusalCause faults now fault → status ≡ 5 → Rose faults now
-refusal_cause (fails.Damaged damage) before after status faults now (inl told) cause five = absurd (omega (arith, told.0))
-refusal_cause (fails.Damaged damage) before after status faults now (inr (inl told)) cause five =
-    absurd (omega (arith, told.0))
-refusal_cause (fails.Damaged damage) before after status faults now (inr (inr told)) cause five = absurd (omega arith)
-refusal_cause fails.Failed before after status faults now told cause five = rose_once faults now cause
-refusal_cause fails.Memory before after status faults now told cause five = absurd (omega arith)
-
-pub refusal_stays : (fault : OpenFault) (before after : Option (List ℕ)) (status faults now : ℕ)
-    → TellsRefusal fault before after status → StaysUnlessFailed faults now fault → status ≡ 6 → now ≡ faults
-refusal_stays (fails.Damaged damage) before after status faults now told stays six = stays
-refusal_stays fails.Failed before after status faults now told stays six = absurd (omega (arith, told, six))
-refusal_stays fails.Memory before after status faults now told stays six = stays
-
+-- the statuses of a register that was not opened
 any_status : (status : ℕ) → (status ≡ 4) ⊎ ((status ≡ 5) ⊎ ((status ≡ 6) ⊎ (status ≡ 7))) → IsBatchStatus status
 any_status status (inl four) = inr (inr (inr (inl four)))
 any_status status (inr (inl five)) = inr (inr (inr (inr (inl five))))
@@ -184,16 +157,13 @@ module _ {S W K C : Type 0} (left : S → Option (List ℕ)) (read_faults : S �
       → ((holding keeper).tells → StaysUnlessFailed (keeper_faults keeper) (keeper_faults keeper_new) fault)
       → Keeps (holding keeper) (holding keeper_new)
       → LeavesOldOrSame (holding keeper) (holding keeper_new)
-      → TellsRefusal fault (written sink) (written sink_new) status
-      → ((status ≡ 5) ⊎ (status ≡ 7) → sink_new ≡ sink)
-      → (status ≡ 4 → write_faults sink_new ≡ risen (write_faults sink))
-      → (status ≢ 4 → write_faults sink_new ≡ write_faults sink)
+      → TellsUnopened written write_faults sink sink_new status fault
       → source_new ≡ source → clock_new ≡ clock → TakesRefused (holding keeper) steps later fault
       → RanBatch left read_faults written write_faults holding keeper_faults days
       source source_new sink sink_new keeper keeper_new clock clock_new steps later status
-  ran_unopened status fault opened cause uncounted same crash told unwritten rose stays same_source same_clock cost =
+  ran_unopened status fault opened cause uncounted same crash told same_source same_clock cost =
       let among : (status ≡ 4) ⊎ ((status ≡ 5) ⊎ ((status ≡ 6) ⊎ (status ≡ 7))) =
-      refusal_status_is fault (written sink) (written sink_new) status told in
+      unopened_status written write_faults sink sink_new status fault told in
       record {
         status_is = any_status status among;
         went = inl (record {
@@ -202,7 +172,6 @@ module _ {S W K C : Type 0} (left : S → Option (List ℕ)) (read_faults : S �
           cause = cause;
           stays = uncounted;
           told = told;
-          unwritten = unwritten;
           same = same;
           crash = crash;
           same_source = same_source;
@@ -210,16 +179,16 @@ module _ {S W K C : Type 0} (left : S → Option (List ℕ)) (read_faults : S �
           cost = cost;
         });
         source_cause = λ three. absurd (high status 3 among three (omega arith));
-        sink_cause = rose;
-        keeper_cause = λ five. refusal_cause fault (written sink) (written sink_new) status (keeper_faults keeper) (keeper_faults keeper_new) told cause five;
+        sink_cause = unopened_cause written write_faults sink sink_new status fault told;
+        keeper_cause = refusal_cause written write_faults sink sink_new status fault (keeper_faults keeper) (keeper_faults keeper_new) told cause;
         source_stays = λ other. ap read_faults same_source;
-        sink_stays = stays;
+        sink_stays = unopened_stays written write_faults sink sink_new status fault told;
         keeper_stays = λ low. absurd (elim low [
           | inl is ↦ high status 0 among is (omega arith)
           | inr is ↦ high status 1 among is (omega arith)
         ]);
         damage_is_no_fault = λ six tells.
-            refusal_stays fault (written sink) (written sink_new) status (keeper_faults keeper) (keeper_faults keeper_new) told (uncounted tells) six;
+            refusal_stays written write_faults sink sink_new status fault (keeper_faults keeper) (keeper_faults keeper_new) told (uncounted tells) six;
       }
 
   -- a stream was served

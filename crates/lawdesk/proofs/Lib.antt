@@ -8,6 +8,7 @@ pub mod Staying
 pub mod WordWalk
 pub mod Dashes
 pub mod FourWords
+pub mod Kepts
 pub mod Wanting
 pub mod Misfits
 pub mod WordForms

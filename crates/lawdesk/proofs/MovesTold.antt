@@ -3,8 +3,8 @@ use Rattle.std.proofs.Common.{◌≡◌, ◌≢◌, ◌⊎◌, inl, inr, ℕ, Li
 use Rattle.desk_base.specs.Streams.{risen}
 use Rattle.law_keeper.specs.Keepers.{Holding, Keeps, LeavesOldOrSame}
 use Rattle.law_register.specs.declared.desk.damage.Damage.TheVariants.{Journal}
-use Rattle.lawdesk.specs.Checking.{told_damage}
 use Rattle.lawdesk.specs.Moving.{IsMoveStatus, RanMove, TellsMove, told_difference, told_moved}
+use Rattle.lawdesk.specs.Telling.{told_damage}
 use Rattle.lawdesk.proofs.Tellings.{four_cause, four_stays, one_of_three}
 use Rattle.sql_keeper.specs.Moving.{Grows, HasMoveCause, IsRisen, LeavesOnTheWay, Moves, OneOf}
 use Rattle.sql_keeper.specs.declared.move_fault.MoveFault.{MoveFault}

@@ -1,12 +1,10 @@
 -- What a run of `serve` leaves follows of how its gates were served, or of why no register was opened.
-use Rattle.std.proofs.Common.{◌≡◌, ◌≢◌, ◌⊎◌, ◌<◌, ◌≤◌, ◌||◌, refl, sym, ap, subst, ◌∙◌, inl, inr, ℕ, suc, ◌+◌, Bool, true, false, List, [], ◌∷◌, ◌++◌, length, map, Option, None, Some, Result, Ok, Err, arith, append-nil}
-use Rattle.std.specs.Prelude.{◌↔◌, IsTrue}
+use Rattle.std.proofs.Common.{◌≡◌, ◌≢◌, ◌⊎◌, ◌<◌, ◌≤◌, refl, sym, ap, subst, ◌∙◌, inl, inr, ℕ, suc, ◌+◌, Bool, true, false, List, [], ◌∷◌, ◌++◌, length, map, Option, Ok, arith}
+use Rattle.std.specs.Prelude.{◌↔◌, IsTrue, if◌then◌else◌}
 use Rattle.std.proofs.lemmas.List.{length-map}
 use mathlib.Core.List.{IsPrefix}
-use Rattle.desk_base.specs.Streams.{Appended, AppendsFront, Rose, risen}
-use Rattle.desk_base.specs.declared.source.Failed.{Failed}
+use Rattle.desk_base.specs.Streams.{Rose, risen}
 use Rattle.desk_gates.specs.Tallies.{Tally}
-use Rattle.dossier_text.specs.Runs.{IsWritten}
 use Rattle.law_http.proofs.Histories.{entries_begin, entries_from}
 use Rattle.law_keeper.specs.Keepers.{Holding, Keeps, LeavesOldOrSame}
 use Rattle.law_office.specs.Offices.{OfficeState, RoseWith, Spells, desk_of}
@@ -21,10 +19,10 @@ use Rattle.law_register.specs.declared.desk.fault_mark.FaultMark.{FaultMark}
 use Rattle.law_register.specs.declared.desk.open_fault.OpenFault.{OpenFault}
 use Rattle.law_register.specs.declared.register.entry.Entry.{Entry}
 use Rattle.desk_serving.specs.Gates.{AskInAll, SomeGateRose, WereGatesServed}
-use Rattle.lawdesk.specs.Batching.{TellsRefusal}
 use Rattle.lawdesk.specs.Outliving.{BeginWith}
-use Rattle.lawdesk.specs.Serving.{IsEnded, IsServeStatus, IsServed, IsUnopened, RanServe, ServesGates, front_line, served_status}
-use Rattle.lawdesk.proofs.Batches.{refusal_cause, refusal_stays, refusal_status_is}
+use Rattle.lawdesk.specs.Serving.{IsEnded, IsServeStatus, RanServe, ServesGates, served_status, told_front}
+use Rattle.lawdesk.specs.Telling.{Tells, TellsUnopened}
+use Rattle.lawdesk.proofs.Tellings.{four_cause, four_stays, one_of_three, refusal_cause, refusal_stays, unopened_cause, unopened_stays, unopened_status}
 
 -- ---- histories of entries alone
 
@@ -98,40 +96,62 @@ refused_not status n (inr (inl five)) is a b c d = b (sym is ∙ five)
 refused_not status n (inr (inr (inl six))) is a b c d = c (sym is ∙ six)
 refused_not status n (inr (inr (inr seven))) is a b c d = d (sym is ∙ seven)
 
-served_status_is : (wanting cut broken faulted : Bool) → IsServeStatus (served_status wanting cut broken faulted)
-served_status_is true cut broken faulted = inr (inr (inr (inr (inl refl))))
-served_status_is false true broken faulted = inr (inl refl)
-served_status_is false false true faulted = inr (inr (inr (inr (inr refl))))
-served_status_is false false false true = inr (inr (inl refl))
-served_status_is false false false false = inl refl
+served_status_is : (broken faulted : Bool) → IsServeStatus (served_status broken faulted)
+served_status_is true faulted = inr (inr (inr (inr (inr refl))))
+served_status_is false true = inr (inr (inl refl))
+served_status_is false false = inl refl
 
-five_is_faulted : (wanting cut broken faulted : Bool) → served_status wanting cut broken faulted ≡ 5 → faulted ≡ true
-five_is_faulted true cut broken faulted five = absurd (omega (arith, five))
-five_is_faulted false true broken faulted five = absurd (omega (arith, five))
-five_is_faulted false false true faulted five = absurd (omega (arith, five))
-five_is_faulted false false false true five = refl
-five_is_faulted false false false false five = absurd (omega (arith, five))
+-- the status is that of what was served, or 4 or 7
+abbrev Among : ℕ → Bool → Bool → Type 0
+Among status broken faulted = (status ≡ served_status broken faulted) ⊎ ((status ≡ 4) ⊎ (status ≡ 7))
 
-eight_is_broken : (wanting cut broken faulted : Bool) → served_status wanting cut broken faulted ≡ 8 → broken ≡ true
-eight_is_broken true cut broken faulted eight = absurd (omega (arith, eight))
-eight_is_broken false true broken faulted eight = absurd (omega (arith, eight))
-eight_is_broken false false true faulted eight = refl
-eight_is_broken false false false true eight = absurd (omega (arith, eight))
-eight_is_broken false false false false eight = absurd (omega (arith, eight))
+among : (status said : ℕ) (wanting broken faulted : Bool) → Among said broken faulted → status ≡ (if wanting then 7 else said)
+    → Among status broken faulted
+among status said true broken faulted known is = inr (inr is)
+among status said false broken faulted (inl own) is = inl (is ∙ own)
+among status said false broken faulted (inr (inl four)) is = inr (inl (is ∙ four))
+among status said false broken faulted (inr (inr seven)) is = inr (inr (is ∙ seven))
 
-none_is_faulted : (wanting cut broken faulted : Bool) → served_status wanting cut broken faulted ≡ 0 → faulted ≡ false
-none_is_faulted true cut broken faulted none = absurd (omega (arith, none))
-none_is_faulted false true broken faulted none = absurd (omega (arith, none))
-none_is_faulted false false true faulted none = absurd (omega (arith, none))
-none_is_faulted false false false true none = absurd (omega (arith, none))
-none_is_faulted false false false false none = refl
+among_is : (status : ℕ) (broken faulted : Bool) → Among status broken faulted → IsServeStatus status
+among_is status broken faulted (inl own) = subst IsServeStatus (sym own) (served_status_is broken faulted)
+among_is status broken faulted (inr (inl four)) = inr (inl four)
+among_is status broken faulted (inr (inr seven)) = inr (inr (inr (inr (inl seven))))
 
-never_six : (wanting cut broken faulted : Bool) → served_status wanting cut broken faulted ≢ 6
-never_six true cut broken faulted six = omega (arith, six)
-never_six false true broken faulted six = omega (arith, six)
-never_six false false true faulted six = omega (arith, six)
-never_six false false false true six = omega (arith, six)
-never_six false false false false six = omega (arith, six)
+five_is_faulted : (status : ℕ) (broken faulted : Bool) → Among status broken faulted → status ≡ 5 → faulted ≡ true
+five_is_faulted status true true known five = refl
+five_is_faulted status false true known five = refl
+five_is_faulted status true false (inl own) five = absurd (omega (arith, own, five))
+five_is_faulted status true false (inr (inl four)) five = absurd (omega (arith, four, five))
+five_is_faulted status true false (inr (inr seven)) five = absurd (omega (arith, seven, five))
+five_is_faulted status false false (inl own) five = absurd (omega (arith, own, five))
+five_is_faulted status false false (inr (inl four)) five = absurd (omega (arith, four, five))
+five_is_faulted status false false (inr (inr seven)) five = absurd (omega (arith, seven, five))
+
+eight_is_broken : (status : ℕ) (broken faulted : Bool) → Among status broken faulted → status ≡ 8 → broken ≡ true
+eight_is_broken status true faulted known eight = refl
+eight_is_broken status false true (inl own) eight = absurd (omega (arith, own, eight))
+eight_is_broken status false false (inl own) eight = absurd (omega (arith, own, eight))
+eight_is_broken status false faulted (inr (inl four)) eight = absurd (omega (arith, four, eight))
+eight_is_broken status false faulted (inr (inr seven)) eight = absurd (omega (arith, seven, eight))
+
+none_is_faulted : (status : ℕ) (broken faulted : Bool) → Among status broken faulted → status ≡ 0 → faulted ≡ false
+none_is_faulted status broken false known none = refl
+none_is_faulted status true true (inl own) none = absurd (omega (arith, own, none))
+none_is_faulted status false true (inl own) none = absurd (omega (arith, own, none))
+none_is_faulted status broken true (inr (inl four)) none = absurd (omega (arith, four, none))
+none_is_faulted status broken true (inr (inr seven)) none = absurd (omega (arith, seven, none))
+
+never_six : (status : ℕ) (broken faulted : Bool) → Among status broken faulted → status ≢ 6
+never_six status true faulted (inl own) six = omega (arith, own, six)
+never_six status false true (inl own) six = omega (arith, own, six)
+never_six status false false (inl own) six = omega (arith, own, six)
+never_six status broken faulted (inr (inl four)) six = omega (arith, four, six)
+never_six status broken faulted (inr (inr seven)) six = omega (arith, seven, six)
+
+never_four : (broken faulted : Bool) → served_status broken faulted ≢ 4
+never_four true faulted four = omega (arith, four)
+never_four false true four = omega (arith, four)
+never_four false false four = omega (arith, four)
 
 some_rose : (marks : List FaultMark) (before now : ℕ) → marks ≢ [] → RoseWith marks before now → Rose before now
 some_rose [] before now some rose = absurd (some refl)
@@ -143,79 +163,31 @@ no_marks_stay (mark ∷ marks) before now none rose = absurd (none (λ is. cc is
 
 -- ---- the line at the end
 
-or_true : (a : Bool) → true ≡ (a || true)
-or_true true = refl
-or_true false = refl
-
-or_false : (a : Bool) → a ≡ (a || false)
-or_false true = refl
-or_false false = refl
-
-front_same : (o : Option (List ℕ)) (line : List ℕ) → AppendsFront o o line
-front_same None line = tt
-front_same (Some before) line = ([], (line, (ap Some (sym (append-nil before)), refl)))
-
-front_whole : (before after : Option (List ℕ)) (line : List ℕ) → IsWritten before after line → AppendsFront before after line
-front_whole None after line is = tt
-front_whole (Some before) after line is = (line, ([], (is, append-nil line)))
-
-written_all : (before after : Option (List ℕ)) (line : List ℕ) → Appended {E = Failed} before after line (Ok tt) → IsWritten before after line
-written_all None after line is = tt
-written_all (Some before) after line is = is
-
-written_part : (before after : Option (List ℕ)) (line : List ℕ) (fault : Failed) → Appended before after line (Err fault) → AppendsFront before after line
-written_part None after line fault is = tt
-written_part (Some before) after line fault is = is
-
-never_four : (wanting broken faulted : Bool) → served_status wanting false broken faulted ≢ 4
-never_four true broken faulted four = omega (arith, four)
-never_four false true faulted four = omega (arith, four)
-never_four false false true four = omega (arith, four)
-never_four false false false four = omega (arith, four)
-
-cut_is : (wanting broken faulted : Bool) → served_status wanting true broken faulted ≢ 4 → served_status wanting true broken faulted ≢ 7 → ⊥
-cut_is true broken faulted four seven = seven refl
-cut_is false broken faulted four seven = four refl
+same_anyway : (n : ℕ) (b : Bool) → n ≡ (if b then n else n)
+same_anyway n true = refl
+same_anyway n false = refl
 
 module _ {W : Type 0} (written : W → Option (List ℕ)) (faults : W → ℕ) (n : ℕ) (wanting broken faulted : Bool) (sink : W) where
   -- there was no memory for it
   pub ended_unsaid : IsEnded written faults n wanting broken faulted sink sink 7
   ended_unsaid = record {
-    unsaid = true;
-    cut = false;
-    status_told = ap (λ w. served_status w false broken faulted) (or_true wanting);
-    front_part = front_same (written sink) (front_line n);
-    line = λ four seven. absurd (seven refl);
-    sink_cause = λ four. absurd (omega (arith, four));
-    sink_stays = λ four seven. refl;
+    said = 7;
+    tells = inr (inr (record { status_is = refl; same = refl }));
+    status_told = same_anyway 7 wanting;
   }
 
-  pub ended_said : (sink_new : W) (status : ℕ) (bytes : List ℕ) → Appended {E = Failed} (written sink) (written sink_new) bytes (Ok tt)
-      → bytes ≡ front_line n → faults sink_new ≡ faults sink → status ≡ served_status wanting false broken faulted
-      → IsEnded written faults n wanting broken faulted sink sink_new status
-  ended_said sink_new status bytes appended says stays is =
-      let whole = subst (IsWritten (written sink) (written sink_new)) says (written_all (written sink) (written sink_new) bytes appended) in record {
-        unsaid = false;
-        cut = false;
-        status_told = is ∙ ap (λ w. served_status w false broken faulted) (or_false wanting);
-        front_part = front_whole (written sink) (written sink_new) (front_line n) whole;
-        line = λ four seven. whole;
-        sink_cause = λ four. absurd (never_four wanting broken faulted (sym is ∙ four));
-        sink_stays = λ four seven. stays;
-      }
+-- why the sink failed, and that it did not else
+module _ {W : Type 0} (written : W → Option (List ℕ)) (faults : W → ℕ) (n : ℕ) (broken faulted : Bool) (sink sink_new : W)
+    (status said : ℕ) (tells : Tells written faults sink sink_new said (told_front n broken faulted)) where
+  end_cause : (wanting : Bool) → status ≡ (if wanting then 7 else said) → status ≡ 4 → faults sink_new ≡ risen (faults sink)
+  end_cause true is four = absurd (omega (arith, is, four))
+  end_cause false is four =
+      four_cause written faults sink sink_new said (told_front n broken faulted) (never_four broken faulted) tells (sym is ∙ four)
 
-  pub ended_cut : (sink_new : W) (status : ℕ) (fault : Failed) (bytes : List ℕ) → Appended (written sink) (written sink_new) bytes (Err fault)
-      → bytes ≡ front_line n → faults sink_new ≡ risen (faults sink) → status ≡ served_status wanting true broken faulted
-      → IsEnded written faults n wanting broken faulted sink sink_new status
-  ended_cut sink_new status fault bytes appended says rose is = record {
-    unsaid = false;
-    cut = true;
-    status_told = is ∙ ap (λ w. served_status w true broken faulted) (or_false wanting);
-    front_part = subst (AppendsFront (written sink) (written sink_new)) says (written_part (written sink) (written sink_new) bytes fault appended);
-    line = λ four seven. absurd (cut_is wanting broken faulted (λ e. four (is ∙ e)) (λ e. seven (is ∙ e)));
-    sink_cause = λ four. rose;
-    sink_stays = λ four seven. absurd (cut_is wanting broken faulted (λ e. four (is ∙ e)) (λ e. seven (is ∙ e)));
-  }
+  end_stays : (wanting : Bool) → status ≡ (if wanting then 7 else said) → status ≢ 4 → status ≢ 7 → faults sink_new ≡ faults sink
+  end_stays true is four seven = absurd (seven is)
+  end_stays false is four seven =
+      four_stays written faults sink sink_new said (told_front n broken faulted) tells (λ e. four (is ∙ e))
 
 untrue : (b : Bool) → b ≡ false → IsTrue b → ⊥
 untrue true is told = cc is
@@ -233,16 +205,13 @@ module _ {C : Type 0} (left written : C → Option (List ℕ)) (read_faults writ
       → ((holding keeper).tells → StaysUnlessFailed (keeper_faults keeper) (keeper_faults keeper_new) fault)
       → Keeps (holding keeper) (holding keeper_new)
       → LeavesOldOrSame (holding keeper) (holding keeper_new)
-      → TellsRefusal fault (sink_written sink) (sink_written sink_new) status
-      → ((status ≡ 5) ⊎ (status ≡ 7) → sink_new ≡ sink)
-      → (status ≡ 4 → sink_faults sink_new ≡ risen (sink_faults sink))
-      → (status ≢ 4 → sink_faults sink_new ≡ sink_faults sink)
+      → TellsUnopened sink_written sink_faults sink sink_new status fault
       → clock_new ≡ clock → gates_new ≡ gates
       → RanServe left written read_faults write_faults tally faults sink_written sink_faults holding keeper_faults days
       sink sink_new keeper keeper_new clock clock_new gates gates_new count status
-  ran_unopened status fault opened cause uncounted same crash told unwritten rose stays same_clock same_gates =
+  ran_unopened status fault opened cause uncounted same crash told same_clock same_gates =
       let among : (status ≡ 4) ⊎ ((status ≡ 5) ⊎ ((status ≡ 6) ⊎ (status ≡ 7))) =
-      refusal_status_is fault (sink_written sink) (sink_written sink_new) status told in
+      unopened_status sink_written sink_faults sink sink_new status fault told in
       record {
         status_is = any_status status among;
         went = inl (record {
@@ -251,19 +220,18 @@ module _ {C : Type 0} (left written : C → Option (List ℕ)) (read_faults writ
           cause = cause;
           stays = uncounted;
           told = told;
-          unwritten = unwritten;
           same = same;
           crash = crash;
           same_clock = same_clock;
           same_gates = same_gates;
         });
-        sink_cause = rose;
-        keeper_cause = λ five. refusal_cause fault (sink_written sink) (sink_written sink_new) status (keeper_faults keeper) (keeper_faults keeper_new) told cause five;
+        sink_cause = unopened_cause sink_written sink_faults sink sink_new status fault told;
+        keeper_cause = refusal_cause sink_written sink_faults sink sink_new status fault (keeper_faults keeper) (keeper_faults keeper_new) told cause;
         gate_cause = λ eight. absurd (refused_not status 8 among eight (λ e. omega (arith, e)) (λ e. omega (arith, e)) (λ e. omega (arith, e)) (λ e. omega (arith, e)));
-        sink_stays = λ other enough. stays other;
+        sink_stays = λ other enough. unopened_stays sink_written sink_faults sink sink_new status fault told other;
         keeper_stays = λ none. absurd (refused_not status 0 among none (λ e. omega (arith, e)) (λ e. omega (arith, e)) (λ e. omega (arith, e)) (λ e. omega (arith, e)));
         damage_is_no_fault = λ six tells.
-            refusal_stays fault (sink_written sink) (sink_written sink_new) status (keeper_faults keeper) (keeper_faults keeper_new) told (uncounted tells) six;
+            refusal_stays sink_written sink_faults sink sink_new status fault (keeper_faults keeper) (keeper_faults keeper_new) told (uncounted tells) six;
       }
 
   -- gates were served
@@ -277,10 +245,11 @@ module _ {C : Type 0} (left written : C → Option (List ℕ)) (read_faults writ
       → RanServe left written read_faults write_faults tally faults sink_written sink_faults holding keeper_faults days
       sink sink_new keeper keeper_new clock clock_new gates gates_new count status
   ran_served status opened entries wanting broken faulted n stand_for same stay serves ended =
-      let w : Bool = wanting || ended.unsaid in
       let is = ended.status_told in
+      let known : Among status broken faulted = among status ended.said wanting broken faulted
+      (one_of_three sink_written sink_faults sink sink_new ended.said (told_front n broken faulted) ended.tells) is in
       record {
-        status_is = subst IsServeStatus (sym is) (served_status_is w ended.cut broken faulted);
+        status_is = among_is status broken faulted known;
         went = inr (record {
           opened = opened;
           entries = entries;
@@ -294,16 +263,16 @@ module _ {C : Type 0} (left written : C → Option (List ℕ)) (read_faults writ
           serves = serves;
           ended = ended;
         });
-        sink_cause = ended.sink_cause;
+        sink_cause = end_cause sink_written sink_faults n broken faulted sink sink_new status ended.said ended.tells wanting is;
         keeper_cause = λ five.
-            let told : IsTrue faulted = five_is_faulted w ended.cut broken faulted (sym is ∙ five) in
+            let told : IsTrue faulted = five_is_faulted status broken faulted known five in
             subst (λ m. Rose m (keeper_faults keeper_new)) stay
             (some_rose (serves.closed).marks (keeper_faults opened) (keeper_faults keeper_new) (serves.marked.0 told) serves.rose);
-        gate_cause = λ eight. (serves.served).rose (eight_is_broken w ended.cut broken faulted (sym is ∙ eight));
-        sink_stays = ended.sink_stays;
+        gate_cause = λ eight. (serves.served).rose (eight_is_broken status broken faulted known eight);
+        sink_stays = end_stays sink_written sink_faults n broken faulted sink sink_new status ended.said ended.tells wanting is;
         keeper_stays = λ none.
             no_marks_stay (serves.closed).marks (keeper_faults opened) (keeper_faults keeper_new)
-            (λ some. untrue faulted (none_is_faulted w ended.cut broken faulted (sym is ∙ none)) (serves.marked.1 some)) serves.rose
+            (λ some. untrue faulted (none_is_faulted status broken faulted known none) (serves.marked.1 some)) serves.rose
             ∙ stay;
-        damage_is_no_fault = λ six tells. absurd (never_six w ended.cut broken faulted (sym is ∙ six));
+        damage_is_no_fault = λ six tells. absurd (never_six status broken faulted known six);
       }

@@ -1,15 +1,18 @@
 -- What follows of how a run told something: why the sink failed, and that no other status came of it.
-use Rattle.std.proofs.Common.{◌≡◌, ◌≢◌, ◌⊎◌, ◌∙◌, inl, inr, ℕ, List, Option, Result, ap, arith, sym}
-use Rattle.desk_base.specs.Streams.{risen}
+use Rattle.std.proofs.Common.{◌≡◌, ◌≢◌, ◌⊎◌, ◌≤◌, ◌∙◌, inl, inr, ℕ, List, Option, Result, ap, arith, subst, sym}
+use Rattle.desk_base.specs.Streams.{Rose, risen}
 use Rattle.dossier_text.specs.Reports.{Told}
 use Rattle.law_follow.specs.Opening.{HasFirstCause}
 use Rattle.law_keeper.specs.Keepers.{Holding}
+use Rattle.law_office.specs.Opening.{HasRefusalCause, StaysUnlessFailed}
 use Rattle.law_register.specs.declared.desk.damage.Damage.{Damage}
 use Rattle.law_register.specs.declared.desk.damage.Damage.TheVariants as damage
 use Rattle.law_register.specs.declared.desk.open_fault.OpenFault.{OpenFault}
 use Rattle.law_register.specs.declared.desk.open_fault.OpenFault.TheVariants as fails
-use Rattle.lawdesk.specs.Checking.{told_damage}
-use Rattle.lawdesk.specs.Telling.{EndsWith, IsToldInPart, IsToldWhole, Tells, TellsUnopened}
+use Rattle.lawdesk.specs.Telling.{EndsWith, IsToldInPart, IsToldWhole, Tells, TellsUnopened, told_damage}
+
+rose_once : (before now : ℕ) → now ≡ risen before → Rose before now
+rose_once before now is = subst (λ (n : ℕ). risen before ≤ n) (sym is) (omega arith)
 
 module _ {W : Type 0} (written : W → Option (List ℕ)) (faults : W → ℕ) (sink sink_new : W) (status : ℕ) where
   -- a fault of the sink is the cause of a 4, and there is none else
@@ -72,3 +75,23 @@ module _ {W : Type 0} (written : W → Option (List ℕ)) (faults : W → ℕ) (
   opening_stays h before now (fails.Damaged broken) cause tells other told = cause.1 told
   opening_stays h before now fails.Failed cause ends other told = absurd (other ends.status_is)
   opening_stays h before now fails.Memory cause ends other told = cause.0
+
+  -- the same of the opening of an office
+  pub refusal_cause : (fault : OpenFault) (before now : ℕ) → TellsUnopened written faults sink sink_new status fault
+      → HasRefusalCause before now fault → status ≡ 5 → Rose before now
+  refusal_cause (fails.Damaged broken) before now (inl whole) cause five =
+      let six : status ≡ 6 = whole.status_is in absurd (omega (arith, six, five))
+  refusal_cause (fails.Damaged broken) before now (inr (inl part)) cause five =
+      let four : status ≡ 4 = part.status_is in absurd (omega (arith, four, five))
+  refusal_cause (fails.Damaged broken) before now (inr (inr ends)) cause five =
+      let seven : status ≡ 7 = ends.status_is in absurd (omega (arith, seven, five))
+  refusal_cause fails.Failed before now ends cause five = rose_once before now cause
+  refusal_cause fails.Memory before now ends cause five =
+      let seven : status ≡ 7 = ends.status_is in absurd (omega (arith, seven, five))
+
+  pub refusal_stays : (fault : OpenFault) (before now : ℕ) → TellsUnopened written faults sink sink_new status fault
+      → StaysUnlessFailed before now fault → status ≡ 6 → now ≡ before
+  refusal_stays (fails.Damaged broken) before now tells stays six = stays
+  refusal_stays fails.Failed before now ends stays six =
+      let five : status ≡ 5 = ends.status_is in absurd (omega (arith, five, six))
+  refusal_stays fails.Memory before now ends stays six = stays

@@ -1,7 +1,7 @@
 -- What a run of `batch` leaves: the requests that a source has are served over the register that a keeper keeps.
-use Rattle.std.specs.Prelude.{ℕ, ◌≡◌, ◌≢◌, ◌≤◌, ◌+◌, ◌++◌, List, [], Option, None, Ok, ◌⊎◌, Bool, if◌then◌else◌}
+use Rattle.std.specs.Prelude.{ℕ, ◌≡◌, ◌≢◌, ◌≤◌, ◌+◌, List, [], Option, None, Ok, ◌⊎◌, Bool, if◌then◌else◌}
 use Rattle.desk_base.specs.Crashes.{LeavesOnly}
-use Rattle.desk_base.specs.Streams.{AppendsFront, Rose, risen}
+use Rattle.desk_base.specs.Streams.{Rose, risen}
 use Rattle.law_http.specs.Faultless.{IsDetermined}
 use Rattle.law_http.specs.Streaming.{IsStreamed}
 use Rattle.law_http.specs.declared.streaming.Served.{Served}
@@ -12,15 +12,13 @@ use Rattle.law_office.specs.Crashing.{crashes_of}
 use Rattle.law_office.specs.Offices.{OfficeState, Spells, desk_of, judging_in}
 use Rattle.law_office.specs.Opening.{HasRefusalCause, Refuses, StaysUnlessFailed, TakesRefused, opened_of}
 use Rattle.law_refs.specs.Handing.{judged_at_opening}
+use Rattle.law_refs.specs.OfRegister.{IsIndexOf}
 use Rattle.law_register.specs.Answer.Renewing.{opening_cost}
 use Rattle.law_register.specs.Desk.States.{IsFoundOf}
-use Rattle.law_register.specs.declared.desk.damage.Damage.{Damage}
 use Rattle.law_register.specs.declared.desk.open_fault.OpenFault.{OpenFault}
-use Rattle.law_register.specs.declared.desk.open_fault.OpenFault.TheVariants as fails
 use Rattle.law_register.specs.declared.register.entry.Entry.{Entry}
-use Rattle.lawdesk.specs.Checking.{told_damage}
 use Rattle.lawdesk.specs.Outliving.{BeginWith, IsOldOrKept, OutliveAll}
-use Rattle.dossier_text.specs.Runs.{IsWritten}
+use Rattle.lawdesk.specs.Telling.{TellsUnopened}
 
 -- the statuses of `batch`: 0 each request was answered, 1 what came behind the last was refused as no request, 3 and 4
 -- a source and a sink that failed, 5 a keeper that failed when it was opened, or of which some response says that it
@@ -38,21 +36,8 @@ stream_status ends.ReadFault faulted = 3
 stream_status ends.WriteFault faulted = 4
 stream_status ends.Memory faulted = 7
 
--- damage is told by 6 and its line; a sink that fails makes it 4, with a front part of the line; or there was not
--- enough memory for the line
-abbrev pub TellsDamage : Damage → Option (List ℕ) → Option (List ℕ) → ℕ → Type 0
-TellsDamage damage before after status =
-    ((status ≡ 6) × IsWritten before after (told_damage damage).bytes)
-    ⊎ (((status ≡ 4) × AppendsFront before after (told_damage damage).bytes) ⊎ (status ≡ 7))
-
--- what is told of an opening that was refused
-abbrev pub TellsRefusal : OpenFault → Option (List ℕ) → Option (List ℕ) → ℕ → Type 0
-TellsRefusal (fails.Damaged damage) before after status = TellsDamage damage before after status
-TellsRefusal fails.Failed before after status = status ≡ 5
-TellsRefusal fails.Memory before after status = status ≡ 7
-
--- an office of these entries that is new: it has these devices, no entry is pending, there is no mark, and it has no table
--- of a past viewpoint
+-- an office of these entries that is new: it has these devices, no entry is pending, there is no mark, it has no table of a past
+-- viewpoint, and its index of references is that of these entries
 pub record IsNewOffice {K C : Type 0} (keeper : K) (clock : C) (entries : List Entry) (office : OfficeState K C)
     : Type 0 where
   pub keeper_is : office.keeper ≡ keeper
@@ -61,6 +46,8 @@ pub record IsNewOffice {K C : Type 0} (keeper : K) (clock : C) (entries : List E
   pub none_pending : office.pending ≡ None
   pub no_marks : office.marks ≡ []
   pub no_past : office.past ≡ []
+  pub refs_are : IsIndexOf entries office.refs
+  pub none_later : office.later ≡ None
 
 -- what the source had left was served over a keeper that was opened with these entries, and the office was closed;
 -- so many steps were taken before, and after
@@ -96,14 +83,13 @@ module _ {S W K C : Type 0} (left : S → Option (List ℕ)) (read_faults : S �
     (written : W → Option (List ℕ)) (write_faults : W → ℕ)
     (holding : K → Holding) (keeper_faults : K → ℕ) (days : C → Option (ℕ → ℕ))
     (source source_new : S) (sink sink_new : W) (keeper keeper_new : K) (clock clock_new : C) (steps later : ℕ) where
-  -- no register was opened, and nothing was served
+  -- no register was opened, which is told, and nothing was served
   pub record IsUnopened (status : ℕ) : Type 0 where
     pub fault : OpenFault
     pub opened : (holding keeper).tells → Refuses fault (opened_of (holding keeper).list)
     pub cause : HasRefusalCause (keeper_faults keeper) (keeper_faults keeper_new) fault
     pub stays : (holding keeper).tells → StaysUnlessFailed (keeper_faults keeper) (keeper_faults keeper_new) fault
-    pub told : TellsRefusal fault (written sink) (written sink_new) status
-    pub unwritten : (status ≡ 5) ⊎ (status ≡ 7) → sink_new ≡ sink
+    pub told : TellsUnopened written write_faults sink sink_new status fault
     -- the payloads stay, and where the keeper tells it, a crash at any moment since the run began leaves a list that
     -- it could leave before, or the list itself; nothing was asked of the source and the clock
     pub same : Keeps (holding keeper) (holding keeper_new)

@@ -13,6 +13,7 @@ pub mod Moving
 pub mod Running
 pub mod RunningTwo
 pub mod Telling
+pub mod Kept
 pub mod Exporting
 pub mod Following
 pub mod Serving

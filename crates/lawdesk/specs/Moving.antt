@@ -6,8 +6,7 @@ use Rattle.desk_base.specs.Streams.{risen}
 use Rattle.dossier_text.specs.Reports.{Told}
 use Rattle.law_keeper.specs.Keepers.{Holding, Keeps, LeavesOldOrSame}
 use Rattle.law_register.specs.declared.desk.damage.Damage.TheVariants.{Journal}
-use Rattle.lawdesk.specs.Checking.{told_damage}
-use Rattle.lawdesk.specs.Telling.{EndsWith, Tells}
+use Rattle.lawdesk.specs.Telling.{EndsWith, Tells, told_damage}
 use Rattle.sql_keeper.specs.Moving.{Grows, HasMoveCause, IsRisen, LeavesOnTheWay, Moves, OneOf}
 use Rattle.sql_keeper.specs.declared.move_fault.MoveFault.{MoveFault}
 use Rattle.sql_keeper.specs.declared.move_fault.MoveFault.TheVariants as stops

@@ -1,10 +1,10 @@
 -- What a run of `serve` leaves: connections that come in through gates are served over the register that a keeper keeps, all
 -- gates at once.
-use Rattle.std.specs.Prelude.{ℕ, ◌≡◌, ◌≢◌, ◌≤◌, ◌+◌, ◌++◌, ◌||◌, ◌⊎◌, ◌↔◌, Bool, true, if◌then◌else◌, List, [], ◌∷◌, length, map, codes, Option, Ok, IsTrue}
+use Rattle.std.specs.Prelude.{ℕ, ◌≡◌, ◌≢◌, ◌≤◌, ◌+◌, ◌++◌, ◌⊎◌, ◌↔◌, Bool, true, if◌then◌else◌, List, [], ◌∷◌, length, map, codes, Option, Ok, IsTrue}
 use Rattle.std.specs.Fmt.{decimal}
-use Rattle.desk_base.specs.Streams.{AppendsFront, Rose, risen}
+use Rattle.desk_base.specs.Streams.{Rose, risen}
 use Rattle.desk_gates.specs.Tallies.{Tally}
-use Rattle.dossier_text.specs.Runs.{IsWritten}
+use Rattle.dossier_text.specs.Reports.{Told}
 use Rattle.law_keeper.specs.Keepers.{Holding, Keeps, LeavesOldOrSame}
 use Rattle.law_office.specs.Offices.{OfficeState, RoseWith, Spells, desk_of}
 use Rattle.law_office.specs.Opening.{HasRefusalCause, Refuses, StaysUnlessFailed, opened_of}
@@ -16,8 +16,8 @@ use Rattle.law_register.specs.declared.desk.event.Event.TheVariants.{Entered}
 use Rattle.law_register.specs.declared.desk.open_fault.OpenFault.{OpenFault}
 use Rattle.law_register.specs.declared.register.entry.Entry.{Entry}
 use Rattle.desk_serving.specs.Gates.{AskInAll, SomeGateRose, WereGatesServed}
-use Rattle.lawdesk.specs.Batching.{TellsRefusal}
 use Rattle.lawdesk.specs.Outliving.{BeginWith}
+use Rattle.lawdesk.specs.Telling.{Tells, TellsUnopened}
 
 -- the statuses of `serve`: 0 each gate gave as many connections as it was to give, 4 the sink failed, 5 the keeper failed
 -- when it was opened, or some mark says that it did, 6 what is kept is damaged, 7 for want of memory, 8 a gate failed
@@ -25,25 +25,23 @@ abbrev pub IsServeStatus : ℕ → Type 0
 IsServeStatus status =
     (status ≡ 0) ⊎ ((status ≡ 4) ⊎ ((status ≡ 5) ⊎ ((status ≡ 6) ⊎ ((status ≡ 7) ⊎ (status ≡ 8)))))
 
--- the status of what was served: want of memory comes first, then a sink that failed, then a gate, and then a keeper
-abbrev pub served_status : Bool → Bool → Bool → Bool → ℕ
-served_status wanting cut broken faulted =
-    if wanting then 7 else (if cut then 4 else (if broken then 8 else (if faulted then 5 else 0)))
+-- the status of what was served: a gate that failed comes before a keeper that did
+abbrev pub served_status : Bool → Bool → ℕ
+served_status broken faulted = if broken then 8 else (if faulted then 5 else 0)
 
--- the line that is written at the end
-abbrev pub front_line : ℕ → List ℕ
-front_line n = codes "front " ++ decimal n ++ 10 ∷ []
+-- what is told at the end: how many law entries there are
+abbrev pub told_front : ℕ → Bool → Bool → Told
+told_front n broken faulted = record {
+  status = served_status broken faulted;
+  bytes = codes "front " ++ decimal n ++ 10 ∷ [];
+}
 
--- the line is written, unless there was not enough memory for it, or the sink failed, which left a front part of it
+-- that is told; but the status is 7, whatever came of it, where there was not enough memory for a worker
 pub record IsEnded {W : Type 0} (written : W → Option (List ℕ)) (faults : W → ℕ) (n : ℕ) (wanting broken faulted : Bool)
     (sink sink_new : W) (status : ℕ) : Type 0 where
-  pub unsaid : Bool
-  pub cut : Bool
-  pub status_told : status ≡ served_status (wanting || unsaid) cut broken faulted
-  pub front_part : AppendsFront (written sink) (written sink_new) (front_line n)
-  pub line : status ≢ 4 → status ≢ 7 → IsWritten (written sink) (written sink_new) (front_line n)
-  pub sink_cause : status ≡ 4 → faults sink_new ≡ risen (faults sink)
-  pub sink_stays : status ≢ 4 → status ≢ 7 → faults sink_new ≡ faults sink
+  pub said : ℕ
+  pub tells : Tells written faults sink sink_new said (told_front n broken faulted)
+  pub status_told : status ≡ (if wanting then 7 else said)
 
 -- the connections of gates, and gates, which clauses see by these functions
 module _ {C : Type 0} (left written : C → Option (List ℕ)) (read_faults write_faults : C → ℕ)
@@ -78,14 +76,13 @@ module _ {C : Type 0} (left written : C → Option (List ℕ)) (read_faults writ
   module _ {W K D : Type 0} (sink_written : W → Option (List ℕ)) (sink_faults : W → ℕ)
       (holding : K → Holding) (keeper_faults : K → ℕ) (days : D → Option (ℕ → ℕ))
       (sink sink_new : W) (keeper keeper_new : K) (clock clock_new : D) (gates gates_new : List G) where
-    -- no register was opened, and nothing was asked of the clock and the gates
+    -- no register was opened, which is told, and nothing was asked of the clock and the gates
     pub record IsUnopened (status : ℕ) : Type 0 where
       pub fault : OpenFault
       pub opened : (holding keeper).tells → Refuses fault (opened_of (holding keeper).list)
       pub cause : HasRefusalCause (keeper_faults keeper) (keeper_faults keeper_new) fault
       pub stays : (holding keeper).tells → StaysUnlessFailed (keeper_faults keeper) (keeper_faults keeper_new) fault
-      pub told : TellsRefusal fault (sink_written sink) (sink_written sink_new) status
-      pub unwritten : (status ≡ 5) ⊎ (status ≡ 7) → sink_new ≡ sink
+      pub told : TellsUnopened sink_written sink_faults sink sink_new status fault
       pub same : Keeps (holding keeper) (holding keeper_new)
       pub crash : LeavesOldOrSame (holding keeper) (holding keeper_new)
       pub same_clock : clock_new ≡ clock

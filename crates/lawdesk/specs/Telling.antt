@@ -1,11 +1,19 @@
--- How what a run tells is written: a status and bytes, of which the bytes are written and the status is the run's.
-use Rattle.std.specs.Prelude.{ℕ, ◌≡◌, ◌⊎◌, List, Option}
+-- How what a run tells is written: a status and bytes, of which the bytes are written and the status is the run's. Each form of the
+-- command line says by this what it tells.
+use Rattle.std.specs.Prelude.{ℕ, ◌≡◌, ◌⊎◌, List, Option, Result, Ok, Err}
+use Rattle.akn_json.specs.Printing.Damages.{damage_data}
 use Rattle.desk_base.specs.Streams.{AppendsFront, risen}
-use Rattle.dossier_text.specs.Reports.{Told}
+use Rattle.dossier_text.specs.Reports.{Told, line_of}
 use Rattle.dossier_text.specs.Runs.{IsWritten}
+use Rattle.dossier_text.specs.Views.{report_view}
+use Rattle.dossier_text.specs.declared.report.Report.{Report}
+use Rattle.law_register.specs.declared.desk.damage.Damage.{Damage}
 use Rattle.law_register.specs.declared.desk.open_fault.OpenFault.{OpenFault}
 use Rattle.law_register.specs.declared.desk.open_fault.OpenFault.TheVariants as fails
-use Rattle.lawdesk.specs.Checking.{told_damage}
+
+-- what keeps a register from being opened
+abbrev pub told_damage : Damage → Told
+told_damage damage = record { status = 6; bytes = line_of (damage_data damage) }
 
 -- a sink before and after, which clauses see by these functions, and the status of the run
 module _ {W : Type 0} (written : W → Option (List ℕ)) (faults : W → ℕ) (sink sink_new : W) (status : ℕ) where
@@ -35,3 +43,8 @@ module _ {W : Type 0} (written : W → Option (List ℕ)) (faults : W → ℕ) (
   TellsUnopened (fails.Damaged damage) = Tells (told_damage damage)
   TellsUnopened fails.Failed = EndsWith 5
   TellsUnopened fails.Memory = EndsWith 7
+
+  -- what is reported of what is kept is told, or why there is no report
+  abbrev pub TellsReport : Result Report OpenFault → Type 0
+  TellsReport (Ok report) = Tells (report_view report)
+  TellsReport (Err fault) = TellsUnopened fault

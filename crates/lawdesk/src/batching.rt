@@ -1,50 +1,19 @@
 //! Batching: the requests that a source has are served over the register that is kept, one after another.
 
-ghost use Rattle.std.specs.Prelude.{◌≡◌, ◌≢◌, ◌≤◌, ◌+◌, ◌⊎◌, None, [], if◌then◌else◌};
+ghost use Rattle.std.specs.Prelude.{◌≡◌, None, [], if◌then◌else◌};
 ghost use Rattle.std.specs.Map.{keys_of};
-ghost use Rattle.desk_base.specs.Streams.{risen};
 ghost use Rattle.law_http.specs.Streaming.{HasReadCause, HasWriteCause, IsStreamed};
 ghost use Rattle.law_office.specs.Offices.{HoldsBook, IsRight};
-ghost use Rattle.lawdesk.specs.Batching.{RanBatch, ServesOver, TellsDamage, TellsRefusal, stream_status};
+ghost use Rattle.lawdesk.specs.Batching.{RanBatch, ServesOver, stream_status};
 
-use crate::checking::report_damage;
-use desk_base::{Clock, Memory, Pair, Sink, Source, Steps};
+use crate::telling::tell_unopened;
+use desk_base::{Clock, Pair, Sink, Source, Steps};
 use law_http::{Served, StreamEnd, serve_stream};
 use law_keeper::Keeper;
 use law_office::{Book, Closed, Office};
-use law_register::{Damage, Desk, OpenFault};
+use law_register::Desk;
 use std::alloc::Global;
 use std::sync::ledger::Ledger;
-
-// Writes what keeps the register from being opened, and gives the status to end with.
-fn tell_damage<W: Sink>(alloc: Global, sink: &mut W, damage: Damage) -> u8
-    ensures told { TellsDamage damage (W.written sink.old) (W.written sink.new) result }
-    ensures unwritten { result ≡ 7 → sink.new ≡ sink.old }
-    ensures cause { result ≡ 4 → W.faults sink.new ≡ risen (W.faults sink.old) }
-    ensures stays { result ≢ 4 → W.faults sink.new ≡ W.faults sink.old }
-{
-    match report_damage(alloc, damage) {
-        Ok(report) => match sink.write_all(report.bytes.as_slice()) {
-            Ok(()) => report.status,
-            Err(_) => 4,
-        },
-        Err(Memory) => 7,
-    }
-}
-
-/// Tells why an opening was refused, and gives the status to end with. Damage is written.
-pub fn tell_refusal<W: Sink>(alloc: Global, sink: &mut W, fault: OpenFault) -> u8
-    ensures told { TellsRefusal fault (W.written sink.old) (W.written sink.new) result }
-    ensures unwritten { (result ≡ 5) ⊎ (result ≡ 7) → sink.new ≡ sink.old }
-    ensures cause { result ≡ 4 → W.faults sink.new ≡ risen (W.faults sink.old) }
-    ensures stays { result ≢ 4 → W.faults sink.new ≡ W.faults sink.old }
-{
-    match fault {
-        OpenFault::Damaged(damage) => tell_damage(alloc, sink, damage),
-        OpenFault::Failed => 5,
-        OpenFault::Memory => 7,
-    }
-}
 
 // The status of a stream that ended with `done`, unless some response says that the keeper failed.
 fn done_status(faulted: bool, done: u8) -> u8
@@ -129,6 +98,6 @@ pub fn batch<S: Source, W: Sink, K: Keeper, C: Clock, L: Ledger>(
             let served = serve_book(alloc, source, sink, keeper, clock, book, steps);
             served_status(served)
         }
-        Err(fault) => tell_refusal(alloc, sink, fault),
+        Err(fault) => tell_unopened(alloc, sink, fault),
     }
 }

@@ -1,21 +1,20 @@
 //! Checking: whether what is kept is a register, and where not, what first shows it.
 
-ghost use Rattle.std.specs.Prelude.{◌≡◌, ◌≢◌, ◌⊎◌, ℕ, Err, IfErr, IfOk, Result, List};
-ghost use Rattle.desk_base.specs.Streams.{risen};
+ghost use Rattle.std.specs.Prelude.{◌≡◌, ◌≢◌, ℕ, Err, IfErr, IfOk, Result, List};
 ghost use Rattle.law_keeper.specs.Keepers.{Keeps, LeavesOldOrSame};
 ghost use Rattle.law_office.specs.Opening.{HasOpenCause, Opens, StaysUnlessFailed};
 ghost use Rattle.law_register.specs.declared.desk.damage.Damage.{Damage};
 ghost use Rattle.law_register.specs.declared.desk.open_fault.OpenFault.TheVariants as fails;
 ghost use Rattle.law_register.specs.declared.register.entry.Entry.{Entry};
-ghost use Rattle.lawdesk.specs.Checking.{HasCheckCause, IsCheckCut, IsCheckDone, IsCheckStatus, IsChecked, checked, told_damage, told_opened, told_register};
+ghost use Rattle.lawdesk.specs.Checking.{HasCheckCause, RanCheck, checked, told_opened, told_register};
 ghost use Rattle.dossier_text.specs.Views.{report_view};
 
-use akn_json::put_damage;
+use crate::telling::{report_damage, tell_report};
 use desk_base::{Memory, Sink};
 use dossier_text::{Report, line};
 use law_keeper::Keeper;
 use law_office::Opened;
-use law_register::{Damage, OpenFault, Register};
+use law_register::{OpenFault, Register};
 use std::alloc::Global;
 use std::mem::forget;
 
@@ -27,16 +26,6 @@ fn report_register(alloc: Global, register: &Register) -> Result<Report, Memory>
     Ok(Report {
         status: 0,
         bytes: line(format!(in alloc; "entries {entries} law {law}")?.into_bytes())?,
-    })
-}
-
-/// The report of what keeps a register from being opened.
-pub fn report_damage(alloc: Global, damage: Damage) -> Result<Report, Memory>
-    ensures { IfOk result (λ report. report_view report ≡ told_damage damage) }
-{
-    Ok(Report {
-        status: 6,
-        bytes: line(put_damage(alloc, damage)?)?,
     })
 }
 
@@ -76,26 +65,8 @@ fn report_kept<K: Keeper>(alloc: Global, keeper: &mut K) -> Result<Report, OpenF
 
 /// Opens the register that is kept, writes how many entries it has or what is damaged, and gives the status to end with.
 pub fn check<W: Sink, K: Keeper>(alloc: Global, sink: &mut W, keeper: &mut K) -> u8
-    ensures status { IsCheckStatus result }
-    ensures told { IsCheckDone result → (K.holding keeper.old).tells
-        → IsChecked (K.holding keeper.old).list (W.written sink.old) (W.written sink.new) result }
-    ensures keeper { result ≡ 5 → K.faults keeper.new ≡ risen (K.faults keeper.old) }
-    ensures sink { result ≡ 4 → W.faults sink.new ≡ risen (W.faults sink.old) }
-    ensures cut { result ≡ 4 → (K.holding keeper.old).tells
-        → IsCheckCut (K.holding keeper.old).list (W.written sink.old) (W.written sink.new) }
-    ensures unwritten { (result ≡ 5) ⊎ (result ≡ 7) → sink.new ≡ sink.old }
-    ensures keeper_stays { result ≡ 0 → K.faults keeper.new ≡ K.faults keeper.old }
-    ensures damage { result ≢ 5 → (K.holding keeper.old).tells → K.faults keeper.new ≡ K.faults keeper.old }
-    ensures sink_stays { result ≢ 4 → W.faults sink.new ≡ W.faults sink.old }
-    ensures same { Keeps (K.holding keeper.old) (K.holding keeper.new) }
-    ensures crash { LeavesOldOrSame (K.holding keeper.old) (K.holding keeper.new) }
+    ensures { RanCheck K.holding K.faults W.written W.faults keeper.old keeper.new sink.old sink.new result }
 {
-    match report_kept(alloc, keeper) {
-        Ok(report) => match sink.write_all(report.bytes.as_slice()) {
-            Ok(()) => report.status,
-            Err(_) => 4,
-        },
-        Err(OpenFault::Failed) => 5,
-        Err(_) => 7,
-    }
+    let report = report_kept(alloc, keeper);
+    tell_report(alloc, sink, report)
 }

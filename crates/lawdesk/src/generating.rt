@@ -1,14 +1,16 @@
 //! Generating: a register is generated over a keeper in memory, and what is told of it is written.
 
-ghost use Rattle.std.specs.Prelude.{◌≡◌, ◌≢◌, [], IfOk, Ok};
-ghost use Rattle.desk_base.specs.Streams.{risen};
+ghost use Rattle.std.specs.Prelude.{◌≡◌, [], IfOk, Ok};
+ghost use Rattle.dossier_text.specs.Views.{report_view};
 ghost use Rattle.law_generator.specs.Acts.{first_day as day_of_all};
 ghost use Rattle.law_generator.specs.Courses.{TellsOnly, generated, line_of};
 ghost use Rattle.law_office.specs.Offices.{HoldsBook, IsRight};
-ghost use Rattle.lawdesk.specs.Generating.{IsGenerateCut, IsGenerateStatus, IsGenerated};
+ghost use Rattle.lawdesk.specs.Generating.{RanGenerate, told_generated};
 
 use crate::job::GenerateJob;
+use crate::telling::tell;
 use desk_base::{Clock, ListClock, Memory, Sink, Steps};
+use dossier_text::Report;
 use law_generator::{Generated, first_day, generate};
 use law_keeper::{Keeper, MapKeeper};
 use law_office::{Book, Office};
@@ -75,6 +77,20 @@ fn generated_line<L: Ledger>(
     told.line(alloc)
 }
 
+// The report of the register that is generated.
+fn report_generated<L: Ledger>(
+    alloc: Global,
+    job: GenerateJob,
+    steps: &mut Steps<L>,
+) -> Result<Report, Memory>
+    ensures { IfOk result (λ report. report_view report ≡ told_generated job) }
+{
+    Ok(Report {
+        status: 0,
+        bytes: generated_line(alloc, job, steps)?,
+    })
+}
+
 /// Generates a register, writes what is told of it, and gives the status to end with.
 pub fn generate_line<W: Sink, L: Ledger>(
     alloc: Global,
@@ -82,18 +98,7 @@ pub fn generate_line<W: Sink, L: Ledger>(
     sink: &mut W,
     steps: &mut Steps<L>,
 ) -> u8
-    ensures status { IsGenerateStatus result }
-    ensures told { result ≡ 0 → IsGenerated job (W.written sink.old) (W.written sink.new) }
-    ensures sink { result ≡ 4 → W.faults sink.new ≡ risen (W.faults sink.old) }
-    ensures cut { result ≡ 4 → IsGenerateCut job (W.written sink.old) (W.written sink.new) }
-    ensures unwritten { result ≡ 7 → sink.new ≡ sink.old }
-    ensures sink_stays { result ≢ 4 → W.faults sink.new ≡ W.faults sink.old }
+    ensures { RanGenerate W.written W.faults job sink.old sink.new result }
 {
-    match generated_line(alloc, job, steps) {
-        Ok(line) => match sink.write_all(line.as_slice()) {
-            Ok(()) => 0,
-            Err(_) => 4,
-        },
-        Err(Memory) => 7,
-    }
+    tell(sink, report_generated(alloc, job, steps))
 }

@@ -36,7 +36,7 @@ use notice::{Kept, Said, kept_by, notice};
 use run_two::{run_two, words_behind};
 use std::alloc::Global;
 use std::env;
-use std::io::{self, ErrorKind, Read, Write};
+use std::io::{self, BufReader, ErrorKind, Read, Write};
 use std::net::Net;
 use std::process::ExitCode;
 use std::sync::{OnceLock, Wait};
@@ -45,6 +45,9 @@ use std::time::Clock;
 
 /// The journal in the working folder, which all forms but `text` and `generate` open.
 const JOURNAL: &str = "lawdesk.jnl";
+
+/// How much of standard input is read by one call where frames are followed.
+const AHEAD: usize = 65_536;
 
 // The words of the command line, without the program's name.
 fn words(rt: &HostRuntime) -> io::Result<Vec<String>> {
@@ -127,6 +130,17 @@ where
     run_over(rt, alloc, words, reader, writer, keeper, &mut other)
 }
 
+// How much of standard input is read ahead, by the words. A stream of frames is asked for a head and a payload at a time, most of them short;
+// each other form asks for as much as it can use.
+fn ahead(words: &[String]) -> usize {
+    let form = words_behind(words);
+    if form.len() == 1 && form[0].as_str() == "follow" {
+        AHEAD
+    } else {
+        0
+    }
+}
+
 // The status of words that could not be had: they are no text, or there was not enough memory.
 fn refused(kind: ErrorKind) -> u8
     ensures memory { kind ≡ OutOfMemory → result ≡ 7 }
@@ -162,15 +176,19 @@ fn main(rt: HostRuntime) -> ExitCode {
     match words(&rt) {
         Ok(words) => {
             let mut keeper = JournalKeeper::new(rt.alloc(), FileDisk::new(&rt, JOURNAL));
-            let status = run_beside_database(
-                &rt,
-                &rt,
-                rt.alloc(),
-                words.as_slice(),
-                rt.stdin(),
-                rt.stdout(),
-                &mut keeper,
-            );
+            let input = BufReader::with_capacity(rt.alloc(), ahead(words.as_slice()), rt.stdin());
+            let status = match input {
+                Ok(reader) => run_beside_database(
+                    &rt,
+                    &rt,
+                    rt.alloc(),
+                    words.as_slice(),
+                    reader,
+                    rt.stdout(),
+                    &mut keeper,
+                ),
+                Err(error) => refused(error.kind()),
+            };
             let kept = kept_by(words.as_slice(), keeper.disk().is_held());
             say(
                 &rt,

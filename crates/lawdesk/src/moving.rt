@@ -4,8 +4,7 @@ ghost use Rattle.std.specs.Prelude.{◌≡◌, Err, IfOk, string_bytes};
 ghost use Rattle.dossier_text.specs.Views.{report_view};
 ghost use Rattle.lawdesk.specs.Moving as spec;
 
-use crate::checking::report_damage;
-use crate::telling::tell;
+use crate::telling::{report_damage, tell};
 use desk_base::{Memory, Sink};
 use dossier_text::{Report, line};
 use law_keeper::Keeper;

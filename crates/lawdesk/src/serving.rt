@@ -1,19 +1,21 @@
 //! Serving: the register that is kept is served over connections that come in through four gates, all at once.
 
-ghost use Rattle.std.specs.Prelude.{◌≡◌, ◌≢◌, ◌⊎◌, ◌+◌, [], None, IfErr, IfOk, length};
+ghost use Rattle.std.specs.Prelude.{◌≡◌, [], None, IfErr, IfOk, if◌then◌else◌, length};
 ghost use Rattle.std.specs.List.{AllByRecursion};
 ghost use Rattle.std.specs.Map.{keys_of};
 ghost use Rattle.law_keeper.specs.Keepers.{Keeps, LeavesOldOrSame};
 ghost use Rattle.law_office.specs.Offices.{HoldsBook, IsRight};
 ghost use Rattle.law_office.specs.Opening.{HasOpenCause, Opens, StaysUnlessFailed, opened_of};
 ghost use Rattle.desk_serving.specs.Work.{IsSettled, is_broken, is_wanting};
-ghost use Rattle.lawdesk.specs.Serving.{IsEnded, RanServe, ServesGates, served_status, front_line as said_front};
+ghost use Rattle.dossier_text.specs.Views.{report_view};
+ghost use Rattle.lawdesk.specs.Serving as spec;
+ghost use Rattle.lawdesk.specs.Serving.{RanServe, ServesGates};
 
-use crate::batching::tell_refusal;
+use crate::telling::{tell, tell_unopened};
 use desk_base::{Clock, Memory, Sink, Steps};
 use desk_gates::Gate;
 use desk_serving::{Outcome, ServeJob, Shut, serve_gates};
-use dossier_text::line;
+use dossier_text::{Report, line};
 use law_keeper::Keeper;
 use law_office::{Book, Closed, Office};
 use law_register::{Desk, OpenFault};
@@ -92,22 +94,11 @@ where
     }
 }
 
-// The line that is written at the end.
-fn front_line(alloc: Global, front: u32) -> Result<Vec<u8>, Memory>
-    ensures { IfOk result (λ bytes. bytes.items ≡ said_front front) }
-{
-    Ok(line(format!(in alloc; "front {front}")?.into_bytes())?)
-}
-
 // The status of what was served.
-fn status_of(outcome: Outcome, cut: bool, faulted: bool) -> u8
-    ensures { result ≡ served_status outcome.wanting cut outcome.failed faulted }
+fn served_status(broken: bool, faulted: bool) -> u8
+    ensures { result ≡ spec.served_status broken faulted }
 {
-    if outcome.wanting {
-        7
-    } else if cut {
-        4
-    } else if outcome.failed {
+    if broken {
         8
     } else if faulted {
         5
@@ -116,24 +107,35 @@ fn status_of(outcome: Outcome, cut: bool, faulted: bool) -> u8
     }
 }
 
-// Writes the line at the end, and gives the status of what came of the workers.
-#[tactic(auto, using(crate::proofs::ServingRuns::ended_unsaid, crate::proofs::ServingRuns::ended_said, crate::proofs::ServingRuns::ended_cut))]
-fn end_said<W: Sink>(alloc: Global, sink: &mut W, front: u32, outcome: Outcome, faulted: bool) -> u8
-    ensures { IsEnded W.written W.faults front outcome.wanting outcome.failed faulted sink.old sink.new result }
+// The line at the end, with that status.
+fn report_front(alloc: Global, front: u32, broken: bool, faulted: bool) -> Result<Report, Memory>
+    ensures { IfOk result (λ report. report_view report ≡ spec.told_front front broken faulted) }
 {
-    match front_line(alloc, front) {
-        Ok(bytes) => match sink.write_all(bytes.as_slice()) {
-            Ok(()) => status_of(outcome, false, faulted),
-            Err(_) => status_of(outcome, true, faulted),
-        },
-        Err(Memory) => 7,
-    }
+    let status = served_status(broken, faulted);
+    Ok(Report {
+        status,
+        bytes: line(format!(in alloc; "front {front}")?.into_bytes())?,
+    })
+}
+
+// The status at the end: where there was not enough memory for a worker, it is not what came of the line.
+fn ended_status(wanting: bool, said: u8) -> u8
+    ensures { result ≡ (if wanting then 7 else said) }
+{
+    if wanting { 7 } else { said }
+}
+
+// Tells the line at the end, and gives the status of what came of the workers.
+fn end_said<W: Sink>(alloc: Global, sink: &mut W, front: u32, outcome: Outcome, faulted: bool) -> u8
+    ensures { spec.IsEnded W.written W.faults front outcome.wanting outcome.failed faulted sink.old sink.new result }
+{
+    let said = tell(sink, report_front(alloc, front, outcome.failed, faulted));
+    ended_status(outcome.wanting, said)
 }
 
 // The same, where there may have been no workers.
-#[tactic(auto, using(crate::proofs::ServingRuns::ended_unsaid))]
 fn end_served<W: Sink>(alloc: Global, sink: &mut W, over: &Over) -> u8
-    ensures { IsEnded W.written W.faults over.now.front (is_wanting over.now.outcome) (is_broken over.now.outcome)
+    ensures { spec.IsEnded W.written W.faults over.now.front (is_wanting over.now.outcome) (is_broken over.now.outcome)
         over.now.faulted sink.old sink.new result }
 {
     match over.outcome {
@@ -166,6 +168,6 @@ where
             let over = serve_book(rt, alloc, job, keeper, clock, gates, book);
             end_served(alloc, sink, &over)
         }
-        Err(fault) => tell_refusal(alloc, sink, fault),
+        Err(fault) => tell_unopened(alloc, sink, fault),
     }
 }

@@ -1,7 +1,6 @@
 //! Tabling: a table of what the register that is kept knows.
 
-ghost use Rattle.std.specs.Prelude.{◌≡◌, ◌≢◌, ◌⊎◌, ℕ, true, Err, IfErr, IfOk, List, Result};
-ghost use Rattle.desk_base.specs.Streams.{risen};
+ghost use Rattle.std.specs.Prelude.{◌≡◌, ◌≢◌, ℕ, true, Err, IfErr, IfOk, List, Result};
 ghost use Rattle.law_keeper.specs.Keepers.{Keeps, LeavesOldOrSame};
 ghost use Rattle.law_office.specs.Offices.{IsRight};
 ghost use Rattle.law_office.specs.Opening.{HasOpenCause, Opens, StaysUnlessFailed};
@@ -11,12 +10,12 @@ ghost use Rattle.law_register.specs.declared.desk.damage.Damage.{Damage};
 ghost use Rattle.law_register.specs.declared.desk.open_fault.OpenFault.TheVariants as fails;
 ghost use Rattle.law_register.specs.declared.register.entry.Entry.{Entry};
 ghost use Rattle.law_reports.specs.Tables.{Tells};
-ghost use Rattle.lawdesk.specs.Tabling.{HasReportCause, IsReport, IsReportCut, IsReportDone, IsReportOf, IsReportStatus, IsReported, IsTabled, asks_register, told_table};
+ghost use Rattle.lawdesk.specs.Tabling.{HasReportCause, IsReport, IsReportOf, IsReported, RanReport, asks_register, told_table};
 ghost use Rattle.lawdesk.specs.declared.report_job.ReportJob.TheVariants as jobs;
 ghost use Rattle.dossier_text.specs.Views.{report_view};
 
-use crate::checking::report_damage;
 use crate::report_job::ReportJob;
+use crate::telling::{report_damage, tell_report};
 use akn_json::put_query_rule;
 use desk_base::{Day, Memory, Sink, Steps};
 use dossier_text::{Report, line};
@@ -215,26 +214,8 @@ pub fn tabulate<W: Sink, K: Keeper, L: Ledger>(
     keeper: &mut K,
     steps: &mut Steps<L>,
 ) -> u8
-    ensures status { IsReportStatus result }
-    ensures told { IsReportDone result → (K.holding keeper.old).tells
-        → IsTabled job.now (K.holding keeper.old).list (W.written sink.old) (W.written sink.new) result }
-    ensures keeper { result ≡ 5 → K.faults keeper.new ≡ risen (K.faults keeper.old) }
-    ensures sink { result ≡ 4 → W.faults sink.new ≡ risen (W.faults sink.old) }
-    ensures cut { result ≡ 4 → (K.holding keeper.old).tells
-        → IsReportCut job.now (K.holding keeper.old).list (W.written sink.old) (W.written sink.new) }
-    ensures unwritten { (result ≡ 5) ⊎ (result ≡ 7) → sink.new ≡ sink.old }
-    ensures keeper_stays { (result ≡ 0) ⊎ (result ≡ 9) → K.faults keeper.new ≡ K.faults keeper.old }
-    ensures damage { result ≢ 5 → (K.holding keeper.old).tells → K.faults keeper.new ≡ K.faults keeper.old }
-    ensures sink_stays { result ≢ 4 → W.faults sink.new ≡ W.faults sink.old }
-    ensures same { Keeps (K.holding keeper.old) (K.holding keeper.new) }
-    ensures crash { LeavesOldOrSame (K.holding keeper.old) (K.holding keeper.new) }
+    ensures { RanReport K.holding K.faults W.written W.faults job.now keeper.old keeper.new sink.old sink.new result }
 {
-    match report_kept(alloc, job, keeper, steps) {
-        Ok(report) => match sink.write_all(report.bytes.as_slice()) {
-            Ok(()) => report.status,
-            Err(_) => 4,
-        },
-        Err(OpenFault::Failed) => 5,
-        Err(_) => 7,
-    }
+    let report = report_kept(alloc, job, keeper, steps);
+    tell_report(alloc, sink, report)
 }

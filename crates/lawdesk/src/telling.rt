@@ -3,12 +3,12 @@
 ghost use Rattle.std.specs.Prelude.{◌≡◌, IfOk};
 ghost use Rattle.dossier_text.specs.Reports.{Told};
 ghost use Rattle.dossier_text.specs.Views.{report_view};
-ghost use Rattle.lawdesk.specs.Telling.{Tells, TellsUnopened};
+ghost use Rattle.lawdesk.specs.Telling.{Tells, TellsReport, TellsUnopened, told_damage};
 
-use crate::checking::report_damage;
+use akn_json::put_damage;
 use desk_base::{Memory, Sink};
-use dossier_text::Report;
-use law_register::OpenFault;
+use dossier_text::{Report, line};
+use law_register::{Damage, OpenFault};
 use std::alloc::Global;
 
 /// Writes what is told, and gives the status to end with: 4 where the sink failed, 7 where there was not enough memory to make it.
@@ -25,6 +25,16 @@ pub fn tell<W: Sink>(sink: &mut W, told: Result<Report, Memory>) -> u8
     }
 }
 
+/// The report of what keeps a register from being opened.
+pub fn report_damage(alloc: Global, damage: Damage) -> Result<Report, Memory>
+    ensures { IfOk result (λ report. report_view report ≡ told_damage damage) }
+{
+    Ok(Report {
+        status: 6,
+        bytes: line(put_damage(alloc, damage)?)?,
+    })
+}
+
 /// Tells what keeps the register from being opened, and gives the status to end with.
 pub fn tell_unopened<W: Sink>(alloc: Global, sink: &mut W, fault: OpenFault) -> u8
     ensures { TellsUnopened W.written W.faults sink.old sink.new result fault }
@@ -33,5 +43,15 @@ pub fn tell_unopened<W: Sink>(alloc: Global, sink: &mut W, fault: OpenFault) -> 
         OpenFault::Damaged(damage) => tell(sink, report_damage(alloc, damage)),
         OpenFault::Failed => 5,
         OpenFault::Memory => 7,
+    }
+}
+
+/// Tells what is reported of what is kept, or why there is no report, and gives the status to end with.
+pub fn tell_report<W: Sink>(alloc: Global, sink: &mut W, report: Result<Report, OpenFault>) -> u8
+    ensures { TellsReport W.written W.faults sink.old sink.new result report }
+{
+    match report {
+        Ok(report) => tell(sink, Ok(report)),
+        Err(fault) => tell_unopened(alloc, sink, fault),
     }
 }

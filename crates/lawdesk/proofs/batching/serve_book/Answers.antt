@@ -1,6 +1,7 @@
 -- The office that is closed is the one that was opened, with what was served over it.
 use Rattle.std.proofs.Common.{◌∙◌, ap, get_or, subst, sym, ℕ, List}
-use Rattle.law_office.specs.Offices.{Spells, pending_of}
+use Rattle.law_refs.specs.OfRegister.{IsIndexOf}
+use Rattle.law_office.specs.Offices.{Spells, later_of, pending_of}
 use Rattle.law_office.specs.Opening.{opened_of}
 use Rattle.law_register.specs.Desk.States.{IsFoundOf}
 use Rattle.lawdesk.proofs.Streamed.{serves_over}
@@ -23,6 +24,8 @@ returns-clause-served g c =
       none_pending = c.new-office.ensures.pending ∙ ap pending_of c.requires.none_pending;
       no_marks = c.new-office.ensures.marks ∙ c.requires.no_marks;
       no_past = c.new-office.ensures.past ∙ c.requires.no_past;
+      refs_are = subst (IsIndexOf c.args.book.register.entries) (sym c.new-office.ensures.refs) (c.requires.right).refs;
+      none_later = c.new-office.ensures.later ∙ ap (later_of c.args.book.refs) c.requires.none_pending;
     })
     _ _ _ _ _ _ _ _ _ closed c.serve_desk-served.ensures.served (kept ∙ c.close-keeper.ensures.keeper)
     (ticked ∙ c.close-keeper.ensures.clock)

@@ -1,8 +1,8 @@
 -- Why a move ended is told by its line.
 use Rattle.std.proofs.Common.{◌≡◌, Err, subst, sym}
 use Rattle.law_register.specs.declared.desk.damage.Damage.TheVariants.{Journal}
-use Rattle.lawdesk.specs.Checking.{told_damage}
 use Rattle.lawdesk.specs.Moving.{TellsMove, told_difference}
+use Rattle.lawdesk.specs.Telling.{told_damage}
 use Rattle.lawdesk.proofs.moving.tell_stop.Goals as goal
 
 pub returns-in-Differs : goal.returns-in-Differs

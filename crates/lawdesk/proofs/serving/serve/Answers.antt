@@ -14,6 +14,5 @@ pub returns-in-Err : goal.returns-in-Err
 returns-in-Err g c =
     ran_unopened g.G.Conn.Link.left g.G.Conn.Link.written g.G.Conn.Link.read_faults g.G.Conn.Link.write_faults g.G.Gate.tally g.G.Gate.faults
     g.W.Sink.written g.W.Sink.faults g.K.Keeper.holding g.K.Keeper.faults g.C.Clock.days
-    _ _ _ _ _ _ _ _ _ c.tell_refusal.result c.in-Err.fault c.in-Err.ensures.opened c.in-Err.ensures.cause c.in-Err.ensures.stays
-    c.in-Err.ensures.same c.in-Err.ensures.crash c.tell_refusal.ensures.told c.tell_refusal.ensures.unwritten
-    c.tell_refusal.ensures.cause c.tell_refusal.ensures.stays refl refl
+    _ _ _ _ _ _ _ _ _ c.tell_unopened.result c.in-Err.fault c.in-Err.ensures.opened c.in-Err.ensures.cause c.in-Err.ensures.stays
+    c.in-Err.ensures.same c.in-Err.ensures.crash c.tell_unopened.ensures refl refl

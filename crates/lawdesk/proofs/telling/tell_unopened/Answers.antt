@@ -1,8 +1,7 @@
 -- What is damaged is told by its line.
 use Rattle.std.proofs.Common.{◌≡◌, subst, sym}
 use Rattle.law_register.specs.declared.desk.open_fault.OpenFault.TheVariants as fails
-use Rattle.lawdesk.specs.Checking.{told_damage}
-use Rattle.lawdesk.specs.Telling.{TellsUnopened}
+use Rattle.lawdesk.specs.Telling.{TellsUnopened, told_damage}
 use Rattle.lawdesk.proofs.telling.tell_unopened.Goals as goal
 
 pub returns-in-Damaged : goal.returns-in-Damaged

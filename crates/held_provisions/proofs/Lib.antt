@@ -1,0 +1,3 @@
+pub mod Alongside
+pub mod FoundWorks
+pub mod Sounded

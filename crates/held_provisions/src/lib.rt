@@ -1,0 +1,14 @@
+//! What a desk reckons of provisions that make modifications: what bears by what is held of them, and what an entry touches.
+#![tactic(auto)]
+
+mod bearing;
+mod held;
+mod in_line;
+mod looking;
+mod touching;
+
+pub use bearing::{order_held, replay_held, work_held};
+pub use held::{HeldList, HeldMember, Spans};
+pub use in_line::InLine;
+pub use looking::{depends, looked_at};
+pub use touching::touched_in_lines;
