@@ -11,7 +11,7 @@ use Rattle.law_register.specs.declared.desk.open_fault.OpenFault.{OpenFault}
 use Rattle.law_register.specs.declared.desk.open_fault.OpenFault.TheVariants as fails
 use Rattle.lawdesk.specs.Checking.{IsCheckDone, IsFineCheck}
 use Rattle.lawdesk.specs.Kept.{HasKeptCause, RanKept}
-use Rattle.lawdesk.specs.Tabling.{IsFineReport, IsReportDone}
+use Rattle.lawdesk.specs.Reporting.{IsFineReport, IsReportDone}
 use Rattle.lawdesk.specs.Telling.{EndsWith, Tells, TellsReport}
 
 -- the statuses of a device that failed, and of want of memory

@@ -7,7 +7,7 @@ use Rattle.lawdesk.specs.Batching.{RanBatch}
 use Rattle.lawdesk.specs.Checking.{IsCheckDone, IsChecked, IsFineCheck, RanCheck}
 use Rattle.lawdesk.specs.Generating.{RanGenerate}
 use Rattle.dossier_text.specs.Runs.{IsDone, RanText}
-use Rattle.lawdesk.specs.Tabling.{IsFineReport, IsReportDone, IsReported, RanReport}
+use Rattle.lawdesk.specs.Reporting.{IsFineReport, IsReportDone, IsReported, RanReport}
 use Rattle.lawdesk.specs.declared.job.GenerateJob.{GenerateJob}
 use Rattle.dossier_text.specs.declared.text_job.TextJob.{TextJob}
 use Rattle.lawdesk.specs.declared.report_job.ReportJob.{ReportJob}

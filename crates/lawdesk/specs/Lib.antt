@@ -8,7 +8,7 @@ pub mod Taking
 pub mod Outliving
 pub mod ReportJobs
 pub mod Statuses
-pub mod Tabling
+pub mod Reporting
 pub mod Moving
 pub mod Running
 pub mod RunningTwo

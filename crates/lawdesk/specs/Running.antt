@@ -7,7 +7,7 @@ use Rattle.lawdesk.specs.Checking.{RanCheck}
 use Rattle.lawdesk.specs.Exporting.{RanExport}
 use Rattle.lawdesk.specs.Following.{RanFollow}
 use Rattle.lawdesk.specs.Generating.{RanGenerate}
-use Rattle.lawdesk.specs.Tabling.{RanReport}
+use Rattle.lawdesk.specs.Reporting.{RanReport}
 use Rattle.lawdesk.specs.declared.job.Job.{Job}
 use Rattle.lawdesk.specs.declared.job.Job.TheVariants.{Batch, Check, Export, Follow, Generate, Report, Serve, Text}
 

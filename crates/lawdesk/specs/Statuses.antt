@@ -7,7 +7,7 @@ use Rattle.lawdesk.specs.Following.{IsFollowStatus}
 use Rattle.lawdesk.specs.Generating.{IsGenerateStatus}
 use Rattle.dossier_text.specs.Runs.{IsTextStatus}
 use Rattle.lawdesk.specs.Serving.{IsServeStatus}
-use Rattle.lawdesk.specs.Tabling.{IsReportStatus}
+use Rattle.lawdesk.specs.Reporting.{IsReportStatus}
 
 -- those of the forms of the command line, and 2 for words that are no form
 abbrev pub IsStatus : ℕ → Type 0

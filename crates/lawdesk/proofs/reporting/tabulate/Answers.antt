@@ -1,7 +1,7 @@
 -- What is told of a report is what a run leaves.
-use Rattle.lawdesk.specs.Tabling.{IsFineReport, IsReportDone, IsReported}
+use Rattle.lawdesk.specs.Reporting.{IsFineReport, IsReportDone, IsReported}
 use Rattle.lawdesk.proofs.Kepts.{ran_kept, report_done, report_fine}
-use Rattle.lawdesk.proofs.tabling.tabulate.Goals as goal
+use Rattle.lawdesk.proofs.reporting.tabulate.Goals as goal
 
 pub returns : goal.returns
 returns g c =

@@ -1,4 +1,4 @@
-//! Tabling: a table of what the register that is kept knows.
+//! Reporting: a table of what the register that is kept knows.
 
 ghost use Rattle.std.specs.Prelude.{◌≡◌, ◌≢◌, ℕ, true, Err, IfErr, IfOk, List, Result};
 ghost use Rattle.law_keeper.specs.Keepers.{Keeps, LeavesOldOrSame};
@@ -10,7 +10,7 @@ ghost use Rattle.law_register.specs.declared.desk.damage.Damage.{Damage};
 ghost use Rattle.law_register.specs.declared.desk.open_fault.OpenFault.TheVariants as fails;
 ghost use Rattle.law_register.specs.declared.register.entry.Entry.{Entry};
 ghost use Rattle.law_reports.specs.Tables.{Tells};
-ghost use Rattle.lawdesk.specs.Tabling.{HasReportCause, IsReport, IsReportOf, IsReported, RanReport, asks_register, told_table};
+ghost use Rattle.lawdesk.specs.Reporting.{HasReportCause, IsReport, IsReportOf, IsReported, RanReport, asks_register, told_table};
 ghost use Rattle.lawdesk.specs.declared.report_job.ReportJob.TheVariants as jobs;
 ghost use Rattle.dossier_text.specs.Views.{report_view};
 

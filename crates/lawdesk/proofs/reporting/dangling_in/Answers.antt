@@ -1,5 +1,5 @@
 use Rattle.lawdesk.proofs.Dangles.{listed}
-use Rattle.lawdesk.proofs.tabling.dangling_in.Goals as goal
+use Rattle.lawdesk.proofs.reporting.dangling_in.Goals as goal
 
 pub returns : goal.returns
 returns c =
