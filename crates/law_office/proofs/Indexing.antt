@@ -22,7 +22,7 @@ use Rattle.law_refs.specs.Judging.{Answers, cause_of, cause_read}
 use Rattle.law_refs.specs.Missing.{missing, refs_in_force}
 use Rattle.law_refs.specs.Names.{is_among}
 use Rattle.law_refs.specs.OfRegister.{FollowsChange, HasSameRefs, IsFor, IsHandedIn, IsIndexOf, Matches, rows_given}
-use Rattle.law_refs.specs.Right.{IsRight, anew, anew_ref, anew_row, anew_work}
+use Rattle.law_refs.specs.Right.{AnswerAsBefore, IsRight, IsRightBut, anew, anew_ref, anew_row, anew_work}
 use Rattle.law_refs.specs.declared.node_ref.JudgedRef.{JudgedRef}
 use Rattle.law_refs.specs.declared.ref_row.DayRefs.{DayRefs}
 use Rattle.law_refs.specs.declared.ref_row.RefRow.{RefRow}
@@ -45,6 +45,10 @@ abbrev pub Rests : Type 0
 Rests = (entries : List Entry) (entry : Entry) (index : Kept) → is_legal (entries ++ entry ∷ []) ≡ true → moved_by entries entry ≡ []
     → IsIndexOf entries index → IsIndexOf (entries ++ entry ∷ []) index
 
+abbrev pub StaysRight : Type 0
+StaysRight = (before after : Answers) (moved : List (List ℕ)) (index : Kept) → IsRight before index → AnswerAsBefore before after moved
+    → IsRightBut after moved index
+
 -- what an entry moves and hands in that enacts an act
 enact_moves : (es : List Entry) (e : Entry) (act : Act) → e.command ≡ Enact act → moved_by es e ≡ act.work ∷ []
 unfolding moved_by
@@ -64,6 +68,14 @@ enact_index follows hands es e act work known index revision legal enacts named 
     (ap₂ (λ (m : List (List ℕ)) (r : List RefRow). revised (missing (es ++ e ∷ [])) m r index) (enact_moves es e act enacts) (enact_rows es e act known enacts now)
     ∙ sym (is ∙ ap (λ (w : List ℕ). index_enacted (es ++ e ∷ []) w known index) named))
     (follows es (es ++ e ∷ []) (moved_by es e) (rows_of_entry es e) index was (hands es e legal))
+
+-- what refers to no work that it moves is right as it stands
+pub enact_still : StaysRight → Hands → (es : List Entry) (e : Entry) (act : Act) (work : List ℕ) (index : Kept) → is_legal (es ++ e ∷ []) ≡ true
+    → e.command ≡ Enact act → work ≡ act.work → IsIndexOf es index → IsRightBut (missing (es ++ e ∷ [])) (work ∷ []) index
+enact_still stays hands es e act work index legal enacts named was =
+    subst (λ (moved : List (List ℕ)). IsRightBut (missing (es ++ e ∷ [])) moved index)
+    (enact_moves es e act enacts ∙ ap (λ (w : List ℕ). w ∷ []) (sym named))
+    (stays (missing es) (missing (es ++ e ∷ [])) (moved_by es e) index was.right (hands es e legal).targets)
 
 -- and how many references are judged
 pub enact_judged : (es : List Entry) (e : Entry) (act : Act) (work : List ℕ) (known : Known) (index : Kept) → e.command ≡ Enact act → work ≡ act.work
@@ -106,6 +118,20 @@ touch_index follows hands rests es e t name known index refs legal other concern
         subst (IsIndexOf (es ++ e ∷ []))
         (ap₂ (λ (m : List (List ℕ)) (r : List RefRow). revised (missing (es ++ e ∷ [])) m r index) moves (rows ∙ rows_touch (es ++ e ∷ []) t known day now))
         (follows es (es ++ e ∷ []) (moved_by es e) (rows_of_entry es e) index was (hands es e legal))
+
+-- what refers to no work that it moves is right as it stands
+pub touch_still : StaysRight → Hands → (es : List Entry) (e : Entry) (t name : List ℕ) (index : Kept) → is_legal (es ++ e ∷ []) ≡ true
+    → act_of e.command ≡ None → work_entered es (law_of es e) ≡ Some t → name ≡ t → IsIndexOf es index
+    → IsRightBut (missing (es ++ e ∷ [])) (name ∷ []) index
+touch_still stays hands es e t name index legal other concerned named was =
+    subst (λ (w : List ℕ). IsRightBut (missing (es ++ e ∷ [])) (w ∷ []) index) (sym named)
+    (stays (missing es) (missing (es ++ e ∷ [])) (t ∷ []) index was.right
+    (λ target apart. (hands es e legal).targets target
+    (ap (is_among target.work.text) (touch_moves es e t other concerned) ∙ by target.work.text (touched_day es e) apart)))
+  where
+    by : (w : List ℕ) (day : Option ℕ) → is_among w (t ∷ []) ≡ false → is_among w (map (λ touched. touched.0) (with_day (Some t) day)) ≡ false
+    by w None apart = refl
+    by w (Some day) apart = apart
 
 -- and how many references are judged at most
 pub touch_judged : (es : List Entry) (e : Entry) (t name : List ℕ) (known : Known) (index : Kept) → act_of e.command ≡ None
@@ -209,7 +235,11 @@ module _ (hands : Hands) (es : List Entry) (e : Entry) (t : List ℕ) (legal : i
     right = index_stays (missing es) (missing (es ++ e ∷ [])) (as_before before) index ∙ was.right;
   }
 
--- in an index of no works no reference is judged again
+-- in an index of no works nothing is wrong
+pub opened_still : (answers : Answers) (moved : List (List ℕ)) (index : Kept) → index ≡ [] → IsRightBut answers moved index
+opened_still answers moved index empty = subst (IsRightBut answers moved) (sym empty) refl
+
+-- and no reference is judged again
 pub opened_steps : (rows : List RefRow) (none : List (List ℕ)) (index : Kept) → none ≡ [] → index ≡ [] → revision_steps none rows index ≡ refs_in rows
 opened_steps rows none index is empty = ap₂ (λ (m : List (List ℕ)) (i : Kept). revision_steps m rows i) is empty ∙ alone (refs_in rows)
   where

@@ -19,7 +19,8 @@ use crate::references::{refs_enacted, refs_revised};
 use desk_base::{Memory, Steps};
 use frbr_names::WorkName;
 use law_refs::laws::{
-    an_entry_hands_in, revision_follows_the_register, what_moves_no_work_leaves_the_index,
+    an_entry_hands_in, revision_follows_the_register, what_did_not_move_stays_right,
+    what_moves_no_work_leaves_the_index,
 };
 use law_refs::{RefIndex, RefRevision};
 use law_register::laws::entries_are_legal;
@@ -129,6 +130,7 @@ fn enacting<L: Ledger>(
     entries_are_legal(register);
     an_entry_hands_in();
     revision_follows_the_register();
+    what_did_not_move_stays_right();
     let work = act.work.copy()?;
     let kept = make_enacted(alloc, register, entry, act, steps)?;
     let enacted = (work, kept);
@@ -200,6 +202,7 @@ fn revising<L: Ledger>(
     entries_are_legal(register);
     an_entry_hands_in();
     revision_follows_the_register();
+    what_did_not_move_stays_right();
     what_moves_no_work_leaves_the_index();
     let name = work.copy()?;
     let revised = Vec::with_capacity(alloc, 1)?;

@@ -6,6 +6,7 @@ ghost use Rattle.law_refs.specs.Handing.{judged_at_opening, rows_made, rows_open
 ghost use Rattle.law_refs.specs.Index.{revised as index_revised, revision_steps};
 ghost use Rattle.law_refs.specs.Missing.{missing};
 ghost use Rattle.law_refs.specs.OfRegister.{IsIndexOf};
+ghost use Rattle.law_refs.specs.Right.{IsRightBut};
 ghost use Rattle.version_cache.specs.Seen.{work_revision_view, work_view};
 ghost use Rattle.version_cache.specs.Works.{AreRevisionsOf, IsFor, renewed, work_of, work_revision_of};
 ghost use Rattle.law_office.specs.Line.{AreInLine};
@@ -45,6 +46,7 @@ fn revise_index<L: Ledger>(
     targets: &TargetsAfter<'_>,
     steps: &mut Steps<L>,
 ) -> Result<RefRevision, Memory>
+    requires { IsRightBut (missing targets.now) (work.now ∷ []) index.now }
     ensures revision { IfOk result
         (λ revision. revision ≡ index_revised (missing targets.now) (work.now ∷ []) rows.now index.now) }
     ensures steps { steps.new ≤ steps.old + revision_steps (work.now ∷ []) rows.now index.now }
@@ -65,6 +67,7 @@ pub(crate) fn refs_enacted<L: Ledger>(
 ) -> Result<RefRevision, Memory>
     requires after { AreAfter (register.now.entries ++ entry.now ∷ []) (Some (enacted_view enacted.now)) None (kept_in tables.now) }
     requires made { work_view enacted.now.1 ≡ work_of (work_view enacted.now.1).known }
+    requires still { IsRightBut (missing (register.now.entries ++ entry.now ∷ [])) (enacted.now.0 ∷ []) index.now }
     ensures revision { IfOk result (λ revision. revision ≡ spec.index_enacted (register.now.entries ++ entry.now ∷ [])
         enacted.now.0 (work_view enacted.now.1).known index.now) }
     ensures steps { steps.new ≤ steps.old
@@ -94,6 +97,7 @@ fn refs_touched<L: Ledger>(
         (renewed (work_view kept.now) (work_revision_view revised.now.1)) }
     requires made { work_revision_view revised.now.1
         ≡ work_revision_of (work_view kept.now) (work_revision_view revised.now.1).known (Some day) }
+    requires still { IsRightBut (missing (register.now.entries ++ entry.now ∷ [])) (revised.now.0 ∷ []) index.now }
     ensures revision { IfOk result (λ revision. Some revision ≡ spec.index_touched (register.now.entries ++ entry.now ∷ [])
         revised.now.0 (work_revision_view revised.now.1).known (Some day) index.now) }
     ensures steps { steps.new ≤ steps.old
@@ -132,6 +136,7 @@ pub(crate) fn refs_revised<L: Ledger>(
         (renewed (work_view kept.now) (work_revision_view revised.now.1)) }
     requires made { work_revision_view revised.now.1 ≡ work_revision_of (work_view kept.now)
         (work_revision_view revised.now.1).known (spec.touched_in (work_revision_view revised.now.1)) }
+    requires still { IsRightBut (missing (register.now.entries ++ entry.now ∷ [])) (revised.now.0 ∷ []) index.now }
     ensures revision { IfOk result (λ revision. revision ≡ spec.index_touched (register.now.entries ++ entry.now ∷ [])
         revised.now.0 (work_revision_view revised.now.1).known (spec.touched_in (work_revision_view revised.now.1)) index.now) }
     ensures steps { steps.new ≤ steps.old + spec.touched_steps revised.now.0

@@ -70,7 +70,7 @@ module _ (before after : Answers) (moved : List (List ℕ)) (agree : AnswerAsBef
   unfolding again_work anew_work
   work_again kept = ap (with_rows kept) (rows_again kept.rows)
 
-  index_again : (index : Kept) → all_again after moved (anew before index) ≡ anew after index
+  pub index_again : (index : Kept) → all_again after moved (anew before index) ≡ anew after index
   index_again [] = refl
   index_again (of_work ∷ index) =
       ap (λ kept. (of_work.0, kept) ∷ all_again after moved (anew before index)) (work_again of_work.1)
@@ -98,7 +98,7 @@ module _ (answers : Answers) where
   unfolding staying anew_work
   staying_anew given work kept = ap (with_rows kept) (stay_anew (first_day work given) kept.rows)
 
-  all_staying_anew : (given : List RefRow) (index : Kept) → all_staying given (anew answers index) ≡ anew answers (all_staying given index)
+  pub all_staying_anew : (given : List RefRow) (index : Kept) → all_staying given (anew answers index) ≡ anew answers (all_staying given index)
   all_staying_anew given [] = refl
   all_staying_anew given (of_work ∷ index) =
       ap (λ kept. (of_work.0, kept) ∷ all_staying given (anew answers index)) (staying_anew given of_work.0 of_work.1)
@@ -122,7 +122,7 @@ module _ (answers : Answers) where
   unfolding anew_work
   work_twice kept = ap (with_rows kept) (rows_twice kept.rows)
 
-  twice : (index : Kept) → anew answers (anew answers index) ≡ anew answers index
+  pub twice : (index : Kept) → anew answers (anew answers index) ≡ anew answers index
   twice [] = refl
   twice (of_work ∷ index) =
       ap (λ kept. (of_work.0, kept) ∷ anew answers (anew answers index)) (work_twice of_work.1)
@@ -139,7 +139,7 @@ module _ (answers : Answers) where
   unfolding anew_row day_row
   row_new row = ap (λ refs. with_refs (day_row answers row) refs) (refs_new row.refs)
 
-  behind_anew : (row : RefRow) (kept : Option WorkRefs) → anew_work answers (with_row_behind row.act_day (day_row answers row) kept)
+  pub behind_anew : (row : RefRow) (kept : Option WorkRefs) → anew_work answers (with_row_behind row.act_day (day_row answers row) kept)
       ≡ with_row_behind row.act_day (day_row answers row) (option_map (anew_work answers) kept)
   unfolding anew_work
   behind_anew row None = ap (λ (one : DayRefs). with_rows (with_row_behind row.act_day (day_row answers row) None) (one ∷ [])) (row_new row)
@@ -162,7 +162,7 @@ module _ (answers : Answers) where
       by Equal rest = refl
       by Greater rest = ap (λ left. (of_work.0, anew_work answers of_work.1) ∷ left) rest
 
-  put_anew : (index : Kept) (row : RefRow) → anew answers (put answers index row) ≡ put answers (anew answers index) row
+  pub put_anew : (index : Kept) (row : RefRow) → anew answers (put answers index row) ≡ put answers (anew answers index) row
   unfolding put
   put_anew index row =
       insert_anew index row.work (with_row_behind row.act_day (day_row answers row) (kept_of row.work index))

@@ -131,13 +131,12 @@ cover_behind answers names rows from refs covered =
     (and_from _ _ (all_noted_covers answers names refs) refl)
 
 -- the same, where what is noted is begun in memory of its own
-pub cover_extended : (answers : Answers) (targets start now : List (List ℕ)) (rows copied longer : List DayRefs) (from : Option ℕ) (refs : List NodeRef)
-    (kept : List JudgedRef) → start ≡ with_names [] targets → now ≡ all_noted start refs → kept ≡ map (judged answers) refs → copied ≡ rows
-    → longer ≡ copied ++ record { from = from; refs = kept } ∷ [] → cover targets rows ≡ true → cover now longer ≡ true
-cover_extended answers targets start now rows copied longer from refs kept begun noted is same behind covered =
-    ap (λ names. cover names longer) (noted ∙ ap (λ names. all_noted names refs) begun)
-    ∙ ap (cover (all_noted (with_names [] targets) refs))
-    (behind ∙ ap₂ (λ (rs : List DayRefs) (js : List JudgedRef). rs ++ record { from = from; refs = js } ∷ []) same is)
+pub cover_judged : (answers : Answers) (targets start now : List (List ℕ)) (rows : List DayRefs) (from : Option ℕ) (refs : List NodeRef) (kept : List JudgedRef)
+    → start ≡ with_names [] targets → now ≡ all_noted start refs → kept ≡ map (judged answers) refs → cover targets rows ≡ true
+    → cover now (rows ++ record { from = from; refs = kept } ∷ []) ≡ true
+cover_judged answers targets start now rows from refs kept begun noted is covered =
+    ap₂ (λ (names : List (List ℕ)) (js : List JudgedRef). cover names (rows ++ record { from = from; refs = js } ∷ []))
+    (noted ∙ ap (λ names. all_noted names refs) begun) is
     ∙ cover_behind answers (with_names [] targets) rows from refs
     (cover_more targets (with_names [] targets) (λ iri found. copied_covers iri targets found) rows covered)
 

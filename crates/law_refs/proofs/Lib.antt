@@ -10,5 +10,6 @@ mod Latest
 mod Opening
 mod Resting
 mod Revised
+mod Sharing
 mod Texts
 mod Unmoved

@@ -1,5 +1,6 @@
 -- References, judged: each with the rule that its target breaks.
-use Rattle.std.specs.Prelude.{ℕ, Bool, false, List, Option, None, Ok, Err, if◌then◌else◌}
+use Rattle.std.specs.Prelude.{ℕ, Bool, true, false, ◌&&◌, List, [], ◌∷◌, Option, None, Ok, Err, if◌then◌else◌}
+use Rattle.std.specs.Str.{bytes_eq}
 use Rattle.frbr_names.specs.Expressions.{Expression, expression_of}
 use Rattle.frbr_names.specs.Reads.{Read}
 use Rattle.law_refs.specs.Names.{is_among}
@@ -39,3 +40,14 @@ cause_now answers moved kept = if names_one moved kept.iri then cause_of answers
 -- a reference that was judged before these works moved, with what breaks its target now
 unfoldable pub judged_again : Answers → List (List ℕ) → JudgedRef → JudgedRef
 judged_again answers moved kept = record { eid = kept.eid; iri = kept.iri; cause = cause_now answers moved kept }
+
+-- a reference that was judged is this one of a text
+unfoldable pub is_that : JudgedRef → NodeRef → Bool
+is_that kept one = bytes_eq kept.eid one.eid && bytes_eq kept.iri one.iri
+
+-- references that were judged are those of a text, in its order
+abbrev pub are_those : List JudgedRef → List NodeRef → Bool
+are_those [] [] = true
+are_those [] (one ∷ refs) = false
+are_those (kept ∷ others) [] = false
+are_those (kept ∷ others) (one ∷ refs) = is_that kept one && are_those others refs

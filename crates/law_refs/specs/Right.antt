@@ -3,7 +3,7 @@ use Rattle.std.specs.Prelude.{◌≡◌, ℕ, nat_le, false, List, [], ◌∷◌
 use Rattle.std.specs.Option.{option_map_or}
 use Rattle.std.specs.Str.{bytes_eq}
 use Rattle.frbr_names.specs.Expressions.{Expression}
-use Rattle.law_refs.specs.Index.{Kept, kept_of}
+use Rattle.law_refs.specs.Index.{Kept, all_again, kept_of}
 use Rattle.law_refs.specs.Judging.{Answers, cause_of}
 use Rattle.law_refs.specs.Listed.{listed}
 use Rattle.law_refs.specs.Names.{is_among}
@@ -33,6 +33,10 @@ anew answers index = map (λ of_work. (of_work.0, anew_work answers of_work.1)) 
 -- an index is right: to judge all of its references anew changes none
 abbrev pub IsRight : Answers → Kept → Type 0
 IsRight answers index = anew answers index ≡ index
+
+-- an index is right but for what refers to works that moved: once that is judged again, all of it is right
+abbrev pub IsRightBut : Answers → List (List ℕ) → Kept → Type 0
+IsRightBut answers moved index = all_again answers moved index ≡ anew answers index
 
 -- all targets are answered as before, but for those of works that moved
 abbrev pub AnswerAsBefore : Answers → Answers → List (List ℕ) → Type 0

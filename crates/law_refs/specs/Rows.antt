@@ -1,5 +1,6 @@
 -- The rows of a work: its references from a day on.
-use Rattle.std.specs.Prelude.{ℕ, Bool, true, false, nat_lt, nat_le, List, [], ◌∷◌, map, filter, Option, Some, None, if◌then◌else◌}
+use Rattle.std.specs.Prelude.{ℕ, ◌-◌, Bool, true, false, nat_lt, nat_le, List, [], ◌∷◌, length, map, filter, Option, Some, None, option_map, if◌then◌else◌}
+use Rattle.std.specs.List.{slice_get}
 use Rattle.law_refs.specs.Judging.{Answers, judged, judged_again}
 use Rattle.law_refs.specs.declared.node_ref.JudgedRef.{JudgedRef}
 use Rattle.law_refs.specs.declared.ref_row.DayRefs.{DayRefs}
@@ -30,6 +31,10 @@ latest day found (row ∷ rows) = latest day (if has_begun row.from day then row
 -- the references of a work on a day: those of the last row that has begun
 abbrev pub refs_on : ℕ → List DayRefs → List JudgedRef
 refs_on day rows = latest day [] rows
+
+-- the references of the last row, if there is one
+unfoldable pub last_refs : List DayRefs → Option (List JudgedRef)
+last_refs rows = option_map (λ row. row.refs) (slice_get rows (length rows - 1))
 
 -- a row as it is kept
 unfoldable pub day_row : Answers → RefRow → DayRefs

@@ -93,6 +93,34 @@ fn cause_noting<T: Targets, L: Ledger>(
     }
 }
 
+// Whether a reference that was judged is this one of a text.
+#[tactic(auto, unfolding(crate::specs::Judging::is_that))]
+fn is_that(kept: &JudgedRef, one: &NodeRef) -> bool
+    ensures { result ≡ spec.is_that kept.now one.now }
+{
+    kept.eid == one.eid && kept.iri == one.iri
+}
+
+/// Whether references that were judged are those of a text, in its order.
+pub fn are_those(kept: &[JudgedRef], refs: &[NodeRef]) -> bool
+    ensures { result ≡ spec.are_those kept.now refs.now }
+{
+    let mut left = kept;
+    for one in refs {
+        let [first, rest @ ..] = left else {
+            return false;
+        };
+        if !is_that(first, one) {
+            return false;
+        }
+        left = rest;
+    }
+    match left {
+        [] => true,
+        [_first, ..] => false,
+    }
+}
+
 #[tactic(auto, unfolding(crate::specs::Judging::judged))]
 fn judge<T: Targets, L: Ledger>(
     alloc: Global,

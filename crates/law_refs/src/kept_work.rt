@@ -1,15 +1,19 @@
 //! KeptWork: what is kept of a work. A clause sees its rows, and not the works that are noted as those which its references name.
 
-ghost use Rattle.std.specs.Prelude.{◌≡◌, ◌+◌, ◌≤◌, ◌∷◌, ◌++◌, [], map, length, true, false, IfOk, OnOk};
+ghost use Rattle.std.specs.Prelude.{◌≡◌, ◌+◌, ◌≤◌, ◌∷◌, ◌++◌, [], map, length, true, false, Some, IfOk, IfSome, OnOk};
+ghost use Rattle.std.specs.Arc.{arc_value};
 ghost use Rattle.std.specs.List.{list_any};
 ghost use Rattle.law_refs.specs.Covering as covering;
 ghost use Rattle.law_refs.specs.Covering.{are_still};
 ghost use Rattle.law_refs.specs.Index.{moved_in_rows};
+ghost use Rattle.law_refs.specs.Judging as judging;
 ghost use Rattle.law_refs.specs.Names.{is_among};
+ghost use Rattle.law_refs.specs.Right.{anew_work};
 ghost use Rattle.law_refs.specs.Rows as spec;
+ghost use Rattle.law_refs.specs.Rows.{last_refs};
 
-use crate::judging::{judge_all, judge_all_again};
-use crate::{DayRefs, RefList, RefRow, Targets, WorkRefs, Works};
+use crate::judging::{are_those, judge_all, judge_all_again};
+use crate::{DayRefs, JudgedRef, RefList, RefRow, SharedList, Targets, WorkRefs, Works};
 use desk_base::{Day, Memory, Steps};
 use frbr_names::WorkName;
 use std::alloc::Global;
@@ -143,10 +147,74 @@ fn has_one(noted: &Works, works: &[WorkName]) -> bool
     false
 }
 
-// What is kept of a work with these rows, and one more behind them, judged. The works that its references name are noted with those
-// that are.
+// What was judged of the last of these rows, if its references are those of this one.
+#[tactic(auto, unfolding(crate::specs::Rows::last_refs))]
+fn judged_before<'a>(rows: &'a [DayRefs], row: &RefRow) -> Option<&'a SharedList<JudgedRef>>
+    ensures last { IfSome result (λ list. last_refs rows.now ≡ Some list.now) }
+    ensures those { IfSome result (λ list. judging.are_those list.now row.now.refs ≡ true) }
+{
+    let last = rows.last()?;
+    if are_those(last.refs.as_slice(), row.refs.as_slice()) {
+        Some(&last.refs)
+    } else {
+        None
+    }
+}
+
+// These rows and one more behind them, of which these references were judged.
+fn with_judged(
+    alloc: Global,
+    rows: &[DayRefs],
+    row: &RefRow,
+    judged: SharedList<JudgedRef>,
+    noted: Arc<Works>,
+) -> Result<KeptWork, Memory>
+    requires { covering.cover (arc_value noted) (rows.now ++ record { from = row.now.from; refs = judged } ∷ []) ≡ true }
+    ensures { IfOk result (λ kept. kept ≡ record {
+      act_day = row.now.act_day;
+      rows = rows.now ++ record { from = row.now.from; refs = judged } ∷ [];
+    }) }
+{
+    let mut all = copy_rows(alloc, rows)?;
+    all.push(DayRefs {
+        from: row.from,
+        refs: judged,
+    })?;
+    let refs = WorkRefs {
+        act_day: row.act_day,
+        rows: all,
+    };
+    Ok(KeptWork {
+        refs: Arc::new(alloc, refs)?,
+        targets: noted,
+    })
+}
+
+// These rows and one more behind them, which shares what was judged of the last.
+#[tactic(auto, using(crate::proofs::Sharing::shared_covers))]
+fn shared_behind(
+    alloc: Global,
+    rows: &[DayRefs],
+    named: &Arc<Works>,
+    row: &RefRow,
+    judged: &SharedList<JudgedRef>,
+) -> Result<KeptWork, Memory>
+    requires cover { covering.cover (arc_value named.now) rows.now ≡ true }
+    requires last { last_refs rows.now ≡ Some judged.now }
+    ensures { IfOk result (λ kept. kept ≡ record {
+      act_day = row.now.act_day;
+      rows = rows.now ++ record { from = row.now.from; refs = judged.now } ∷ [];
+    }) }
+{
+    let shared = judged.copy()?;
+    let noted = named.clone()?;
+    with_judged(alloc, rows, row, shared, noted)
+}
+
+// What is kept of a work with these rows, and one more behind them, all of whose references are judged. The works that they name are
+// noted with those that are.
 #[tactic(auto, unfolding(crate::specs::Rows::day_row))]
-fn extended<T: Targets, L: Ledger>(
+fn judged_behind<T: Targets, L: Ledger>(
     alloc: Global,
     targets: &T,
     rows: &[DayRefs],
@@ -163,19 +231,8 @@ fn extended<T: Targets, L: Ledger>(
 {
     let mut noted = copy_works(alloc, named)?;
     let judged = judge_all(alloc, targets, row.refs.as_slice(), &mut noted, steps)?;
-    let mut copied = copy_rows(alloc, rows)?;
-    copied.push(DayRefs {
-        from: row.from,
-        refs: judged,
-    })?;
-    let refs = WorkRefs {
-        act_day: row.act_day,
-        rows: copied,
-    };
-    Ok(KeptWork {
-        refs: Arc::new(alloc, refs)?,
-        targets: Arc::new(alloc, noted)?,
-    })
+    let shared = Arc::new(alloc, noted)?;
+    with_judged(alloc, rows, row, judged, shared)
 }
 
 impl KeptWork {
@@ -193,10 +250,11 @@ impl KeptWork {
         ensures steps { steps.new ≤ steps.old + length row.now.refs }
     {
         let none = Works::new(alloc);
-        extended(alloc, targets, &[], &none, row, steps)
+        judged_behind(alloc, targets, &[], &none, row, steps)
     }
 
-    /// The same with a row behind the others, which is judged.
+    /// The same with a row behind the others. Where its references are those of the last row, nothing is judged: they share what is
+    /// kept of these.
     pub fn with_row<T: Targets, L: Ledger>(
         &self,
         alloc: Global,
@@ -204,6 +262,7 @@ impl KeptWork {
         row: &RefRow,
         steps: &mut Steps<L>,
     ) -> Result<KeptWork, Memory>
+        requires { anew_work (T.broken_rule targets.now) self.now ≡ self.now }
         ensures kept { IfOk result (λ kept. kept ≡ record {
           act_day = row.now.act_day;
           rows = self.now.rows ++ spec.day_row (T.broken_rule targets.now) row.now ∷ [];
@@ -211,7 +270,10 @@ impl KeptWork {
         ensures steps { steps.new ≤ steps.old + length row.now.refs }
     {
         let rows = self.refs.rows.as_slice();
-        extended(alloc, targets, rows, &self.targets, row, steps)
+        match judged_before(rows, row) {
+            Some(judged) => shared_behind(alloc, rows, &self.targets, row, judged),
+            None => judged_behind(alloc, targets, rows, &self.targets, row, steps),
+        }
     }
 
     /// The same, shared.

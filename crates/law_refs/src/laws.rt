@@ -14,7 +14,7 @@ ghost use Rattle.law_refs.specs.Judging.{Answers};
 ghost use Rattle.law_refs.specs.Listed.{dangling_on};
 ghost use Rattle.law_refs.specs.Missing.{IsDangling, missing};
 ghost use Rattle.law_refs.specs.OfRegister.{FollowsChange, IsIndexOf};
-ghost use Rattle.law_refs.specs.Right.{AnswerAsBefore, IsRight, broken_on, rows_for, rows_of};
+ghost use Rattle.law_refs.specs.Right.{AnswerAsBefore, IsRight, IsRightBut, broken_on, rows_for, rows_of};
 ghost use Rattle.law_refs.specs.Rows.{again_row};
 ghost use Rattle.law_refs.specs.declared.ref_row.RefRow.{RefRow};
 
@@ -24,6 +24,13 @@ use crate::RefIndex;
 pub fn revision_is_right()
     ensures { (before after : Answers) (moved : List (List ℕ)) (rows : List RefRow) (index : Kept)
         → IsRight before index → AnswerAsBefore before after moved → IsRight after (revised after moved rows index) }
+{}
+
+/// Of a right index all is right but what refers to works that moved, where all other targets are answered as before: what a revision of it
+/// requires.
+pub fn what_did_not_move_stays_right()
+    ensures { (before after : Answers) (moved : List (List ℕ)) (index : Kept)
+        → IsRight before index → AnswerAsBefore before after moved → IsRightBut after moved index }
 {}
 
 /// Of a right index those references dangle whose target breaks a rule, and no others.

@@ -1,9 +1,10 @@
 //! Revising an index: what is handed in of a work takes the place of what is kept of it from a day on, and of what stays only those
 //! references are judged again whose target is of a work that moved.
 
-ghost use Rattle.std.specs.Prelude.{◌≡◌, ◌+◌, ◌≤◌, length, IfOk, OnOk};
+ghost use Rattle.std.specs.Prelude.{◌≡◌, ◌+◌, ◌≤◌, length, IfOk, IfSome, OnOk};
 ghost use Rattle.std.specs.Option.{option_copied};
 ghost use Rattle.law_refs.specs.Index as spec;
+ghost use Rattle.law_refs.specs.Right.{IsRight, IsRightBut, anew_work};
 ghost use Rattle.law_refs.specs.Rows.{again_work, day_row};
 
 use crate::kept_work::KeptWork;
@@ -92,6 +93,7 @@ fn with_row<T: Targets, L: Ledger>(
     row: &RefRow,
     steps: &mut Steps<L>,
 ) -> Result<KeptWork, Memory>
+    requires { IfSome (option_copied kept) (λ kept. anew_work (T.broken_rule targets.now) kept ≡ kept) }
     ensures kept { IfOk result (λ now. now
         ≡ spec.with_row_behind row.now.act_day (day_row (T.broken_rule targets.now) row.now) (option_copied kept.entry)) }
     ensures steps { steps.new ≤ steps.old + length row.now.refs }
@@ -110,7 +112,9 @@ fn put<T: Targets, L: Ledger>(
     row: &RefRow,
     steps: &mut Steps<L>,
 ) -> Result<(), Memory>
+    requires { IsRight (T.broken_rule targets.now) works.old.entries }
     ensures works { OnOk result (works.new.entries ≡ spec.put (T.broken_rule targets.now) works.old.entries row.now) }
+    ensures right { OnOk result (IsRight (T.broken_rule targets.now) works.new.entries) }
     ensures steps { steps.new ≤ steps.old + length row.now.refs }
 {
     let now = with_row(alloc, targets, works.get(&row.work), row, steps)?;
@@ -125,6 +129,7 @@ fn put_all<T: Targets, L: Ledger>(
     rows: &[RefRow],
     steps: &mut Steps<L>,
 ) -> Result<(), Memory>
+    requires { IsRight (T.broken_rule targets.now) works.old.entries }
     ensures works { OnOk result
         (works.new.entries ≡ spec.put_all (T.broken_rule targets.now) works.old.entries rows.now) }
     ensures steps { steps.new ≤ steps.old + spec.refs_in rows.now }
@@ -137,7 +142,7 @@ fn put_all<T: Targets, L: Ledger>(
 
 impl RefIndex {
     /// What the index is to be once these works moved and these rows are handed in.
-    #[tactic(auto, unfolding(crate::specs::Index::revised))]
+    #[tactic(auto, using(crate::proofs::Sharing::stays_right), unfolding(crate::specs::Index::revised))]
     pub fn revise<T: Targets, L: Ledger>(
         &self,
         alloc: Global,
@@ -146,6 +151,7 @@ impl RefIndex {
         targets: &T,
         steps: &mut Steps<L>,
     ) -> Result<RefRevision, Memory>
+        requires { IsRightBut (T.broken_rule targets.now) moved.now self.now }
         ensures index { IfOk result
             (λ index. index ≡ spec.revised (T.broken_rule targets.now) moved.now rows.now self.now) }
         ensures steps { steps.new ≤ steps.old + spec.revision_steps moved.now rows.now self.now }

@@ -3,7 +3,7 @@ use Rattle.version_cache.specs.Seen.{work_view}
 use Rattle.law_office.specs.Tables.{kept_in}
 use Rattle.law_office.proofs.After.{after_enacted, legal_then}
 use Rattle.law_office.proofs.Following.{enact_changes}
-use Rattle.law_office.proofs.Indexing.{enact_index, enact_judged}
+use Rattle.law_office.proofs.Indexing.{enact_index, enact_judged, enact_still}
 use Rattle.law_office.proofs.changes.enacting.Goals as goal
 
 pub refs_enacted-requires-clause-after : goal.refs_enacted-requires-clause-after
@@ -12,6 +12,13 @@ refs_enacted-requires-clause-after g c =
     let e = c.args.entry.now in
     after_enacted es e (kept_in c.args.tables.now) c.args.act.now c.in_ok-work.work (work_view c.in_ok-kept.kept)
     (legal_then es e c.entries_are_legal.ensures c.requires.accepted) c.requires.right c.requires.enacts c.in_ok-work.ensures c.in_ok-kept.ensures.right
+
+pub refs_enacted-requires-clause-still : goal.refs_enacted-requires-clause-still
+refs_enacted-requires-clause-still g c =
+    let es = c.args.register.now.entries in
+    let e = c.args.entry.now in
+    enact_still c.what_did_not_move_stays_right.ensures c.an_entry_hands_in.ensures es e c.args.act.now c.in_ok-work.work c.args.index.now
+    (legal_then es e c.entries_are_legal.ensures c.requires.accepted) c.requires.enacts c.in_ok-work.ensures c.requires.index
 
 pub returns-in-Ok-clause-changes : goal.returns-in-Ok-clause-changes
 returns-in-Ok-clause-changes g c =

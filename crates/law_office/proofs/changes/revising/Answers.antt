@@ -8,7 +8,7 @@ use Rattle.law_office.specs.References.{index_touched, touched_in, touched_steps
 use Rattle.law_office.specs.Tables.{Matches, kept_in}
 use Rattle.law_office.proofs.After.{after_revised, legal_then}
 use Rattle.law_office.proofs.Following.{revise_changes}
-use Rattle.law_office.proofs.Indexing.{touch_index, touch_judged, touched_same}
+use Rattle.law_office.proofs.Indexing.{touch_index, touch_judged, touch_still, touched_same}
 use Rattle.law_office.proofs.changes.revising.Goals as goal
 
 pub revise-requires-clause-right : goal.revise-requires-clause-right
@@ -37,6 +37,13 @@ refs_revised-requires-clause-made g c =
     let day = touched_day c.args.register.now.entries c.args.entry.now in
     c.in_ok-revision.ensures.made
     ∙ ap (work_revision_of kept revision.known) (sym (touched_same kept revision revision.known day c.in_ok-revision.ensures.made))
+
+pub refs_revised-requires-clause-still : goal.refs_revised-requires-clause-still
+refs_revised-requires-clause-still g c =
+    let es = c.args.register.now.entries in
+    let e = c.args.entry.now in
+    touch_still c.what_did_not_move_stays_right.ensures c.an_entry_hands_in.ensures es e c.args.work.now c.in_ok-name.name c.args.index.now
+    (legal_then es e c.entries_are_legal.ensures c.requires.accepted) c.requires.other c.requires.concerned c.in_ok-name.ensures c.requires.index
 
 pub returns-in-Ok-clause-changes : goal.returns-in-Ok-clause-changes
 returns-in-Ok-clause-changes g c =

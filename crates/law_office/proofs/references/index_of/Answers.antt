@@ -7,8 +7,11 @@ use Rattle.law_refs.specs.Missing.{missing}
 use Rattle.law_refs.specs.OfRegister.{IsIndexOf}
 use Rattle.law_refs.specs.declared.ref_row.RefRow.{RefRow}
 use Rattle.law_office.proofs.InLine.{all_in_line}
-use Rattle.law_office.proofs.Indexing.{opened_steps}
+use Rattle.law_office.proofs.Indexing.{opened_steps, opened_still}
 use Rattle.law_office.proofs.references.index_of.Goals as goal
+
+pub revise-requires : goal.revise-requires
+revise-requires g c = opened_still (missing c.now-targets.result) c.new-none.result c.new-index.result c.new-index.ensures
 
 pub returns-clause-index : goal.returns-clause-index
 unfolding revised
