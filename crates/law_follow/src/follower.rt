@@ -102,7 +102,10 @@ impl<'a, K: Keeper> Follower<'a, K> {
         ensures cause { HasTakeCause (K.faults self.old.keeper) (K.faults self.new.keeper) result }
         ensures origin { self.new.origin ≡ self.old.origin }
     {
-        taking::take(alloc, self.keeper, &mut self.replica, number, payload)
+        match Vec::from_slice(alloc, payload) {
+            Ok(payload) => taking::take(alloc, self.keeper, &mut self.replica, number, payload),
+            Err(_) => Err(TakeFault::Memory),
+        }
     }
 
     /// What stands between a follower and its keeper at each moment between two calls. The keeper's list is the payloads,

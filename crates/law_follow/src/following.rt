@@ -77,8 +77,7 @@ fn take_frame<K: Keeper>(
     ensures cause { spec.HasKeeperCause (K.holding keeper.old) (K.faults keeper.old) (K.faults keeper.new) result }
 {
     let Frame { number, payload } = frame;
-    let taken = take(alloc, keeper, replica, number, payload.as_slice());
-    drop(payload);
+    let taken = take(alloc, keeper, replica, number, payload);
     answer_to(number, taken)
 }
 

@@ -62,13 +62,13 @@ fn entry_at(register: &Register, index: usize) -> Option<&Entry> {
     }
 }
 
-/// The last entry, if there is one.
-pub(crate) fn last_entry(register: &Register) -> Option<&Entry> {
+// The last entry, if there is one.
+fn last_entry(register: &Register) -> Option<&Entry> {
     entry_at(register, register.len().saturating_sub(1))
 }
 
-/// The work from which the modification of a command comes, if it brings one.
-pub(crate) fn source_of(command: &Command) -> Option<&WorkName> {
+// The work from which the modification of a command comes, if it brings one.
+fn source_of(command: &Command) -> Option<&WorkName> {
     let (Command::Correct { body, .. } | Command::DraftAdd { body, .. }) = command else {
         return None;
     };
@@ -76,6 +76,14 @@ pub(crate) fn source_of(command: &Command) -> Option<&WorkName> {
         Modification::Textual { source, .. }
         | Modification::Force { source, .. }
         | Modification::Efficacy { source, .. } => Some(&source.href),
+    }
+}
+
+/// The index of the last entry with a source, where it was this one before the entry at the end came.
+pub(crate) fn last_source(register: &Register, before: usize) -> usize {
+    match last_entry(register) {
+        Some(entry) if source_of(&entry.command).is_some() => register.len().saturating_sub(1),
+        _ => before,
     }
 }
 

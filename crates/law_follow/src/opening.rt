@@ -9,7 +9,7 @@ ghost use Rattle.law_follow.specs.Opening as spec;
 ghost use Rattle.law_follow.specs.Opening.{HasOpenCause, IsOfPayload, Opens, StaysUnlessFailed, opened_of, with_payload};
 ghost use Rattle.law_follow.specs.Replicas.{Holds, HoldsReplica, IsDamageOf, IsRight};
 
-use crate::judging::{last_entry, next_entry, source_of};
+use crate::judging::{last_source, next_entry};
 use crate::replica::Replica;
 use crate::unfit::Unfit;
 use desk_base::Memory;
@@ -72,14 +72,6 @@ fn add_payload(
     }
 }
 
-// The index of the last entry with a source, where it was this one before the entry at the end came.
-fn last_source(register: &Register, before: usize) -> usize {
-    match last_entry(register) {
-        Some(entry) if source_of(&entry.command).is_some() => register.len().saturating_sub(1),
-        _ => before,
-    }
-}
-
 // Loads one payload after another into one buffer, and appends the entry that each spells. It gives the cursor of their
 // end.
 fn load_entries<K: Keeper>(
@@ -131,11 +123,15 @@ impl Replica {
         keeper.reopen(alloc)?;
         let mut register = Register::new(alloc);
         match load_entries(alloc, keeper, &mut register) {
-            Ok(end) => Ok(Replica {
-                register,
-                end,
-                pending: None,
-            }),
+            Ok(end) => {
+                let like = register.len().saturating_sub(1);
+                Ok(Replica {
+                    register,
+                    end,
+                    like,
+                    pending: None,
+                })
+            }
             Err(fault) => {
                 drop(register);
                 Err(fault)

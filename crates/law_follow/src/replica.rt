@@ -5,6 +5,7 @@ ghost use Rattle.std.specs.Prelude.{◌≡◌, ◌≤◌, ◌∷◌, ◌++◌, [
 ghost use Rattle.law_follow.specs.Replicas.{IsPendingOn, IsRight, payloads_of, pending_of};
 ghost use Rattle.law_follow.specs.Taking.{resolved, resolved_end};
 
+use crate::judging::last_source;
 use desk_base::Memory;
 use law_register::{Entry, Register};
 
@@ -24,6 +25,8 @@ pub struct Replica {
     pub register: Register,
     /// The keeper's cursor of the end of these entries.
     pub end: u64,
+    /// The index of an entry whose source may come again: mostly that of the last one with a source.
+    pub like: usize,
     /// What is pending behind them.
     pub pending: Option<Pending>,
 }
@@ -54,6 +57,7 @@ impl Replica {
     {
         let Pending { entry, payload: _ } = pending;
         self.register.push(entry);
+        self.like = last_source(&self.register, self.like);
         self.end = end;
     }
 

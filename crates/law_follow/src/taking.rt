@@ -17,11 +17,11 @@ use desk_base::{LoadFault, Memory};
 use entry_codec::encode;
 use entry_codec::laws::spelling_has_its_size;
 use law_keeper::{KeepFault, Keeper, settle};
+use law_register::Register;
 use law_register::laws::{
     accepted_are_small, accepted_can_be_spelled, entries_are_few, entries_are_legal,
     entries_are_well_spelled, entries_can_be_spelled,
 };
-use law_register::{Entry, Register};
 use std::alloc::Global;
 
 // Gives a replica the payload of a number. What is pending is settled first.
@@ -30,12 +30,12 @@ pub(crate) fn take<K: Keeper>(
     keeper: &mut K,
     replica: &mut Replica,
     number: u64,
-    payload: &[u8],
+    payload: Vec<u8>,
 ) -> Result<Taken, TakeFault>
     requires number { 1 ≤ number }
     requires right { IsRight replica.old }
     requires held { HoldsReplica (K.holding keeper.old) (K.readiness keeper.old) replica.old }
-    ensures takes { Takes number payload.now (standing_of replica.old) (standing_of replica.new)
+    ensures takes { Takes number payload.items (standing_of replica.old) (standing_of replica.new)
         (K.holding keeper.old).tells (K.holding keeper.old).list (K.holding keeper.new).list result }
     ensures tells { (K.holding keeper.old).tells ↔ (K.holding keeper.new).tells }
     ensures right { IsRight replica.new }
@@ -45,7 +45,10 @@ pub(crate) fn take<K: Keeper>(
 {
     match settle_pending(alloc, keeper, replica) {
         Ok(()) => take_settled(alloc, keeper, replica, number, payload),
-        Err(fault) => Err(TakeFault::from(fault)),
+        Err(fault) => {
+            drop(payload);
+            Err(TakeFault::from(fault))
+        }
     }
 }
 
@@ -85,13 +88,13 @@ fn take_settled<K: Keeper>(
     keeper: &mut K,
     replica: &mut Replica,
     number: u64,
-    payload: &[u8],
+    payload: Vec<u8>,
 ) -> Result<Taken, TakeFault>
     requires number { 1 ≤ number }
     requires right { IsRight replica.old }
     requires settled { replica.old.pending ≡ None }
     requires held { HoldsReplica (K.holding keeper.old) (K.readiness keeper.old) replica.old }
-    ensures steps { Steps number payload.now replica.old replica.new result }
+    ensures steps { Steps number payload.items replica.old replica.new result }
     ensures tells { (K.holding keeper.old).tells ↔ (K.holding keeper.new).tells }
     ensures right { IsRight replica.new }
     ensures held { HoldsReplica (K.holding keeper.new) (K.readiness keeper.new) replica.new }
@@ -105,6 +108,7 @@ fn take_settled<K: Keeper>(
     } else if number == len + 1 {
         add(alloc, keeper, replica, number, payload)
     } else {
+        drop(payload);
         Err(TakeFault::Gap {
             expected: len + 1,
             got: number,
@@ -139,14 +143,19 @@ fn recognize(
     alloc: Global,
     replica: &Replica,
     number: u64,
-    payload: &[u8],
+    payload: Vec<u8>,
 ) -> Result<Taken, TakeFault>
     requires first { 1 ≤ number }
     requires last { number ≤ length replica.now.register.entries }
     requires settled { replica.now.pending ≡ None }
-    ensures { Steps number payload.now replica.now replica.now result }
+    ensures { Steps number payload.items replica.now replica.now result }
 {
-    match is_same(alloc, &replica.register, (number - 1) as usize, payload) {
+    match is_same(
+        alloc,
+        &replica.register,
+        (number - 1) as usize,
+        payload.as_slice(),
+    ) {
         Ok(true) => Ok(Taken::Known),
         Ok(false) => Err(TakeFault::Conflict { number }),
         Err(Memory) => Err(TakeFault::Memory),
@@ -159,85 +168,55 @@ fn add<K: Keeper>(
     keeper: &mut K,
     replica: &mut Replica,
     number: u64,
-    payload: &[u8],
+    payload: Vec<u8>,
 ) -> Result<Taken, TakeFault>
     requires next { number ≡ length replica.old.register.entries + 1 }
     requires right { IsRight replica.old }
     requires settled { replica.old.pending ≡ None }
     requires held { HoldsReplica (K.holding keeper.old) (K.readiness keeper.old) replica.old }
-    ensures steps { Steps number payload.now replica.old replica.new result }
+    ensures steps { Steps number payload.items replica.old replica.new result }
     ensures tells { (K.holding keeper.old).tells ↔ (K.holding keeper.new).tells }
     ensures right { IsRight replica.new }
     ensures held { HoldsReplica (K.holding keeper.new) (K.readiness keeper.new) replica.new }
     ensures crash { LeavesLists (StandsForEither replica.old replica.new) (K.holding keeper.old) (K.holding keeper.new) }
     ensures cause { HasTakeCause (K.faults keeper.old) (K.faults keeper.new) result }
 {
-    let like = replica.register.len().saturating_sub(1);
-    match next_entry(alloc, &replica.register, like, payload) {
-        Ok(entry) => add_entry(alloc, keeper, replica, number, entry, payload),
-        Err(unfit) => Err(TakeFault::from(unfit)),
+    match next_entry(alloc, &replica.register, replica.like, payload.as_slice()) {
+        Ok(entry) => add_entry(alloc, keeper, replica, number, Pending { entry, payload }),
+        Err(unfit) => {
+            drop(payload);
+            Err(TakeFault::from(unfit))
+        }
     }
 }
 
-// Adds the payload that spells an entry which may stand behind the others.
+// Adds the payload that spells an entry which may stand behind the others, once there is room for that.
 fn add_entry<K: Keeper>(
     alloc: Global,
     keeper: &mut K,
     replica: &mut Replica,
     number: u64,
-    entry: Entry,
-    payload: &[u8],
+    pending: Pending,
 ) -> Result<Taken, TakeFault>
     requires next { number ≡ length replica.old.register.entries + 1 }
     requires right { IsRight replica.old }
     requires settled { replica.old.pending ≡ None }
     requires held { HoldsReplica (K.holding keeper.old) (K.readiness keeper.old) replica.old }
-    requires follows { MayFollow replica.old.register.entries entry }
-    requires spelled { spelling entry ≡ payload.now }
-    requires fits { spec.Fits replica.old.register.entries entry payload.now }
-    ensures steps { Steps number payload.now replica.old replica.new result }
+    requires follows { MayFollow replica.old.register.entries pending.entry }
+    requires spelled { spelling pending.entry ≡ pending.payload.items }
+    requires fits { spec.Fits replica.old.register.entries pending.entry pending.payload.items }
+    ensures steps { Steps number pending.payload.items replica.old replica.new result }
     ensures tells { (K.holding keeper.old).tells ↔ (K.holding keeper.new).tells }
     ensures right { IsRight replica.new }
     ensures held { HoldsReplica (K.holding keeper.new) (K.readiness keeper.new) replica.new }
     ensures crash { LeavesLists (StandsForEither replica.old replica.new) (K.holding keeper.old) (K.holding keeper.new) }
     ensures cause { HasTakeCause (K.faults keeper.old) (K.faults keeper.new) result }
 {
-    match prepare(alloc, replica, entry, payload) {
-        Ok(pending) => append(alloc, keeper, replica, number, pending),
-        Err(Memory) => Err(TakeFault::Memory),
-    }
-}
-
-// Makes room for an entry that may stand behind the others, and copies the payload that spells it.
-fn prepare(
-    alloc: Global,
-    replica: &mut Replica,
-    entry: Entry,
-    payload: &[u8],
-) -> Result<Pending, Memory>
-    requires right { IsRight replica.old }
-    requires settled { replica.old.pending ≡ None }
-    requires follows { MayFollow replica.old.register.entries entry }
-    requires spelled { spelling entry ≡ payload.now }
-    requires fits { spec.Fits replica.old.register.entries entry payload.now }
-    ensures pending { IfOk result (IsPendingOn replica.new.register) }
-    ensures payload { IfOk result (λ pending. pending.payload.items ≡ payload.now) }
-    ensures entries { replica.new.register.entries ≡ replica.old.register.entries }
-    ensures end { replica.new.end ≡ replica.old.end }
-    ensures settled { replica.new.pending ≡ None }
-    ensures right { IsRight replica.new }
-{
-    match replica.reserve(&entry) {
-        Ok(()) => match Vec::from_slice(alloc, payload) {
-            Ok(payload) => Ok(Pending { entry, payload }),
-            Err(_) => {
-                drop(entry);
-                Err(Memory)
-            }
-        },
+    match replica.reserve(&pending.entry) {
+        Ok(()) => append(alloc, keeper, replica, number, pending),
         Err(Memory) => {
-            drop(entry);
-            Err(Memory)
+            drop(pending);
+            Err(TakeFault::Memory)
         }
     }
 }

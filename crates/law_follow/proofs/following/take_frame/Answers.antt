@@ -1,5 +1,4 @@
 -- The message is given, and its answer is that of the step.
-use Rattle.std.proofs.Common.{sym}
 use Rattle.law_follow.specs.Frames.{Message}
 use Rattle.law_follow.specs.Replicas.{payloads_of, standing_of}
 use Rattle.law_follow.proofs.Handed.{given_cause, given_message, given_settled, none_given}
@@ -12,7 +11,7 @@ returns-clause-takes g c =
     rw c.answer_to.ensures
     (given_message m (standing_of c.args.replica.now) (standing_of c.take-taken.new.replica) (holding c.args.keeper.now).tells
     (holding c.args.keeper.now).list (holding c.take-taken.new.keeper).list (none_given c.args.replica.now.pending c.requires.settled)
-    c.take-taken.result (rw (sym c.as_slice.ensures.value) c.take-taken.ensures.takes))
+    c.take-taken.result c.take-taken.ensures.takes)
 
 pub returns-clause-settled : goal.returns-clause-settled
 returns-clause-settled g c =
@@ -22,7 +21,7 @@ returns-clause-settled g c =
     (given_settled m (payloads_of c.args.replica.now) c.take-taken.new.replica _
     (given_message m (standing_of c.args.replica.now) (standing_of c.take-taken.new.replica) (holding c.args.keeper.now).tells
     (holding c.args.keeper.now).list (holding c.take-taken.new.keeper).list (none_given c.args.replica.now.pending c.requires.settled)
-    c.take-taken.result (rw (sym c.as_slice.ensures.value) c.take-taken.ensures.takes)))
+    c.take-taken.result c.take-taken.ensures.takes))
 
 pub returns-clause-cause : goal.returns-clause-cause
 returns-clause-cause g c =

@@ -1,4 +1,3 @@
-use Rattle.law_follow.specs.declared.replica.Replica.{Replica}
 use Rattle.law_follow.proofs.Committing.{committed_right, spelled_last, spelled_more}
 use Rattle.law_follow.proofs.replica.Replica.commit.Goals as goal
 
@@ -9,5 +8,4 @@ returns-clause-payloads c =
 
 pub returns-clause-right : goal.returns-clause-right
 returns-clause-right c =
-    let new : Replica = record c.args.self.now { register = c.push.new.self; end = c.args.end } in
-    committed_right c.args.self.now new c.args.pending c.requires.right c.requires.follows c.push.ensures c.requires.settled
+    committed_right c.args.self.now _ c.args.pending c.requires.right c.requires.follows c.push.ensures c.requires.settled
