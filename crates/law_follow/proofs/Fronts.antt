@@ -1,7 +1,6 @@
 -- What stands at the front of bytes that are read piece by piece.
-use Rattle.std.proofs.Common.{◌≡◌, ◌∙◌, sym, ap, subst, refl, Bool, true, false, List, [], ◌∷◌, ◌++◌, length, take, drop, ℕ, zero, suc, ◌+◌, ◌≤◌, ◌<◌, ◌⊎◌, inl, inr, Option, Some, None, Result, Ok, Err, arith, length-append}
-use Rattle.std.specs.Prelude.{◌==◌, nat_lt, if◌then◌else◌}
-use Rattle.std.specs.Io.KnownBytes.{Keeps}
+use Rattle.std.proofs.Common.{◌≡◌, ◌∙◌, sym, ap, subst, refl, Bool, false, List, [], ◌∷◌, ◌++◌, length, take, drop, ℕ, zero, suc, ◌+◌, ◌≤◌, ◌<◌, ◌⊎◌, inl, inr, Option, Some, None, Result, Ok, Err, arith, length-append}
+use Rattle.std.specs.Prelude.{◌==◌, if◌then◌else◌}
 use Rattle.std.proofs.lemmas.Bool.{lt-ltb, ne_eqb}
 use Rattle.std.proofs.lemmas.List.{append-nil, drop_all}
 use Rattle.law_follow.specs.Frames.{breaks, ends, holds, IsPieceOf, Reads, ReadsPayload, TakesFewer, TakesFewerOf, IsOfDevice, frame_size, framed, front_of, head_in, headed, payload_front, size_by}
@@ -10,7 +9,7 @@ use Rattle.law_follow.specs.declared.frame.FrameFault.{FrameFault}
 use Rattle.law_follow.specs.declared.frame.FrameFault.TheVariants as fault
 use Rattle.law_follow.specs.declared.frame.Head.{Head}
 use Rattle.law_follow.specs.declared.frame.TheConstants.{HEAD_SIZE}
-use Rattle.law_follow.proofs.Pieces.{IsFrontOf, cut_drop, cut_take}
+use Rattle.law_follow.proofs.Pieces.{cut_drop, cut_take}
 
 -- what stands at the front of all, by the bytes of a head that were read, or of fewer at the end
 pub front_headed : (all bytes rest : List ℕ) → all ≡ bytes ++ rest → length bytes ≤ HEAD_SIZE → (rest ≡ []) ⊎ (HEAD_SIZE ≤ length bytes) → 0 < length bytes
@@ -46,10 +45,6 @@ none_read (Some all) new bytes piece none = by piece.enough
 size_headed : (all bytes rest : List ℕ) → all ≡ bytes ++ rest → length bytes ≤ HEAD_SIZE → (rest ≡ []) ⊎ (HEAD_SIZE ≤ length bytes)
     → frame_size all ≡ size_by (head_in bytes)
 size_headed all bytes rest begins most enough = ap (λ (head : List ℕ). size_by (head_in head)) (cut_take HEAD_SIZE all bytes rest begins most enough)
-
-least_size : (h : Option Head) → HEAD_SIZE ≤ size_by h
-least_size None = omega arith
-least_size (Some head) = omega arith
 
 drop_twice : (n k : ℕ) (xs : List ℕ) → drop k (drop n xs) ≡ drop (n + k) xs
 drop_twice zero k xs = let same : k ≡ zero + k = omega arith in ap (λ (i : ℕ). drop i xs) same
@@ -127,37 +122,3 @@ payload_failed number size None new given of few = tt
 payload_failed number size (Some all) new fault.BadFrame of few = absurd of
 payload_failed number size (Some all) new fault.ReadFault of few = few
 payload_failed number size (Some all) new fault.Memory of few = few
-
-pub frame_failed : (left new : Option (List ℕ)) (given : FrameFault) → IsOfDevice given → TakesFewerOf HEAD_SIZE left new → Reads left new (Err given)
-frame_failed None new given of few = tt
-frame_failed (Some all) new given of few = by given of
-  where
-    fewer : TakesFewer (frame_size all) all new
-    fewer = record {
-      count = few.count;
-      fewer = let least = least_size (head_in (take HEAD_SIZE all)) in omega (arith, few.fewer, least);
-      behind = few.behind;
-    }
-
-    by : (given : FrameFault) → IsOfDevice given → Reads (Some all) new (Err given)
-    by fault.BadFrame of = absurd of
-    by fault.ReadFault of = fewer
-    by fault.Memory of = fewer
-
--- nothing was taken yet, and a part that is not all that was wanted
-pub none_fewer : (size : ℕ) (left : Option (List ℕ)) → 1 ≤ size → TakesFewerOf size left left
-none_fewer size None some = tt
-none_fewer size (Some all) some = record { count = 0; fewer = some; behind = refl }
-
-pub part_fewer : (size : ℕ) (left mid new : Option (List ℕ)) (bytes : List ℕ) → IsFrontOf left mid bytes → Keeps mid new → length bytes < size
-    → TakesFewerOf size left new
-part_fewer size None mid new bytes front keeps less = tt
-part_fewer size (Some all) mid new bytes front keeps less = by new (subst (λ (m : Option (List ℕ)). Keeps m new) front.left keeps)
-  where
-    by : (new : Option (List ℕ)) → Keeps (Some front.rest) new → TakesFewer size all new
-    by None keeps = absurd keeps
-    by (Some ys) same = record {
-      count = length bytes;
-      fewer = less;
-      behind = ap Some (same ∙ sym (cut_drop (length bytes) all bytes front.rest front.begins (omega arith) (inr (omega arith))));
-    }

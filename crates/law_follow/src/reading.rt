@@ -1,18 +1,38 @@
 //! Frames are read from a source, piece by piece.
 
-ghost use Rattle.std.specs.Prelude.{◌≡◌, ◌+◌, ◌<◌, ◌≤◌, ◌^◌, length, IfErr, IfOk, IfSome, OnErr};
+ghost use Rattle.std.specs.Prelude.{◌≡◌, ◌+◌, ◌<◌, ◌≤◌, take, length, IfErr, IfOk, IfSome, OnErr};
 ghost use Rattle.std.specs.Int.{w32, w64, from_be_bytes};
 ghost use Rattle.law_follow.specs.Frames as spec;
 
 use crate::frame::{Frame, FrameFault, HEAD_SIZE, Head, MARK};
-use crate::writing::put_behind;
 use desk_base::Source;
 use std::alloc::Global;
 
+// Fills the front of `into` with what comes next, and says how much that is: all of it, unless the input ends.
+fn fill<S: Source>(source: &mut S, into: &mut [u8]) -> Result<usize, FrameFault>
+    requires { 1 ≤ length into.old }
+    ensures taken { IfOk result (λ n. spec.IsPieceOf (length into.old) (S.left source.old) (S.left source.new) (take n into.new)) }
+    ensures most { IfOk result (λ n. n ≤ length into.old) }
+    ensures long { length into.new ≡ length into.old }
+    ensures device { IfErr result spec.IsOfDevice }
+    ensures fewer { OnErr result (spec.TakesFewerOf (length into.old) (S.left source.old) (S.left source.new)) }
+    ensures room { IfOk result (λ n. S.room source.new + n ≡ S.room source.old) }
+    ensures cause { spec.HasReadCause (S.faults source.old) (S.faults source.new) result }
+{
+    let mut filled = 0;
+    while filled < into.len() {
+        let count = source.read(&mut into[filled..])?;
+        if count == 0 {
+            break;
+        }
+        filled += count;
+    }
+    Ok(filled)
+}
+
 // Reads so many bytes, and fewer only where the input ends.
 fn read_bytes<S: Source>(alloc: Global, source: &mut S, size: usize) -> Result<Vec<u8>, FrameFault>
-    requires some { 1 ≤ size }
-    requires most { size < 2 ^ 32 }
+    requires { 1 ≤ size }
     ensures taken { IfOk result (λ bytes. spec.IsPieceOf size (S.left source.old) (S.left source.new) bytes.items) }
     ensures most { IfOk result (λ bytes. length bytes.items ≤ size) }
     ensures device { IfErr result spec.IsOfDevice }
@@ -20,16 +40,10 @@ fn read_bytes<S: Source>(alloc: Global, source: &mut S, size: usize) -> Result<V
     ensures room { IfOk result (λ bytes. S.room source.new + length bytes.items ≡ S.room source.old) }
     ensures cause { spec.HasReadCause (S.faults source.old) (S.faults source.new) result }
 {
-    let mut bytes = Vec::with_capacity(alloc, size)?;
-    let mut piece = [0; 512];
-    while bytes.len() < size {
-        let room = piece.len().min(size - bytes.len());
-        let count = source.read(&mut piece[..room])?;
-        if count == 0 {
-            break;
-        }
-        put_behind(&mut bytes, &piece[..count]);
-    }
+    let mut bytes = Vec::new(alloc);
+    bytes.resize(size, 0)?;
+    let count = fill(source, bytes.as_mut_slice())?;
+    bytes.truncate(count);
     Ok(bytes)
 }
 
@@ -104,11 +118,12 @@ pub fn read_frame<S: Source>(alloc: Global, source: &mut S) -> Result<Option<Fra
     ensures room { IfOk result (λ o. IfSome o (λ f. S.room source.new < S.room source.old)) }
     ensures cause { spec.HasReadCause (S.faults source.old) (S.faults source.new) result }
 {
-    let bytes = read_bytes(alloc, source, HEAD_SIZE)?;
-    if bytes.is_empty() {
+    let mut bytes = [0; HEAD_SIZE];
+    let count = fill(source, &mut bytes)?;
+    if count == 0 {
         return Ok(None);
     }
-    match head_in(bytes.as_slice()) {
+    match head_in(&bytes[..count]) {
         Some(head) => framed(read_payload(alloc, source, head)),
         None => Err(FrameFault::BadFrame),
     }

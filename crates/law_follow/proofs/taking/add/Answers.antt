@@ -1,5 +1,5 @@
 -- A payload that may stand behind the others is added with its entry, and one that may not is refused, as an opening would find it.
-use Rattle.std.proofs.Common.{◌≡◌, ◌∙◌, sym, ap, subst, Err, List, ℕ}
+use Rattle.std.proofs.Common.{◌∙◌, sym, ap, subst, Err, List, ℕ}
 use Rattle.law_follow.specs.Opening.{with_payload}
 use Rattle.law_follow.specs.Replicas.{Judges}
 use Rattle.law_follow.proofs.Stepping.{refused_step}
