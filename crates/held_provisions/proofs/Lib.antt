@@ -1,3 +1,4 @@
 pub mod Alongside
 pub mod FoundWorks
+pub mod Placed
 pub mod Sounded

@@ -1,10 +1,11 @@
 //! Touching: the works that an entry touches, each from a day on: its own work, and those that depend on what it reaches.
 
-ghost use Rattle.std.specs.Prelude.{◌≡◌, ◌||◌, ◌++◌, ◌∷◌, [], IfOk, List, OnOk, None, Some, if◌then◌else◌, map};
+ghost use Rattle.std.specs.Prelude.{◌≡◌, ◌||◌, ◌++◌, ◌∷◌, [], IfOk, List, OnOk, None, Some, if◌then◌else◌, map, true};
 ghost use Rattle.law_register.specs.Answer.Touched.{sooner, with_day};
 ghost use Rattle.law_register.specs.Register.Drafts.{draft_of, items_of};
 ghost use Rattle.law_register.specs.Register.KnownIds.{facts_of};
 ghost use Rattle.law_register.specs.Register.LawList.{law_of, laws};
+ghost use Rattle.law_register.specs.Register.Verdicts.{is_accepted, verdict};
 ghost use Rattle.law_register.specs.declared.register.entry.Entry.{Entry as EntryValue};
 ghost use Rattle.held_provisions.specs.Reaching as reaching;
 ghost use Rattle.source_provisions.specs.Depending.{depends_in};
@@ -12,6 +13,7 @@ ghost use Rattle.source_provisions.specs.Line.{line};
 ghost use Rattle.source_provisions.specs.Touching as spec;
 
 use crate::InLine;
+use crate::lines::{line_of_register, line_with};
 use crate::looking::depends_in;
 use desk_base::{Day, Id, Memory};
 use frbr_names::WorkName;
@@ -322,4 +324,16 @@ pub fn touched_in_lines<O: InLine, N: InLine>(
 {
     let along = reached_along(alloc, register, entry, old, new)?;
     days_told(alloc, along.as_slice())
+}
+
+/// The works that an entry touches which comes behind those of a register, each with its touched day, in the order of the line: by
+/// descending days of their acts, and on one day by the bytes of their IRIs. The lines are computed once.
+pub fn touched_works(alloc: Global, register: &Register, entry: &Entry) -> Result<Touched, Memory>
+    requires { is_accepted entry.now.law (verdict register.now.entries entry.now.drafter entry.now.request
+        entry.now.command) ≡ true }
+    ensures { IfOk result (λ touched. touched ≡ spec.touched_works register.now.entries entry.now) }
+{
+    let old = line_of_register(alloc, register)?;
+    let new = line_with(alloc, register, entry)?;
+    touched_in_lines(alloc, register, entry, old.as_slice(), new.as_slice())
 }

@@ -1,0 +1,12 @@
+use Rattle.std.proofs.Common.{rules, ◌≡◌, ◌∙◌, ap, drop}
+use Rattle.law_register.specs.Register.LawList.{laws}
+use Rattle.source_provisions.specs.Line.{line_of}
+use Rattle.held_provisions.specs.Placing.{works_of}
+use Rattle.held_provisions.proofs.Placed.{whole_line}
+use Rattle.held_provisions.proofs.lines.line_of_register.Goals as goal
+
+pub returns : goal.returns
+returns c =
+    let es = c.args.register.now.entries in
+    let none : c.loop-index.index ≡ 0 = search rules in
+    c.loop-index.invariant ∙ ap (λ n. line_of (laws es) (works_of (drop n es))) none ∙ whole_line es
