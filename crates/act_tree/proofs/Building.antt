@@ -9,6 +9,7 @@ use Rattle.act_tree.specs.Wids.{all_wids, is_among, one_twice}
 use Rattle.act_tree.specs.Arena.{provision_in, below_in, branches_below, is_hung, number_twice, root_provision, Stands, IsWhole}
 use Rattle.act_tree.specs.Planted.{IsLaid}
 use Rattle.act_tree.specs.LastNumbers.{last_named}
+use Rattle.act_tree.specs.WidIndexes.{WidIndexValue}
 use Rattle.act_tree.specs.Slots.{laid, at, number, size}
 use Rattle.act_tree.proofs.Frames.{neither}
 use Rattle.act_tree.proofs.Sound.{Text, whole_from, reads_from}
@@ -19,7 +20,7 @@ pub record Holds (arena : Arena) (body : Branches Provision) : Type 0 where
   pub reads : branches_below (size arena) (at arena) (below_in (at arena 0)) ≡ body
 
 pub same_numbers : (old new : Arena) → new.numbers ≡ old.numbers → number old ≡ number new
-same_numbers old new same = sym (ap (λ ns. last_named ns) same)
+same_numbers old new same = sym (ap (λ (ns : WidIndexValue). last_named ns.wids) same)
 
 -- an arena with this index and size in which a text stands holds it
 pub held : (old new : Arena) (p : Provision) (body : Branches Provision) → new.numbers ≡ old.numbers → size new ≡ size old → p ≡ root_provision → Text (at new) (number old) (size old) (branch p body) → Holds new body

@@ -15,7 +15,9 @@ use Rattle.act_tree.specs.Arena.{provision_in, above_in, below_in, Stands}
 use Rattle.act_tree.specs.Planted.{IsSound, Each, IsAdded, IsLaid, AreLaid}
 use Rattle.act_tree.specs.Relisted.{IsRelisted}
 use Rattle.act_tree.specs.LastNumbers.{last_named}
-use Rattle.act_tree.specs.Slots.{laid, provision_of, at, own_at, number, size}
+use Rattle.act_tree.specs.WidIndexes.{WidIndexValue}
+use Rattle.act_tree.proofs.OwnArenas.{still_own}
+use Rattle.act_tree.specs.Slots.{laid, provision_of, at, own_at, number, size, IsOwn}
 use Rattle.act_tree.specs.TakenOff.{with_above}
 use Rattle.act_tree.proofs.Texts.{equal_text, bytes_eq_sym}
 use Rattle.act_tree.proofs.Building.{same_numbers}
@@ -27,9 +29,9 @@ use Rattle.act_tree.proofs.Relistings.{Swaps, Move, each_own, each_alone, sound_
 use Rattle.act_tree.proofs.Times.{times, once_few, once-append, only_one, some_listed}
 
 -- a slot is added, and its number is right above itself
-pub added_alone : (old one new : Arena) (id : ℕ) (s : Slot) → id ≡ size old → one.slots.items ≡ old.slots.items ++ s ∷ [] → ((w : List ℕ) → number one w ≡ cond (bytes_eq s.wid w) (Some (size old)) (number old w)) → s.below.items ≡ [] → size one ≤ 2 ^ 32
+pub added_alone : (old one new : Arena) (id : ℕ) (s : Slot) → id ≡ size old → one.slots.items ≡ old.slots.items ++ s ∷ [] → ((w : List ℕ) → number one w ≡ cond (bytes_eq s.wid w) (Some (size old)) (number old w)) → s.below.items ≡ [] → size one ≤ 2 ^ 32 → IsOwn one
     → new.numbers ≡ one.numbers → size new ≡ size one → at new id ≡ with_above id (at one id) → ((k : ℕ) → (k ≡ id → ⊥) → at new k ≡ at one k) → IsAdded old new (provision_of s)
-added_alone old one new id s place slots noted bare fits numbers sizes here others =
+added_alone old one new id s place slots noted bare fits owned numbers sizes here others =
     record {
       here = ap (at new) (sym place) ∙ here ∙ ap (with_above id) (ap (at one) place ∙ ap (λ ss. laid ss (size old)) slots ∙ laid_last old.slots.items s)
           ∙ ap (λ v. Some (record { provision = provision_of s; above = v; below = s.below.items })) place
@@ -38,9 +40,10 @@ added_alone old one new id s place slots noted bare fits numbers sizes here othe
         | inl low ↦ laid_before old.slots.items s k low
         | inr high ↦ laid_past (old.slots.items ++ s ∷ []) k (omega (arith, length-append old.slots.items (s ∷ []))) ∙ sym (laid_past old.slots.items k high)
       ];
-      numbers = λ w. ap (λ ns. last_named ns w) numbers ∙ noted w;
+      numbers = λ w. ap (λ (ns : WidIndexValue). last_named ns.wids w) numbers ∙ noted w;
       sizes = sizes ∙ ap length slots ∙ length-append old.slots.items (s ∷ []);
       fits = omega arith;
+      own = still_own one new numbers owned;
     }
 
 all_wids-push : (bs : List (Branch Provision)) (b : Branch Provision) → all_wids (branches_of (bs ++ b ∷ [])) ≡ all_wids (branches_of bs) ++ wids b
@@ -134,7 +137,7 @@ laid_node old one two new id p ids bs place a num some r numbers sizes =
     record {
       grown = record {
         kept = λ k low. r.others k (λ same. omega arith) refl (not_laid one two ids bs some k (omega arith)) ∙ some.grown.kept k (omega arith) ∙ a.others k (λ same. omega arith);
-        numbers = λ w none. ap (λ ns. last_named ns w) numbers ∙ some.grown.numbers w (none_right (bytes_eq w p.wid) _ none)
+        numbers = λ w none. ap (λ (ns : WidIndexValue). last_named ns.wids w) numbers ∙ some.grown.numbers w (none_right (bytes_eq w p.wid) _ none)
             ∙ a.numbers w ∙ ap (λ t. cond t (Some (size old)) (number old w)) (bytes_eq_sym p.wid w ∙ none_left _ _ none);
         sound = λ s.
             let P : (List ℕ → Option ℕ) → Type 0 = λ f. IsSound (at new) f (size two) in
@@ -142,6 +145,7 @@ laid_node old one two new id p ids bs place a num some r numbers sizes =
             subst Q (sym sizes) (subst P leads_same
             (sound_after (at two) (at new) id (own_at two id) [] ids ids r swaps (number two) (size two) (some.grown.sound ((grown_added old one p a num).sound s)) (ap (λ (o : Own). is_num o.num) own ∙ num)));
         rises = omega arith;
+        own = λ _. still_own two new numbers (some.grown.own a.own);
       };
       place = place;
       within = omega arith;

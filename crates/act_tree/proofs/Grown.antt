@@ -33,7 +33,7 @@ Covers ws vs = (w : List ℕ) → is_among w ws ≡ false → is_among w vs ≡ 
 
 -- of more wIds less is said
 pub grown_wider : (old new : Arena) (vs ws : List (List ℕ)) → HasGrown old new vs → Covers ws vs → HasGrown old new ws
-grown_wider old new vs ws g covers = record { kept = g.kept; numbers = λ w none. g.numbers w (covers w none); sound = g.sound; rises = g.rises }
+grown_wider old new vs ws g covers = record { kept = g.kept; numbers = λ w none. g.numbers w (covers w none); sound = g.sound; rises = g.rises; own = g.own }
 
 -- it has grown, and has grown again
 pub grown_on : (old one new : Arena) (us vs ws : List (List ℕ)) → HasGrown old one us → HasGrown one new vs → Covers ws us → Covers ws vs → HasGrown old new ws
@@ -45,6 +45,7 @@ grown_on old one new us vs ws first second covers_us covers_vs =
       numbers = λ w none. second.numbers w (covers_vs w none) ∙ first.numbers w (covers_us w none);
       sound = λ s. second.sound (first.sound s);
       rises = omega arith;
+      own = λ o. second.own (first.own o);
     }
 
 pub named_within : (ss : List Slot) (k : ℕ) (w : List ℕ) → name_in (laid ss k) ≡ Some w → k < length ss
@@ -96,6 +97,7 @@ grown_added old one p a num =
         fits = a.fits;
       };
       rises = omega arith;
+      own = λ _. a.own;
     }
 
 -- the wIds of a branch and of those below it

@@ -42,5 +42,5 @@ rehashed a hashes i hash now told it =
     told ∙ ap (set a.levels.hashes i) it ∙ ap (λ (hs : List ℕ). set hs i (slot_hash now)) a.hashed ∙ sym (map-set slot_hash a.slots.items i now)
 
 -- and there are as many hashes as there were
-pub as_many_hashed : (a : Arena) (hashes : List ℕ) (i hash : ℕ) → hashes ≡ set a.levels.hashes i hash → length a.numbers ≡ length hashes
+pub as_many_hashed : (a : Arena) (hashes : List ℕ) (i hash : ℕ) → hashes ≡ set a.levels.hashes i hash → length a.numbers.wids ≡ length hashes
 as_many_hashed a hashes i hash told = a.noted ∙ sym (ap (λ (hs : List ℕ). length hs) told ∙ length-set a.levels.hashes i hash)

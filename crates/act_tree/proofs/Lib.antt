@@ -67,3 +67,6 @@ pub mod SoughtNumbers
 pub mod SoughtWids
 pub mod SoughtLevels
 pub mod LevelsVisited
+pub mod Pieces
+pub mod OwnArenas
+pub mod OwnIndexes

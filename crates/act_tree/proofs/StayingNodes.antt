@@ -14,6 +14,7 @@ use Rattle.act_tree.specs.Planted.{HasGrown}
 use Rattle.act_tree.specs.NodesStay.{NodesStay}
 use Rattle.act_tree.specs.Seen.{tree_view, has_node, provision_at}
 use Rattle.act_tree.specs.LastNumbers.{last_named}
+use Rattle.act_tree.specs.WidIndexes.{WidIndexValue}
 use Rattle.act_tree.specs.Slots.{at, number, size}
 use Rattle.act_tree.specs.Wids.{all_wids, is_among}
 use Rattle.act_tree.proofs.Climbing.{Seated, found_climbs}
@@ -37,7 +38,7 @@ module _ (old : Arena) (whole : IsWhole (at old) (number old) (size old)) where
 
   -- where the index stays
   pub index_stays : (new : Arena) → new.numbers ≡ old.numbers → LeadsStill old new
-  index_stays new same k node = ap (λ ns. last_named ns (provision_in (at old k)).wid) same ∙ leads_node k node
+  index_stays new same k node = ap (λ (ns : WidIndexValue). last_named ns.wids (provision_in (at old k)).wid) same ∙ leads_node k node
 
   -- where it stays for all wIds of the text
   pub index_kept : (new : Arena) → ((v : List ℕ) → is_among v (root_wid ∷ all_wids (body_of old)) ≡ true → number new v ≡ number old v) → LeadsStill old new
@@ -79,7 +80,7 @@ same_stay t = λ k node held. (node, refl)
 
 -- what was laid down has other wIds
 pub stay_grafted : (old new : Arena) (parent place : ℕ) (bs : Branches Provision) → IsWhole (at old) (number old) (size old) → AreFresh old (all_wids bs) → IsGrafted old new parent place bs → LeadsStill old new
-stay_grafted old new parent place bs whole fresh is = index_kept old whole new (λ v found. ap (λ ns. last_named ns v) is.numbers ∙ is.laid.grown.numbers v (fresh v found))
+stay_grafted old new parent place bs whole fresh is = index_kept old whole new (λ v found. ap (λ (ns : WidIndexValue). last_named ns.wids v) is.numbers ∙ is.laid.grown.numbers v (fresh v found))
 
 pub stay_stopped : (old new : Arena) (ws : List (List ℕ)) → IsWhole (at old) (number old) (size old) → AreFresh old ws → HasGrown old new ws → LeadsStill old new
 stay_stopped old new ws whole fresh is = index_kept old whole new (λ v found. is.numbers v (fresh v found))
@@ -87,7 +88,7 @@ stay_stopped old new ws whole fresh is = index_kept old whole new (λ v found. i
 -- the second part has a wId that was not there
 pub stay_parted : (old new : Arena) (i place : ℕ) (head : List ℕ) (second : Provision) (moved : List ℕ) → IsWhole (at old) (number old) (size old) → is_in second.wid (body_of old) ≡ false → IsParted old new i place head second moved → LeadsStill old new
 stay_parted old new i place head second moved whole fresh p =
-    index_kept old whole new (λ v found. ap (λ ns. last_named ns v) p.numbers ∙ p.adds.numbers v
+    index_kept old whole new (λ v found. ap (λ (ns : WidIndexValue). last_named ns.wids v) p.numbers ∙ p.adds.numbers v
     ∙ ap (λ t. cond t (Some (size old)) (number old v)) (bytes_eq_sym second.wid v ∙ none_left (bytes_eq v second.wid) false (fresh_one old second.wid fresh v found)))
 
 pub stay_same : (old new : Arena) → IsWhole (at old) (number old) (size old) → ((w : List ℕ) → number new w ≡ number old w) → LeadsStill old new

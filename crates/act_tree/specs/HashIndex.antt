@@ -1,12 +1,14 @@
 -- Numbers in buckets: the bucket of each by its hash, and which of the first numbers is the latest of a bucket.
-use Rattle.std.specs.Prelude.{◌≡◌, ℕ, zero, suc, ◌+◌, ◌-◌, ◌%◌, ◌<◌, ◌≤◌, ◌^◌, ◌==◌, List, length, map, slice_index, slice_set, Option, Some, None, if◌then◌else◌}
+use Rattle.act_tree.specs.KeptLists.{ListValue}
+use Rattle.std.specs.Prelude.{◌≡◌, ℕ, zero, suc, ◌+◌, ◌-◌, ◌%◌, ◌<◌, ◌≤◌, ◌^◌, ◌==◌, Bool, List, length, map, slice_index, slice_set, Option, Some, None, if◌then◌else◌}
 
--- what a clause sees of an index: the hash of each number, how many buckets there are, and for how many more numbers
--- there is room
+-- what a clause sees of an index: the hash of each number, how many buckets there are, for how many more numbers there is
+-- room, and whether it is own: whether it can be written to
 pub record IndexValue : Type 0 where
   pub hashes : List ℕ
   pub width : ℕ
   pub room : ℕ
+  pub is_own : Bool
 
 -- the bucket of a hash
 abbrev pub bucket_of : ℕ → ℕ → ℕ
@@ -50,6 +52,12 @@ pub record IsIndex (width : ℕ) (hashes heads before : List ℕ) : Type 0 where
   pub as_many_heads : length heads ≡ width
   pub enough : length hashes ≤ width
   pub fits : width < 2 ^ 32
+
+-- an index of these three lists, which are own or kept together
+pub record AreIndex (hashes heads before : ListValue ℕ) : Type 0 where
+  pub index : IsIndex (length heads.items) hashes.items heads.items before.items
+  pub heads_alike : heads.is_own ≡ hashes.is_own
+  pub links_alike : before.is_own ≡ hashes.is_own
 
 -- the first number of a bucket behind a number, among the first n: none, or this one
 abbrev pub IsNext : List ℕ → ℕ → ℕ → ℕ → Option ℕ → Type 0

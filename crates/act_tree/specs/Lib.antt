@@ -9,6 +9,10 @@ pub mod Changes
 pub mod Trees
 pub mod Causes
 pub mod Numbered
+pub mod KeptLists
+pub mod LendsItem
+pub mod NumberLists
+pub mod WidIndexes
 pub mod Arena
 pub mod Single
 pub mod Slots

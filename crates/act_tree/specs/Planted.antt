@@ -7,7 +7,7 @@ use Rattle.eid_paths.specs.Nums.{is_num}
 use Rattle.act_tree.specs.Provisions.{Provision}
 use Rattle.act_tree.specs.Wids.{wids, all_wids, is_among, one_twice}
 use Rattle.act_tree.specs.Arena.{Laid, Stands, provision_in, below_in, name_in, is_hung, number_twice}
-use Rattle.act_tree.specs.Slots.{at, number, size, LeadsTo}
+use Rattle.act_tree.specs.Slots.{at, number, size, IsOwn, LeadsTo}
 
 -- what an arena keeps whatever stands in it: each number is hung; no list names a number twice; nums keep the rule of
 -- nums; the index leads to provisions of the wId; nothing is laid down past its size, and that fits
@@ -33,14 +33,16 @@ pub record IsAdded (old new : Arena) (p : Provision) : Type 0 where
   pub numbers : LeadsTo old new p.wid (size old)
   pub sizes : size new ≡ size old + 1
   pub fits : size new ≤ 2 ^ 32
+  pub own : IsOwn new
 
 -- what an arena had stays, though provisions of some of these wIds may have been laid down behind it; and it is sound
--- where it was
+-- where it was, and own where it was
 pub record HasGrown (old new : Arena) (wids : List (List ℕ)) : Type 0 where
   pub kept : (k : ℕ) → k < size old → at new k ≡ at old k
   pub numbers : (w : List ℕ) → is_among w wids ≡ false → number new w ≡ number old w
   pub sound : IsSound (at old) (number old) (size old) → IsSound (at new) (number new) (size new)
   pub rises : size old ≤ size new
+  pub own : IsOwn old → IsOwn new
 
 -- a branch was laid down, right above itself, at the first new number; it stands there if its wIds differ
 pub record IsLaid (old new : Arena) (id : ℕ) (b : Branch Provision) : Type 0 where

@@ -17,6 +17,10 @@ tree_view t = record {
   changes = t.changes;
 }
 
+-- the tree is own: it can be changed, as one that was built or copied, and not one that was kept
+abbrev pub is_own : Tree → Bool
+is_own t = t.arena.numbers.is_own
+
 -- the number is one of a node of the tree
 unfoldable pub has_node : Tree → ℕ → Bool
 has_node t i = climbs (size t.arena) (at t.arena) i

@@ -1,5 +1,5 @@
 -- What the slots of an arena lay down.
-use Rattle.std.specs.Prelude.{ℕ, ◌≡◌, List, Option, Some, slice_get, option_map, length, if◌then◌else◌}
+use Rattle.std.specs.Prelude.{ℕ, ◌≡◌, true, List, Option, Some, slice_get, option_map, length, if◌then◌else◌}
 use Rattle.std.specs.Str.{bytes_eq}
 use Rattle.act_tree.specs.declared.arena.Slot.{Slot}
 use Rattle.act_tree.specs.declared.arena.Arena.{Arena}
@@ -32,11 +32,15 @@ own_at arena i = (provision_in (at arena i)).own
 
 -- the number to which an arena's index leads from a wId
 abbrev pub number : Arena → List ℕ → Option ℕ
-number arena wid = last_named arena.numbers wid
+number arena wid = last_named arena.numbers.wids wid
 
 -- how many slots an arena has
 abbrev pub size : Arena → ℕ
 size arena = length arena.slots.items
+
+-- an arena is own: it can be written to
+abbrev pub IsOwn : Arena → Type 0
+IsOwn arena = arena.numbers.is_own ≡ true
 
 -- the index leads from a wId to a number, and from others to where it led before
 abbrev pub LeadsTo : Arena → Arena → List ℕ → ℕ → Type 0

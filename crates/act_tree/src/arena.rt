@@ -1,12 +1,14 @@
 //! Arena: the provisions of a tree in slots, each with the number of the one above it and the numbers of those below
 //! it, an index that leads from a wId to a number, and one of the numbers by the hashes of their levels. Slots are added
-//! and never taken away.
+//! and never taken away. An own arena is written to; a kept one shares pieces of all its lists with others.
 
-ghost use Rattle.std.specs.Prelude.{◌≡◌, ◌==◌, not, filter, map, ℕ, List, [], ◌∷◌, ◌++◌, ◌<◌, ◌≤◌, ◌^◌, IfOk, OnOk, OnErr, None, length};
+ghost use Rattle.std.specs.Prelude.{◌≡◌, true, map, ℕ, List, [], ◌∷◌, ◌++◌, ◌<◌, ◌≤◌, ◌^◌, IfOk, OnOk, OnErr, None, length};
 ghost use Rattle.act_tree.specs.LevelHashes.{slot_hash};
 
 use crate::hash_index::HashIndex;
+use crate::kept_list::KeptList;
 use crate::level_hash::level_hash;
+use crate::numbers::Numbers;
 use crate::wid_index::WidIndex;
 use crate::{NodeId, Refs};
 use desk_base::{Memory, Text};
@@ -31,27 +33,25 @@ pub struct Slot {
     /// The node right above it, or its own number where it was taken off.
     pub above: NodeId,
     /// The nodes right below it, in order.
-    pub below: Vec<NodeId>,
+    pub below: Numbers,
 }
+
+/// The provisions of an arena. Pieces are small, since a provision takes more bytes than a number.
+pub type Slots = KeptList<Slot, 16>;
 
 /// The provisions of a tree, and the indexes of their wIds and of their levels.
 #[derive(Debug, Drop)]
 pub struct Arena {
     /// The provision of each number; the first is the root.
-    pub slots: Vec<Slot>,
+    pub slots: Slots,
     /// The wId of each number; those of provisions that were taken off stay.
     pub numbers: WidIndex,
     /// The numbers by the hashes of their levels; those of provisions that were taken off stay.
     pub levels: HashIndex,
     ghost hashed: { levels.hashes ≡ map slot_hash slots.items },
-    ghost noted: { length numbers ≡ length levels.hashes },
-}
-
-// Leaves a number out of a list.
-fn leave_out(numbers: &mut Vec<NodeId>, id: NodeId)
-    ensures { numbers.new.items ≡ filter (λ k. not (k == id)) numbers.old.items }
-{
-    numbers.retain(|number| *number != id);
+    ghost noted: { length numbers.wids ≡ length levels.hashes },
+    ghost alike: { slots.is_own ≡ numbers.is_own },
+    ghost levels_alike: { levels.is_own ≡ numbers.is_own },
 }
 
 impl Arena {
@@ -59,22 +59,26 @@ impl Arena {
     ghost use Rattle.act_tree.specs.Arena.{climbs, climbs_past, above_in, below_in};
     ghost use Rattle.act_tree.specs.TakenOff.{with_above, with_below, IsTakenOff};
     ghost use Rattle.act_tree.specs.Planted.{IsAdded};
-    ghost use Rattle.act_tree.specs.Slots.{at, number, size, provision_of, LeadsTo};
+    ghost use Rattle.act_tree.specs.Slots.{at, number, size, provision_of, IsOwn, LeadsTo};
 
-    /// No provisions. It takes no memory.
+    /// No provisions, own. It takes no memory.
     pub fn new(alloc: Global) -> Arena
         ensures slots { result.slots.items ≡ [] }
         ensures numbers { (w : List ℕ) → number result w ≡ None }
+        ensures own { IsOwn result }
     {
         Arena {
-            slots: Vec::new(alloc),
+            slots: KeptList::new(alloc),
             numbers: WidIndex::new(alloc),
             levels: HashIndex::new(alloc),
         }
     }
 
     /// Adds a provision, and lets the indexes lead to it. `Err`: there was not enough memory, and nothing was added.
+    #[tactic(auto, using(crate::proofs::OwnArenas::slots_own, crate::proofs::OwnArenas::levels_own))]
     pub fn add(&mut self, slot: Slot) -> Result<NodeId, Memory>
+        requires { IsOwn self.old }
+        ensures own { IsOwn self.new }
         ensures id { IfOk result (λ id. id ≡ length self.old.slots.items) }
         ensures slots { OnOk result (self.new.slots.items ≡ self.old.slots.items ++ slot ∷ []) }
         ensures numbers { OnOk result (LeadsTo self.old self.new slot.wid (length self.old.slots.items)) }
@@ -83,7 +87,7 @@ impl Arena {
         ensures numbers_kept { OnErr result ((w : List ℕ) → number self.new w ≡ number self.old w) }
     {
         let id = NodeId::of_place(self.slots.len()).ok_or(Memory)?;
-        self.slots.reserve(1)?;
+        self.slots.reserve()?;
         self.levels.reserve()?;
         self.numbers.add(slot.wid.copy()?)?;
         self.levels.add(level_hash(slot.element, &slot.num));
@@ -93,8 +97,11 @@ impl Arena {
 
     /// Adds a provision that is right above itself, with nothing below it, and lets the index lead to it. `Err`: there was
     /// not enough memory, and nothing was added.
+    #[tactic(auto, using(crate::proofs::OwnArenas::still_own))]
     pub fn add_alone(&mut self, slot: Slot) -> Result<NodeId, Memory>
-        requires { slot.below.items ≡ [] }
+        requires bare { slot.below.items ≡ [] }
+        requires own { IsOwn self.old }
+        ensures own { IsOwn self.new }
         ensures id { IfOk result (λ id. id ≡ size self.old) }
         ensures added { OnOk result (IsAdded self.old self.new (provision_of slot)) }
         ensures slots_kept { OnErr result (self.new.slots.items ≡ self.old.slots.items) }
@@ -139,33 +146,37 @@ impl Arena {
     }
 
     /// Sets the number right above one.
-    #[tactic(auto, using(crate::proofs::HashedLevels::still_hashed))]
+    #[tactic(auto, using(crate::proofs::HashedLevels::still_hashed, crate::proofs::OwnArenas::slots_own))]
     pub fn set_above(&mut self, id: NodeId, above: NodeId)
-        requires { id < size self.old }
+        requires within { id < size self.old }
+        requires own { IsOwn self.old }
         ensures numbers { self.new.numbers ≡ self.old.numbers }
         ensures size { size self.new ≡ size self.old }
         ensures here { at self.new id ≡ with_above above (at self.old id) }
         ensures others { (k : ℕ) → (k ≡ id → ⊥) → at self.new k ≡ at self.old k }
     {
-        self.slots[id.place()].above = above;
+        self.slots.at_mut(id.place()).above = above;
     }
 
     // Takes a number out of the list of those right below another.
-    #[tactic(auto, using(crate::proofs::HashedLevels::still_hashed))]
+    #[tactic(auto, using(crate::proofs::HashedLevels::still_hashed, crate::proofs::OwnArenas::slots_own))]
     fn unlist(&mut self, above: NodeId, id: NodeId)
-        requires { above < size self.old }
+        requires within { above < size self.old }
+        requires own { IsOwn self.old }
         ensures numbers { self.new.numbers ≡ self.old.numbers }
         ensures size { size self.new ≡ size self.old }
         ensures here { at self.new above
             ≡ with_below (filter (λ k. not (k == id)) (below_in (at self.old above))) (at self.old above) }
         ensures others { (k : ℕ) → (k ≡ above → ⊥) → at self.new k ≡ at self.old k }
     {
-        leave_out(&mut self.slots[above.place()].below, id);
+        self.slots.at_mut(above.place()).below.leave_out(id);
     }
 
     /// Takes a number off: it is right above itself from now on, and the one above it lists it no more. It needs no
     /// memory.
+    #[tactic(auto, using(crate::proofs::OwnArenas::still_own))]
     pub fn take_off(&mut self, id: NodeId)
+        requires own { IsOwn self.old }
         requires within { id < size self.old }
         requires above { above_in (at self.old id) < size self.old }
         requires apart { above_in (at self.old id) ≡ id → ⊥ }

@@ -55,7 +55,7 @@ impl Arena {
     ghost use Rattle.act_tree.specs.Brought.{brought_under};
     ghost use Rattle.act_tree.specs.Grafted.{IsGrafted};
     ghost use Rattle.act_tree.specs.Planted.{HasGrown};
-    ghost use Rattle.act_tree.specs.Slots.{at, size};
+    ghost use Rattle.act_tree.specs.Slots.{at, size, IsOwn};
     ghost use Rattle.act_tree.specs.Wids.{all_wids};
 
     /// Lays nodes down, and puts them among those below a number, behind the first so many. `Err`: there was not enough
@@ -68,15 +68,22 @@ impl Arena {
         name: &str,
         nodes: &Nodes,
     ) -> Result<(), Memory>
+        requires own { IsOwn self.old }
         requires within { parent < size self.old }
         requires place { place ≤ length (below_in (at self.old parent)) }
+        ensures own { IsOwn self.new }
         ensures grafted { OnOk result (IsGrafted self.old self.new parent place
             (brought_under name.now (branches_of nodes.now))) }
         ensures kept { OnErr result (HasGrown self.old self.new
             (all_wids (brought_under name.now (branches_of nodes.now)))) }
     {
         let ids = lay_all(alloc, self, NONE_THROUGHOUT, Some(name), nodes)?;
-        let below = put_numbers(alloc, &self.slots[parent.place()].below, place, &ids)?;
+        let below = put_numbers(
+            alloc,
+            self.slots[parent.place()].below.as_slice(),
+            place,
+            &ids,
+        )?;
         self.take_in(parent, &ids, below);
         Ok(())
     }

@@ -1,39 +1,45 @@
 //! Hash index: which numbers have which hash, so that who seeks a level or a wId visits only the numbers that share its
 //! bucket, from the latest to the first. A clause sees the hash of each number, how many buckets there are (`width`), and
-//! for how many more numbers there is room.
+//! for how many more numbers there is room. An own index is written to; a kept one shares pieces of its lists with others.
 
-ghost use Rattle.std.specs.Prelude.{◌≡◌, ◌+◌, ◌<◌, ◌≤◌, ◌^◌, [], ◌∷◌, ◌++◌, length, replicate, slice_index, slice_set, IfOk, OnOk};
+ghost use Rattle.std.specs.Prelude.{◌≡◌, true, false, ◌+◌, ◌<◌, ◌≤◌, ◌^◌, [], ◌∷◌, ◌++◌, length, replicate, slice_index, slice_set, IfOk, OnOk};
 ghost use Rattle.std.specs.Option.{ForSome};
+ghost use Rattle.act_tree.specs.KeptLists.{with_list};
 ghost use Rattle.act_tree.specs.HashIndex.{bucket_of, buckets, latest, last_in, previous_in, IsLinked, IsNext, led_by, heads_led, links_led, heads_moved, links_moved};
 
+use crate::kept_list::KeptList;
+use desk_base::Memory;
 use std::alloc::{AllocError, Global};
 use std::marker::Model;
+
+/// Numbers in a list whose pieces can be shared.
+pub type Words = KeptList<u32, 128>;
 
 /// Which numbers have which hash, in chains by bucket.
 #[derive(Debug, Drop)]
 pub struct HashIndex {
     // The hash of each number.
-    hashes: Vec<u32>,
+    hashes: Words,
     // Of each bucket one past its last number, or 0.
-    heads: Vec<u32>,
+    heads: Words,
     // Of each number one past the last before it in its bucket, or 0.
-    before: Vec<u32>,
+    before: Words,
 }
 
 impl Model for HashIndex {
-    ghost use Rattle.std.specs.Prelude.{min, ◌-◌, vec_len, vec_capacity};
-    ghost use Rattle.act_tree.specs.HashIndex.{IndexValue, IsIndex};
+    ghost use Rattle.std.specs.Prelude.{min, length, ◌-◌};
+    ghost use Rattle.act_tree.specs.HashIndex.{IndexValue, AreIndex};
 
     ghost Value = { IndexValue };
 
     ghost view = { λ a. record {
       hashes = a.hashes.items;
-      width = vec_len a.heads;
-      room = min (vec_len a.heads - vec_len a.hashes)
-          (min (vec_capacity a.hashes - vec_len a.hashes) (vec_capacity a.before - vec_len a.before));
+      width = length a.heads.items;
+      room = min (length a.heads.items - length a.hashes.items) (min a.hashes.room a.before.room);
+      is_own = a.hashes.is_own;
     } };
 
-    ghost invariant = { λ a. IsIndex (vec_len a.heads) a.hashes.items a.heads.items a.before.items };
+    ghost invariant = { λ a. AreIndex a.hashes a.heads a.before };
 }
 
 // The bucket of a hash, of so many.
@@ -70,22 +76,24 @@ fn link_all(hashes: &[u32], heads: &mut [u32], before: &mut [u32])
 
 // Lets what leads to the numbers of a bucket, the link of the one right behind them or the head where there is none,
 // lead elsewhere. To which one it led.
-fn lead(heads: &mut [u32], before: &mut [u32], bucket: usize, next: Option<usize>, to: u32) -> u32
-    requires bucket { bucket < length heads.old }
-    requires next { ForSome next (λ k. k < length before.old) }
-    ensures was { result ≡ led_by next heads.old before.old bucket }
-    ensures heads { heads.new ≡ heads_led next heads.old bucket to }
-    ensures links { before.new ≡ links_led next before.old to }
+fn lead(heads: &mut Words, before: &mut Words, bucket: usize, next: Option<usize>, to: u32) -> u32
+    requires own_heads { heads.old.is_own ≡ true }
+    requires own_links { before.old.is_own ≡ true }
+    requires bucket { bucket < length heads.old.items }
+    requires next { ForSome next (λ k. k < length before.old.items) }
+    ensures was { result ≡ led_by next heads.old.items before.old.items bucket }
+    ensures heads { heads.new ≡ with_list heads.old (heads_led next heads.old.items bucket to) }
+    ensures links { before.new ≡ with_list before.old (links_led next before.old.items to) }
 {
     match next {
         Some(number) => {
             let was = before[number];
-            before[number] = to;
+            *before.at_mut(number) = to;
             was
         }
         None => {
             let was = heads[bucket];
-            heads[bucket] = to;
+            *heads.at_mut(bucket) = to;
             was
         }
     }
@@ -93,54 +101,76 @@ fn lead(heads: &mut [u32], before: &mut [u32], bucket: usize, next: Option<usize
 
 // Takes a number out of the chain of a bucket and puts it into another one, where these are right behind it in each.
 fn move_over(
-    heads: &mut [u32],
-    before: &mut [u32],
+    heads: &mut Words,
+    before: &mut Words,
     number: usize,
     from: usize,
     out: Option<usize>,
     to: usize,
     into: Option<usize>,
 )
-    requires number { number < length before.old }
+    requires own_heads { heads.old.is_own ≡ true }
+    requires own_links { before.old.is_own ≡ true }
+    requires number { number < length before.old.items }
     requires fits { number + 1 < 2 ^ 32 }
-    requires from { from < length heads.old }
-    requires out { ForSome out (λ k. k < length before.old) }
-    requires to { to < length heads.old }
-    requires into { ForSome into (λ k. k < length before.old) }
-    ensures heads { heads.new ≡ heads_moved heads.old before.old number from out to into }
-    ensures links { before.new ≡ links_moved heads.old before.old number from out to into }
+    requires from { from < length heads.old.items }
+    requires out { ForSome out (λ k. k < length before.old.items) }
+    requires to { to < length heads.old.items }
+    requires into { ForSome into (λ k. k < length before.old.items) }
+    ensures heads { heads.new ≡ with_list heads.old (heads_moved heads.old.items before.old.items number from out to into) }
+    ensures links { before.new ≡ with_list before.old (links_moved heads.old.items before.old.items number from out to into) }
 {
     let behind = before[number];
     lead(heads, before, from, out, behind);
     let was = lead(heads, before, to, into, number as u32 + 1);
-    before[number] = was;
+    *before.at_mut(number) = was;
 }
 
 impl HashIndex {
-    /// No numbers. It takes no memory.
+    /// No numbers, own. It takes no memory.
     pub fn new(alloc: Global) -> HashIndex
-        ensures { result.hashes ≡ [] }
+        ensures hashes { result.hashes ≡ [] }
+        ensures own { result.is_own ≡ true }
     {
         HashIndex {
-            hashes: Vec::new(alloc),
-            heads: Vec::new(alloc),
-            before: Vec::new(alloc),
+            hashes: KeptList::new(alloc),
+            heads: KeptList::new(alloc),
+            before: KeptList::new(alloc),
         }
     }
 
-    /// The same index.
-    pub fn copy(&self, alloc: Global) -> Result<HashIndex, AllocError>
-        ensures { IfOk result (λ index. index.hashes ≡ self.now.hashes) }
+    /// The same index, own.
+    #[tactic(auto, using(crate::proofs::OwnIndexes::are_too))]
+    pub fn own_copy(&self, alloc: Global) -> Result<HashIndex, Memory>
+        ensures hashes { IfOk result (λ index. index.hashes ≡ self.now.hashes) }
+        ensures own { IfOk result (λ index. index.is_own ≡ true) }
     {
         Ok(HashIndex {
-            hashes: Vec::from_slice(alloc, &self.hashes)?,
-            heads: Vec::from_slice(alloc, &self.heads)?,
-            before: Vec::from_slice(alloc, &self.before)?,
+            hashes: self.hashes.own_copy(alloc)?,
+            heads: self.heads.own_copy(alloc)?,
+            before: self.before.own_copy(alloc)?,
+        })
+    }
+
+    /// The same index, kept. What was not written since it was kept last is shared.
+    #[tactic(auto, using(crate::proofs::OwnIndexes::are_too))]
+    pub fn keep(&mut self, alloc: Global) -> Result<HashIndex, Memory>
+        ensures same { self.new ≡ self.old }
+        ensures hashes { IfOk result (λ index. index.hashes ≡ self.old.hashes) }
+        ensures kept { IfOk result (λ index. index.is_own ≡ false) }
+    {
+        Ok(HashIndex {
+            hashes: self.hashes.keep(alloc)?,
+            heads: self.heads.keep(alloc)?,
+            before: self.before.keep(alloc)?,
         })
     }
 
     // Makes the table wider where it has no more buckets than numbers.
+    #[tactic(auto, using(crate::proofs::OwnIndexes::hashes_own, crate::proofs::OwnIndexes::heads_own, crate::proofs::OwnIndexes::links_own, crate::proofs::OwnIndexes::are_too, crate::proofs::Pieces::refilled))]
     fn widen(&mut self) -> Result<(), AllocError>
+        requires { self.old.is_own ≡ true }
+        ensures own { self.new.is_own ≡ true }
         ensures hashes { self.new.hashes ≡ self.old.hashes }
         ensures kept { self.old.room ≤ self.new.room }
         ensures wide { OnOk result (length self.new.hashes < self.new.width) }
@@ -153,26 +183,36 @@ impl HashIndex {
             return Err(AllocError);
         }
         self.heads.resize(width, 0)?;
-        link_all(&self.hashes, &mut self.heads, &mut self.before);
+        link_all(
+            self.hashes.as_own(),
+            self.heads.as_own_mut(),
+            self.before.as_own_mut(),
+        );
         Ok(())
     }
 
     /// Makes room for one more number. `Err`: there was not enough memory, or there are more than 2^31 - 9 numbers.
     /// Whatever comes of it, there is room for no fewer than before.
+    #[tactic(auto, using(crate::proofs::OwnIndexes::hashes_own, crate::proofs::OwnIndexes::links_own, crate::proofs::OwnIndexes::are_too))]
     pub fn reserve(&mut self) -> Result<(), AllocError>
+        requires { self.old.is_own ≡ true }
+        ensures own { self.new.is_own ≡ true }
         ensures hashes { self.new.hashes ≡ self.old.hashes }
         ensures kept { self.old.room ≤ self.new.room }
         ensures room { OnOk result (1 ≤ self.new.room) }
     {
         self.widen()?;
-        self.hashes.reserve(1)?;
-        self.before.reserve(1)?;
+        self.hashes.reserve()?;
+        self.before.reserve()?;
         Ok(())
     }
 
     /// Adds the next number, which has this hash. It takes no memory.
+    #[tactic(auto, using(crate::proofs::OwnIndexes::hashes_own, crate::proofs::OwnIndexes::heads_own, crate::proofs::OwnIndexes::links_own, crate::proofs::OwnIndexes::hashes_room, crate::proofs::OwnIndexes::links_room))]
     pub fn add(&mut self, hash: u32)
-        requires { 1 ≤ self.old.room }
+        requires room { 1 ≤ self.old.room }
+        requires own { self.old.is_own ≡ true }
+        ensures own { self.new.is_own ≡ true }
         ensures hashes { self.new.hashes ≡ self.old.hashes ++ hash ∷ [] }
         ensures room { self.old.room ≤ self.new.room + 1 }
     {
@@ -180,7 +220,7 @@ impl HashIndex {
         let bucket = bucket_of(hash, self.heads.len());
         let last = self.heads[bucket];
         self.before.push_reserved(last);
-        self.heads[bucket] = number as u32 + 1;
+        *self.heads.at_mut(bucket) = number as u32 + 1;
         self.hashes.push_reserved(hash);
     }
 
@@ -235,8 +275,11 @@ impl HashIndex {
     }
 
     /// Gives a number another hash. It takes no memory.
+    #[tactic(auto, using(crate::proofs::OwnIndexes::hashes_own, crate::proofs::OwnIndexes::heads_own, crate::proofs::OwnIndexes::links_own))]
     pub fn set(&mut self, number: usize, hash: u32)
-        requires { number < length self.old.hashes }
+        requires within { number < length self.old.hashes }
+        requires own { self.old.is_own ≡ true }
+        ensures own { self.new.is_own ≡ true }
         ensures hashes { self.new.hashes ≡ slice_set self.old.hashes number hash }
         ensures room { self.new.room ≡ self.old.room }
     {
@@ -244,7 +287,7 @@ impl HashIndex {
         let from = bucket_of(self.hashes[number], width);
         let to = bucket_of(hash, width);
         if from == to {
-            self.hashes[number] = hash;
+            *self.hashes.at_mut(number) = hash;
             return;
         }
         let out = self.next_in(from, number);
@@ -258,6 +301,6 @@ impl HashIndex {
             to,
             into,
         );
-        self.hashes[number] = hash;
+        *self.hashes.at_mut(number) = hash;
     }
 }

@@ -7,12 +7,13 @@ ghost use Rattle.act_tree.specs.Changes.{root_wid};
 ghost use Rattle.act_tree.specs.Eids as spec;
 ghost use Rattle.act_tree.specs.Eids.{all_enacted};
 ghost use Rattle.act_tree.specs.Planted.{HasGrown, IsLaid, AreLaid};
-ghost use Rattle.act_tree.specs.Slots.{at, number, provision_of, size};
+ghost use Rattle.act_tree.specs.Slots.{at, number, provision_of, size, IsOwn};
 ghost use Rattle.act_tree.specs.Specs.{own_of};
 ghost use Rattle.act_tree.specs.Wids.{wids, all_wids, is_among, one_twice};
 ghost use Rattle.eid_paths.specs.Nums.{is_num};
 
 use crate::arena::{Arena, Slot};
+use crate::numbers::Numbers;
 use crate::{NodeId, NodeSpec, Nodes, Refs, eid_below};
 use desk_base::{Memory, Text};
 use eid_paths::{Element, Num, Numbering};
@@ -39,7 +40,7 @@ fn slot_of(
         content: node.content.copy()?,
         refs: node.refs.copy(alloc)?,
         above: NodeId::root(),
-        below: Vec::new(alloc),
+        below: Numbers::new(alloc),
     })
 }
 
@@ -64,7 +65,7 @@ fn root_slot(alloc: Global) -> Result<Slot, Memory>
         content: Text::copy_of(alloc, "")?,
         refs: Refs::new(alloc),
         above: NodeId::root(),
-        below: Vec::new(alloc),
+        below: Numbers::new(alloc),
     })
 }
 
@@ -72,6 +73,7 @@ fn root_slot(alloc: Global) -> Result<Slot, Memory>
 /// the root where that is `None`. `Err`: there was not enough memory; some of them may have been laid down behind what
 /// the arena had.
 #[cycle(laying)]
+#[tactic(auto, using(crate::proofs::OwnArenas::laid_own, crate::proofs::OwnArenas::all_laid_own))]
 pub fn lay(
     alloc: Global,
     arena: &mut Arena,
@@ -82,6 +84,7 @@ pub fn lay(
 ) -> Result<NodeId, Memory>
     requires below { slot.below.items ≡ [] }
     requires num { is_num slot.num ≡ true }
+    requires own { IsOwn arena.old }
     ensures laid { let eid = option_map (λ s. s.now) wid.entry in IfOk result (λ id. IsLaid arena.old arena.new id
         (branch (provision_of slot) (all_enacted numbering eid (branches_of children.now)))) }
     ensures kept { let eid = option_map (λ s. s.now) wid.entry in OnErr result (HasGrown arena.old arena.new
@@ -97,6 +100,7 @@ pub fn lay(
 /// is `None`. `Err`: there was not enough memory; some of them
 /// may have been laid down behind what the arena had.
 #[cycle(laying)]
+#[tactic(auto, using(crate::proofs::OwnArenas::laid_own, crate::proofs::OwnArenas::all_laid_own))]
 pub fn lay_all(
     alloc: Global,
     arena: &mut Arena,
@@ -104,6 +108,7 @@ pub fn lay_all(
     wid: Option<&str>,
     nodes: &Nodes,
 ) -> Result<Vec<NodeId>, Memory>
+    requires { IsOwn arena.old }
     ensures laid { IfOk result (λ ids. AreLaid arena.old arena.new ids.items
         (all_enacted numbering (option_map (λ s. s.now) wid.entry) (branches_of nodes.now))) }
     ensures kept { OnErr result (HasGrown arena.old arena.new
@@ -138,6 +143,7 @@ pub fn plant(
         (branches_of nodes.now))) ≡ false }
     requires apart { is_among root_wid (all_wids (all_enacted numbering (option_map (λ s. s.now) wid)
         (branches_of nodes.now))) ≡ false }
+    ensures own { IfOk result (λ a. IsOwn a) }
     ensures whole { IfOk result (λ a. IsWhole (at a) (number a) (size a)) }
     ensures reads { let eid = option_map (λ s. s.now) wid.entry in IfOk result (λ a.
         branches_below (size a) (at a) (below_in (at a 0)) ≡ all_enacted numbering eid (branches_of nodes.now)) }

@@ -5,6 +5,7 @@ ghost use Rattle.act_tree.specs.Siblings as spec;
 
 use crate::arena::{Arena, Slot};
 use crate::grafting::bringer;
+use crate::numbers::Numbers;
 use crate::{NONE_THROUGHOUT, NodeId, Refs, eid_below};
 use desk_base::{Id, Memory, Text};
 use eid_paths::Num;
@@ -38,7 +39,7 @@ impl Arena {
     ghost use Rattle.act_tree.specs.Brought as brought;
     ghost use Rattle.act_tree.specs.Moved.{IsFilled};
     ghost use Rattle.act_tree.specs.Parted.{CanGive, CanPart, IsGiven, IsParted};
-    ghost use Rattle.act_tree.specs.Slots.{at, number, size, provision_of, own_at};
+    ghost use Rattle.act_tree.specs.Slots.{at, number, size, provision_of, own_at, IsOwn};
 
     /// The numbers right below a provision, behind the first so many.
     pub fn below_behind(
@@ -51,7 +52,7 @@ impl Arena {
         requires place { first_child ≤ length (below_in (at self.now id)) }
         ensures { IfOk result (λ numbers. numbers.items ≡ drop first_child (below_in (at self.now id))) }
     {
-        Ok(self.slots[id.place()].below[first_child..].to_vec(alloc)?)
+        Ok(self.slots[id.place()].below.as_slice()[first_child..].to_vec(alloc)?)
     }
 
     /// The second part of a provision, without children.
@@ -87,25 +88,27 @@ impl Arena {
             content: tail,
             refs: Refs::new(alloc),
             above: id,
-            below: Vec::new(alloc),
+            below: Numbers::new(alloc),
         })
     }
 
     // Gives a provision another content, and leaves it the first so many of those right below it.
-    #[tactic(auto, using(crate::proofs::HashedLevels::still_hashed))]
+    #[tactic(auto, using(crate::proofs::HashedLevels::still_hashed, crate::proofs::OwnArenas::slots_own))]
     fn keep_first(&mut self, id: NodeId, first_child: usize, content: Text)
-        requires { id < size self.old }
+        requires within { id < size self.old }
+        requires own { IsOwn self.old }
         ensures numbers { self.new.numbers ≡ self.old.numbers }
         ensures size { size self.new ≡ size self.old }
         ensures filled { IsFilled (at self.old) (at self.new) id
             (record (own_at self.old id) { content = content }) (take first_child (below_in (at self.old id))) }
     {
-        let slot = &mut self.slots[id.place()];
+        let slot = self.slots.at_mut(id.place());
         slot.content = content;
         slot.below.truncate(first_child);
     }
 
     // Gives the last of those right below a provision to another one, and that one a place in a list.
+    #[tactic(auto, using(crate::proofs::OwnArenas::still_own))]
     fn give(
         &mut self,
         id: NodeId,
@@ -116,7 +119,8 @@ impl Arena {
         above: NodeId,
         list: Vec<NodeId>,
     )
-        requires { CanGive (at self.old) (size self.old) id first_child other moved.items above }
+        requires can { CanGive (at self.old) (size self.old) id first_child other moved.items above }
+        requires own { IsOwn self.old }
         ensures numbers { self.new.numbers ≡ self.old.numbers }
         ensures size { size self.new ≡ size self.old }
         ensures given { IsGiven self.old self.new id first_child head other moved.items above list.items }
@@ -130,6 +134,7 @@ impl Arena {
 
     /// Parts a provision: it has another content and the first so many of those right below it, and right behind it
     /// stands its second part with the others. `Err`: there was not enough memory, and nothing has changed.
+    #[tactic(auto, using(crate::proofs::OwnArenas::still_own))]
     pub fn part(
         &mut self,
         alloc: Global,
@@ -141,13 +146,20 @@ impl Arena {
     ) -> Result<(), Memory>
         requires can { CanPart (at self.old) (size self.old) id first_child moved.items }
         requires bare { second.below.items ≡ [] }
+        requires own { IsOwn self.old }
+        ensures own { IsOwn self.new }
         ensures parted { OnOk result (IsParted self.old self.new id first_child head (provision_of second) moved.items) }
         ensures slots_kept { OnErr result (self.new.slots.items ≡ self.old.slots.items) }
         ensures numbers_kept { OnErr result ((w : List ℕ) → number self.new w ≡ number self.old w) }
     {
         let above = self.slots[id.place()].above;
         let number = NodeId::of_place(self.slots.len()).ok_or(Memory)?;
-        let list = put_behind(alloc, &self.slots[above.place()].below, id, number)?;
+        let list = put_behind(
+            alloc,
+            self.slots[above.place()].below.as_slice(),
+            id,
+            number,
+        )?;
         let other = self.add_alone(second)?;
         self.give(id, first_child, head, other, moved, above, list);
         Ok(())

@@ -3,6 +3,7 @@
 
 use crate::NodeId;
 use crate::arena::Arena;
+use crate::numbers::Numbers;
 
 impl Arena {
     ghost use Rattle.std.specs.Prelude.{ℕ, ◌≡◌, ◌==◌, ◌<◌, ◌≤◌, false, [], take, drop, length};
@@ -10,10 +11,12 @@ impl Arena {
     ghost use Rattle.act_tree.specs.Arena.{below_in};
     ghost use Rattle.act_tree.specs.Moved.{IsFilled};
     ghost use Rattle.act_tree.specs.Relisted.{IsRaised, IsRelisted};
-    ghost use Rattle.act_tree.specs.Slots.{at, own_at, size};
+    ghost use Rattle.act_tree.specs.Slots.{at, own_at, size, IsOwn};
 
     /// Lets those right below a number, from one place on, be right above themselves. It needs no memory.
+    #[tactic(auto, using(crate::proofs::OwnArenas::still_own))]
     pub fn release(&mut self, id: NodeId, first: usize)
+        requires own { IsOwn self.old }
         requires within { id < size self.old }
         requires place { first ≤ length (below_in (at self.old id)) }
         requires children { All (λ k. k < size self.old) (below_in (at self.old id)) }
@@ -28,7 +31,9 @@ impl Arena {
     }
 
     /// Lets each of those right below a number have it right above them. It needs no memory.
+    #[tactic(auto, using(crate::proofs::OwnArenas::still_own))]
     pub fn settle(&mut self, id: NodeId)
+        requires own { IsOwn self.old }
         requires within { id < size self.old }
         requires children { All (λ k. k < size self.old) (below_in (at self.old id)) }
         ensures numbers { self.new.numbers ≡ self.old.numbers }
@@ -42,8 +47,10 @@ impl Arena {
     }
 
     // Lets numbers have one right above them.
+    #[tactic(auto, using(crate::proofs::OwnArenas::still_own))]
     fn raise(&mut self, ids: &[NodeId], above: NodeId)
-        requires { All (λ k. k < size self.old) ids.now }
+        requires come { All (λ k. k < size self.old) ids.now }
+        requires own { IsOwn self.old }
         ensures numbers { self.new.numbers ≡ self.old.numbers }
         ensures size { size self.new ≡ size self.old }
         ensures raised { IsRaised (at self.old) (at self.new) ids.now (λ k. above) }
@@ -54,18 +61,21 @@ impl Arena {
     }
 
     /// Sets the numbers right below one.
-    #[tactic(auto, using(crate::proofs::HashedLevels::still_hashed))]
+    #[tactic(auto, using(crate::proofs::HashedLevels::still_hashed, crate::proofs::OwnArenas::slots_own))]
     pub fn relist(&mut self, id: NodeId, below: Vec<NodeId>)
-        requires { id < size self.old }
+        requires within { id < size self.old }
+        requires own { IsOwn self.old }
         ensures numbers { self.new.numbers ≡ self.old.numbers }
         ensures size { size self.new ≡ size self.old }
         ensures filled { IsFilled (at self.old) (at self.new) id (own_at self.old id) below.items }
     {
-        self.slots[id.place()].below = below;
+        self.slots.at_mut(id.place()).below = Numbers::of(below);
     }
 
     /// Gives a number others right below it, which have it right above them. It needs no memory.
+    #[tactic(auto, using(crate::proofs::OwnArenas::still_own))]
     pub fn hold(&mut self, id: NodeId, below: Vec<NodeId>)
+        requires own { IsOwn self.old }
         requires within { id < size self.old }
         requires come { All (λ k. k < size self.old) below.items }
         requires apart { list_any (λ j. j == id) below.items ≡ false }
@@ -79,7 +89,9 @@ impl Arena {
 
     /// Gives a number another list of those right below it; those of it that come have the number right above them. It
     /// needs no memory.
+    #[tactic(auto, using(crate::proofs::OwnArenas::still_own))]
     pub fn take_in(&mut self, id: NodeId, come: &[NodeId], list: Vec<NodeId>)
+        requires own { IsOwn self.old }
         requires within { id < size self.old }
         requires come { All (λ k. k < size self.old) come.now }
         requires apart { list_any (λ j. j == id) come.now ≡ false }
@@ -92,18 +104,21 @@ impl Arena {
     }
 
     // Leaves a number none of those right below it.
-    #[tactic(auto, using(crate::proofs::HashedLevels::still_hashed))]
+    #[tactic(auto, using(crate::proofs::HashedLevels::still_hashed, crate::proofs::OwnArenas::slots_own))]
     fn empty(&mut self, id: NodeId)
-        requires { id < size self.old }
+        requires within { id < size self.old }
+        requires own { IsOwn self.old }
         ensures numbers { self.new.numbers ≡ self.old.numbers }
         ensures size { size self.new ≡ size self.old }
         ensures filled { IsFilled (at self.old) (at self.new) id (own_at self.old id) [] }
     {
-        self.slots[id.place()].below.clear();
+        self.slots.at_mut(id.place()).below.clear();
     }
 
     /// Takes all those right below a number off. It needs no memory.
+    #[tactic(auto, using(crate::proofs::OwnArenas::still_own))]
     pub fn take_all(&mut self, id: NodeId)
+        requires own { IsOwn self.old }
         requires within { id < size self.old }
         requires children { All (λ k. k < size self.old) (below_in (at self.old id)) }
         requires apart { list_any (λ j. j == id) (below_in (at self.old id)) ≡ false }

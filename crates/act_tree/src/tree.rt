@@ -4,7 +4,7 @@ ghost use Rattle.std.specs.Prelude.{◌≡◌, None, Some, if◌then◌else◌};
 ghost use Rattle.act_tree.specs.Arena.{IsWhole, below_in, branches_below};
 ghost use Rattle.act_tree.specs.Single.{IsWhole-prop};
 ghost use Rattle.act_tree.specs.EidsOfWids.{level_of_own};
-ghost use Rattle.act_tree.specs.Slots.{at, number, provision_of, size};
+ghost use Rattle.act_tree.specs.Slots.{at, number, provision_of, size, IsOwn};
 
 use crate::arena::{Arena, Slot};
 use crate::copying::arena_of_text;
@@ -29,6 +29,8 @@ pub struct Tree {
     numbering: Numbering,
     limit: NodeLimit,
     changes: u64,
+    // How many slots the arena had when it was seen last whether most of them are of what was taken off.
+    seen: usize,
     arena: Arena,
     ghost whole: { IsWhole (at arena) (number arena) (size arena) } by { IsWhole-prop (at arena) (number arena) (size arena) },
 }
@@ -116,7 +118,7 @@ impl Tree {
     ghost use Rattle.act_tree.specs.Trees.{unchanged};
     ghost use Rattle.act_tree.specs.NodesStay.{NodesStay};
     ghost use Rattle.act_tree.specs.Wids.{all_wids, is_among, one_twice};
-    ghost use Rattle.act_tree.specs.Seen.{tree_view, has_node, provision_at, children_at, parent_at, branch_at, below_at, with_body, once_changed, changed_at, removed_at, substituted_at, grafted_at, nums_by_wid, next_at, laid_down};
+    ghost use Rattle.act_tree.specs.Seen.{tree_view, is_own, has_node, provision_at, children_at, parent_at, branch_at, below_at, with_body, once_changed, changed_at, removed_at, substituted_at, grafted_at, nums_by_wid, next_at, laid_down};
     ghost use Rattle.std.specs.Prelude.{◌↔◌, [], ◌∷◌, drop};
     ghost use Rattle.act_tree.specs.Changes.{found, root_wid};
 
@@ -129,6 +131,7 @@ impl Tree {
     ) -> Result<Tree, BuildFail>
         ensures tree { IfOk result (λ t. tree_view t
             ≡ unchanged numbering limit (all_enacted numbering None (branches_of body.now))) }
+        ensures own { IfOk result (λ t. is_own t ≡ true) }
         ensures fits { OnOk result (first_fault numbering limit (branches_of body.now) ≡ None) }
         ensures fault { IfErr result (FailsBy (first_fault numbering limit (branches_of body.now))) }
     {
@@ -146,40 +149,105 @@ impl Tree {
         limit: NodeLimit,
     ) -> Result<Tree, Memory>
         requires { one_twice (all_wids (all_enacted numbering None (branches_of body.now))) ≡ false }
-        ensures { IfOk result (λ t. tree_view t
+        ensures own { IfOk result (λ t. is_own t ≡ true) }
+        ensures tree { IfOk result (λ t. tree_view t
             ≡ unchanged numbering limit (all_enacted numbering None (branches_of body.now))) }
     {
+        let arena = plant(alloc, numbering, None, body)?;
         Ok(Tree {
             numbering,
             limit,
             changes: 0,
-            arena: plant(alloc, numbering, None, body)?,
+            seen: arena.slots.len(),
+            arena,
         })
     }
 
-    /// The same tree. What its provisions say is shared. Where most of the slots are of what was taken off, only the text
-    /// that stands is laid down again; a node may have another id then, so it is found by its wId.
+    /// The same tree, own. What its provisions say is shared. Where most of the slots are of what was taken off, only the
+    /// text that stands is laid down again; a node may have another id then, so it is found by its wId.
     pub fn copy(&self, alloc: Global) -> Result<Tree, Memory>
-        ensures { IfOk result (λ t. tree_view t ≡ tree_view self.now) }
+        ensures tree { IfOk result (λ t. tree_view t ≡ tree_view self.now) }
+        ensures own { IfOk result (λ t. is_own t ≡ true) }
     {
+        let arena = self.copy_arena(alloc)?;
         Ok(Tree {
             numbering: self.numbering,
             limit: self.limit,
             changes: self.changes,
-            arena: self.copy_arena(alloc)?,
+            seen: arena.slots.len(),
+            arena,
         })
     }
 
-    // An arena of the same text: the same slots, or the text alone where more than half of them are of what was taken off.
+    // An arena of the same text, own: the same slots, or the text alone where more than half of them are of what was taken
+    // off.
     fn copy_arena(&self, alloc: Global) -> Result<Arena, Memory>
+        ensures own { IfOk result (λ a. IsOwn a) }
         ensures whole { IfOk result (λ a. IsWhole (at a) (number a) (size a)) }
         ensures reads { IfOk result (λ a. branches_below (size a) (at a) (below_in (at a 0)) ≡ (tree_view self.now).body) }
     {
         if self.arena.is_mostly_gone() {
             return arena_of_text(alloc, self);
         }
-        let arena = self.arena.copy(alloc)?;
+        let arena = self.arena.own_copy(alloc)?;
         Ok(arena)
+    }
+
+    /// The same tree, kept: it is read as any other, and can't be changed. It shares what it lies in with what was kept of
+    /// the tree before, but for pieces of which something was written since. Where the slots have doubled, and most of them
+    /// are of what was taken off, the text that stands is laid down again first, in the tree itself, too; a node may have
+    /// another id then, so it is found by its wId.
+    pub fn keep(&mut self, alloc: Global) -> Result<Tree, Memory>
+        ensures same { tree_view self.new ≡ tree_view self.old }
+        ensures own { is_own self.old ≡ true → is_own self.new ≡ true }
+        ensures kept { IfOk result (λ t. tree_view t ≡ tree_view self.old) }
+    {
+        self.lay_anew(alloc)?;
+        self.keep_slots(alloc)
+    }
+
+    // The same tree, kept, in the slots that there are.
+    fn keep_slots(&mut self, alloc: Global) -> Result<Tree, Memory>
+        ensures same { tree_view self.new ≡ tree_view self.old }
+        ensures own { is_own self.new ≡ is_own self.old }
+        ensures kept { IfOk result (λ t. tree_view t ≡ tree_view self.old) }
+    {
+        let arena = self.arena.keep(alloc)?;
+        Ok(Tree {
+            numbering: self.numbering,
+            limit: self.limit,
+            changes: self.changes,
+            seen: self.seen,
+            arena,
+        })
+    }
+
+    // Lays down the text alone, where the slots have doubled since that was seen last, and more than half of them are of what
+    // was taken off.
+    #[tactic(auto, unfolding(crate::specs::Seen::tree_view))]
+    fn lay_anew(&mut self, alloc: Global) -> Result<(), Memory>
+        ensures same { tree_view self.new ≡ tree_view self.old }
+        ensures own { is_own self.old ≡ true → is_own self.new ≡ true }
+    {
+        if self.arena.slots.len() / 2 < self.seen {
+            return Ok(());
+        }
+        self.seen = self.arena.slots.len();
+        if self.arena.is_mostly_gone() {
+            self.lay_text(alloc)?;
+        }
+        Ok(())
+    }
+
+    // Lays down the text alone.
+    fn lay_text(&mut self, alloc: Global) -> Result<(), Memory>
+        ensures same { tree_view self.new ≡ tree_view self.old }
+        ensures own { is_own self.old ≡ true → is_own self.new ≡ true }
+    {
+        let arena = arena_of_text(alloc, self)?;
+        self.seen = arena.slots.len();
+        self.arena = arena;
+        Ok(())
     }
 
     /// Which elements are numbered throughout.
@@ -238,8 +306,10 @@ impl Tree {
 
     /// Gives a node that is not the root another content. It is one change, and needs no memory.
     pub fn set_content<L: Ledger>(&mut self, id: NodeId, content: Text, steps: &mut Steps<L>)
+        requires own { is_own self.old ≡ true }
         requires node { has_node self.old id ≡ true }
         requires provision { id ≡ 0 → ⊥ }
+        ensures own { is_own self.new ≡ true }
         ensures tree { tree_view self.new ≡ once_changed self.old (changed_at self.old id (with_content content)) }
         ensures nodes { (k : ℕ) → has_node self.new k ≡ has_node self.old k }
         ensures wids { (k : ℕ) → (provision_at self.new k).wid ≡ (provision_at self.old k).wid }
@@ -252,8 +322,10 @@ impl Tree {
 
     /// Gives nodes that are not the root other nums, the first that pairs name for it: one change, without memory.
     pub fn set_nums<L: Ledger>(&mut self, pairs: &[(NodeId, Num)], steps: &mut Steps<L>)
+        requires own { is_own self.old ≡ true }
         requires nodes { All (λ pair. has_node self.old pair.0 ≡ true) pairs.now }
         requires provisions { All (λ pair. pair.0 ≡ 0 → ⊥) pairs.now }
+        ensures own { is_own self.new ≡ true }
         ensures tree { tree_view self.new
             ≡ once_changed self.old (renumbered (nums_by_wid self.old pairs.now) (tree_view self.old).body) }
         ensures nodes { (k : ℕ) → has_node self.new k ≡ has_node self.old k }
@@ -313,7 +385,7 @@ impl Tree {
         ensures nodes { All (λ child. has_node self.now child ≡ true) result.now }
         ensures branches { branches_of (map (branch_at self.now) result.now) ≡ below_at self.now id }
     {
-        &self.arena.slots[id.place()].below
+        self.arena.slots[id.place()].below.as_slice()
     }
 
     /// The eId of a node that is not the root.
@@ -466,7 +538,9 @@ impl Tree {
     /// Takes a node away, with all that stands beneath it; of the root, all that stands beneath it. It is one change,
     /// and needs no memory. What nodes say, and so their wIds, stays.
     pub fn remove<L: Ledger>(&mut self, id: NodeId, steps: &mut Steps<L>)
-        requires { has_node self.old id ≡ true }
+        requires own { is_own self.old ≡ true }
+        requires node { has_node self.old id ≡ true }
+        ensures own { is_own self.new ≡ true }
         ensures tree { tree_view self.new ≡ once_changed self.old (removed_at self.old id) }
         ensures says { (k : ℕ) → provision_at self.new k ≡ provision_at self.old k }
         ensures stay { NodesStay self.old self.new }
@@ -492,9 +566,11 @@ impl Tree {
         by: Id,
         steps: &mut Steps<L>,
     ) -> Result<(), Memory>
+        requires own { is_own self.old ≡ true }
         requires node { has_node self.old id ≡ true }
         requires payload { first_fault NONE_THROUGHOUT Plain (branches_of nodes.now) ≡ None }
         requires fresh { has_brought by (tree_view self.old).body ≡ false }
+        ensures own { is_own self.new ≡ true }
         ensures tree { OnOk result (tree_view self.new
             ≡ once_changed self.old (substituted_at self.old id (brought by (branches_of nodes.now)))) }
         ensures kept { OnErr result (tree_view self.new ≡ tree_view self.old) }
@@ -522,10 +598,12 @@ impl Tree {
         by: Id,
         steps: &mut Steps<L>,
     ) -> Result<(), Memory>
+        requires own { is_own self.old ≡ true }
         requires node { has_node self.old parent ≡ true }
         requires place { place ≤ length (children_at self.old parent) }
         requires payload { first_fault NONE_THROUGHOUT Plain (branches_of nodes.now) ≡ None }
         requires fresh { has_brought by (tree_view self.old).body ≡ false }
+        ensures own { is_own self.new ≡ true }
         ensures tree { OnOk result (tree_view self.new
             ≡ once_changed self.old (grafted_at self.old parent place (brought by (branches_of nodes.now)))) }
         ensures kept { OnErr result (tree_view self.new ≡ tree_view self.old) }
@@ -553,10 +631,12 @@ impl Tree {
         by: Id,
         steps: &mut Steps<L>,
     ) -> Result<(), Memory>
+        requires own { is_own self.old ≡ true }
         requires node { has_node self.old id ≡ true }
         requires provision { id ≡ 0 → ⊥ }
         requires place { first_child ≤ length (children_at self.old id) }
         requires fresh { has_brought by (tree_view self.old).body ≡ false }
+        ensures own { is_own self.new ≡ true }
         ensures tree { OnOk result (tree_view self.new ≡ once_changed self.old (changed_at self.old id
             (parted first_child head (second_part by (provision_at self.old id).own.element num heading tail)))) }
         ensures kept { OnErr result (tree_view self.new ≡ tree_view self.old) }
@@ -581,8 +661,10 @@ impl Tree {
         content: Text,
         steps: &mut Steps<L>,
     ) -> Result<(), Memory>
+        requires own { is_own self.old ≡ true }
         requires node { has_node self.old id ≡ true }
         requires next { is_some (next_at self.old id) ≡ true }
+        ensures own { is_own self.new ≡ true }
         ensures tree { OnOk result (tree_view self.new
             ≡ once_changed self.old (changed_at self.old id (merged content))) }
         ensures kept { OnErr result (tree_view self.new ≡ tree_view self.old) }
@@ -601,14 +683,18 @@ impl Tree {
         ensures tree { tree_view self.new ≡ once_changed self.old (tree_view self.old).body }
         ensures nodes { (k : ℕ) → has_node self.new k ≡ has_node self.old k }
         ensures says { (k : ℕ) → provision_at self.new k ≡ provision_at self.old k }
+        ensures own { is_own self.new ≡ is_own self.old }
     {
         self.changes = self.changes.saturating_add(1);
     }
 
     // Takes a provision away, with all that stands beneath it.
+    #[tactic(auto, using(crate::proofs::OwnArenas::still_own))]
     fn take_away(&mut self, id: NodeId)
+        requires own { is_own self.old ≡ true }
         requires node { has_node self.old id ≡ true }
         requires provision { id ≡ 0 → ⊥ }
+        ensures own { is_own self.new ≡ true }
         ensures tree { tree_view self.new ≡ with_body self.old (removed_at self.old id) }
         ensures says { (k : ℕ) → provision_at self.new k ≡ provision_at self.old k }
         ensures stay { NodesStay self.old self.new }
@@ -617,7 +703,10 @@ impl Tree {
     }
 
     // Takes all provisions away.
+    #[tactic(auto, using(crate::proofs::OwnArenas::still_own))]
     fn clear(&mut self)
+        requires own { is_own self.old ≡ true }
+        ensures own { is_own self.new ≡ true }
         ensures tree { tree_view self.new ≡ with_body self.old (removed_at self.old 0) }
         ensures says { (k : ℕ) → provision_at self.new k ≡ provision_at self.old k }
         ensures stay { NodesStay self.old self.new }
@@ -626,9 +715,12 @@ impl Tree {
     }
 
     // Gives a provision another content.
+    #[tactic(auto, using(crate::proofs::OwnArenas::still_own))]
     fn put_content(&mut self, id: NodeId, content: Text)
+        requires own { is_own self.old ≡ true }
         requires node { has_node self.old id ≡ true }
         requires provision { id ≡ 0 → ⊥ }
+        ensures own { is_own self.new ≡ true }
         ensures tree { tree_view self.new ≡ with_body self.old (changed_at self.old id (with_content content)) }
         ensures nodes { (k : ℕ) → has_node self.new k ≡ has_node self.old k }
         ensures wids { (k : ℕ) → (provision_at self.new k).wid ≡ (provision_at self.old k).wid }
@@ -637,10 +729,13 @@ impl Tree {
     }
 
     // Gives a provision another num.
+    #[tactic(auto, using(crate::proofs::OwnArenas::still_own))]
     fn put_num(&mut self, id: NodeId, num: Num)
+        requires own { is_own self.old ≡ true }
         requires node { has_node self.old id ≡ true }
         requires provision { id ≡ 0 → ⊥ }
         requires num { is_num num ≡ true }
+        ensures own { is_own self.new ≡ true }
         ensures tree { tree_view self.new
             ≡ with_body self.old (renumbered (nums_by_wid self.old ((id, num) ∷ [])) (tree_view self.old).body) }
         ensures nodes { (k : ℕ) → has_node self.new k ≡ has_node self.old k }
@@ -651,8 +746,10 @@ impl Tree {
 
     // Gives provisions other nums, from the last pair to the first, which so has the last word.
     fn put_nums(&mut self, pairs: &[(NodeId, Num)])
+        requires own { is_own self.old ≡ true }
         requires nodes { All (λ pair. has_node self.old pair.0 ≡ true) pairs.now }
         requires provisions { All (λ pair. pair.0 ≡ 0 → ⊥) pairs.now }
+        ensures own { is_own self.new ≡ true }
         ensures tree { tree_view self.new
             ≡ with_body self.old (renumbered (nums_by_wid self.old pairs.now) (tree_view self.old).body) }
         ensures nodes { (k : ℕ) → has_node self.new k ≡ has_node self.old k }
@@ -704,10 +801,12 @@ impl Tree {
         nodes: &Nodes,
         by: Id,
     ) -> Result<(), Memory>
+        requires own { is_own self.old ≡ true }
         requires node { has_node self.old parent ≡ true }
         requires place { place ≤ length (children_at self.old parent) }
         requires payload { first_fault NONE_THROUGHOUT Plain (branches_of nodes.now) ≡ None }
         requires fresh { has_brought by (tree_view self.old).body ≡ false }
+        ensures own { is_own self.new ≡ true }
         ensures tree { OnOk result (tree_view self.new
             ≡ with_body self.old (grafted_at self.old parent place (brought by (branches_of nodes.now)))) }
         ensures nodes { OnOk result ((k : ℕ) → has_node self.old k ≡ true → has_node self.new k ≡ true) }
@@ -721,9 +820,12 @@ impl Tree {
     }
 
     // Takes the next sibling of a provision into it.
+    #[tactic(auto, using(crate::proofs::OwnArenas::still_own))]
     fn take_next_in(&mut self, alloc: Global, id: NodeId, content: Text) -> Result<(), Memory>
+        requires own { is_own self.old ≡ true }
         requires node { has_node self.old id ≡ true }
         requires next { is_some (next_at self.old id) ≡ true }
+        ensures own { is_own self.new ≡ true }
         ensures tree { OnOk result (tree_view self.new ≡ with_body self.old (changed_at self.old id (merged content))) }
         ensures kept { OnErr result (tree_view self.new ≡ tree_view self.old) }
         ensures stay { NodesStay self.old self.new }
@@ -743,10 +845,12 @@ impl Tree {
         nodes: &Nodes,
         by: Id,
     ) -> Result<(), Memory>
+        requires own { is_own self.old ≡ true }
         requires node { has_node self.old id ≡ true }
         requires provision { id ≡ 0 → ⊥ }
         requires payload { first_fault NONE_THROUGHOUT Plain (branches_of nodes.now) ≡ None }
         requires fresh { has_brought by (tree_view self.old).body ≡ false }
+        ensures own { is_own self.new ≡ true }
         ensures tree { OnOk result (tree_view self.new
             ≡ with_body self.old (substituted_at self.old id (brought by (branches_of nodes.now)))) }
         ensures kept { OnErr result (tree_view self.new ≡ tree_view self.old) }
@@ -760,8 +864,10 @@ impl Tree {
 
     // Puts nodes below the root, in the place of all provisions: of what there was no slot is left.
     fn put_all(&mut self, alloc: Global, nodes: &Nodes, by: Id) -> Result<(), Memory>
+        requires own { is_own self.old ≡ true }
         requires payload { first_fault NONE_THROUGHOUT Plain (branches_of nodes.now) ≡ None }
         requires fresh { has_brought by (tree_view self.old).body ≡ false }
+        ensures own { is_own self.new ≡ true }
         ensures tree { OnOk result (tree_view self.new
             ≡ with_body self.old (substituted_at self.old 0 (brought by (branches_of nodes.now)))) }
         ensures kept { OnErr result (tree_view self.new ≡ tree_view self.old) }
@@ -783,6 +889,7 @@ impl Tree {
         second: Slot,
         moved: Vec<NodeId>,
     ) -> Result<(), Memory>
+        requires own { is_own self.old ≡ true }
         requires node { has_node self.old id ≡ true }
         requires provision { id ≡ 0 → ⊥ }
         requires bare { second.below.items ≡ [] }
@@ -790,6 +897,7 @@ impl Tree {
         requires moved { moved.items ≡ drop first_child (children_at self.old id) }
         requires num { is_num second.num ≡ true }
         requires fresh { is_in second.wid (tree_view self.old).body ≡ false }
+        ensures own { is_own self.new ≡ true }
         ensures tree { OnOk result (tree_view self.new
             ≡ with_body self.old (changed_at self.old id (parted first_child head (provision_of second)))) }
         ensures kept { OnErr result (tree_view self.new ≡ tree_view self.old) }

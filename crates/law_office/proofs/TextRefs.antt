@@ -1,9 +1,9 @@
 -- The references of provisions, found one after another.
 use Rattle.std.proofs.Common.{◌≡◌, ◌∙◌, sym, ap, ℕ, ◌+◌, ◌<◌, List, [], ◌∷◌, ◌++◌, map, drop, length, get_or, Option, Some}
-use Rattle.std.proofs.lemmas.List.{append_assoc, drop_more}
+use Rattle.std.proofs.lemmas.List.{append_assoc, append-nil, drop_more}
 use Rattle.eid_paths.specs.declared.numbering.Numbering.{Numbering}
 use Rattle.act_tree.specs.declared.tree.Tree.{Tree}
-use Rattle.act_tree.specs.Branches.{Branch, Branches, branches_of}
+use Rattle.act_tree.specs.Branches.{Branch, Branches, branches_of, no_branches}
 use Rattle.act_tree.specs.Eids.{eid_below}
 use Rattle.act_tree.specs.Provisions.{Provision}
 use Rattle.act_tree.specs.Seen.{below_at, branch_at, provision_at}
@@ -26,6 +26,17 @@ refs_one t n above id eid name refs kids before own after is says put named unde
     ∙ ap (λ (x : List NodeRef). before ++ (refs_at eid p.own.refs ++ x))
     (ap (λ (w : List ℕ). all_branch_refs n (Some w) kids) named ∙ ap (all_branch_refs n (Some eid)) under)
     ∙ ap (λ (w : List ℕ). before ++ (refs_at w p.own.refs ++ all_branch_refs n (Some w) (below_at t id))) is
+    ∙ sym (ap (λ (b : Branch Provision). before ++ branch_refs n above b) (branch_is t id))
+
+-- none of a provision that has no reference and no provision beneath it
+pub refs_none : (t : Tree) (n : Numbering) (above : Option (List ℕ)) (id : ℕ) (before : List NodeRef)
+    → (provision_at t id).own.refs ≡ [] → below_at t id ≡ no_branches → before ≡ before ++ branch_refs n above (branch_at t id)
+refs_none t n above id before none bare =
+    let p : Provision = provision_at t id in
+    let e : List ℕ = eid_below n above p.own.element p.own.num in
+    sym (append-nil before)
+    ∙ ap (λ (rs : List (List ℕ)). before ++ (refs_at e rs ++ all_branch_refs n (Some e) no_branches)) (sym none)
+    ∙ ap (λ (bs : Branches Provision). before ++ (refs_at e p.own.refs ++ all_branch_refs n (Some e) bs)) (sym bare)
     ∙ sym (ap (λ (b : Branch Provision). before ++ branch_refs n above b) (branch_is t id))
 
 -- one provision more

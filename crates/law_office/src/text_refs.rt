@@ -1,10 +1,10 @@
 //! The references of a text, in its order: those of each provision before those of the provisions beneath it.
 
-ghost use Rattle.std.specs.Prelude.{◌≡◌, ◌++◌, true, IfOk, OnOk, map, option_map};
+ghost use Rattle.std.specs.Prelude.{◌≡◌, ◌++◌, [], true, IfOk, IsTrue, OnOk, map, option_map};
 ghost use Rattle.std.specs.List.{All};
-ghost use Rattle.act_tree.specs.Branches.{branches_of};
+ghost use Rattle.act_tree.specs.Branches.{branches_of, no_branches};
 ghost use Rattle.act_tree.specs.Eids as eids;
-ghost use Rattle.act_tree.specs.Seen.{branch_at, has_node, provision_at, tree_view};
+ghost use Rattle.act_tree.specs.Seen.{below_at, branch_at, has_node, provision_at, tree_view};
 ghost use Rattle.law_refs.specs.Missing as spec;
 
 use act_tree::{NodeId, Tree, eid_below};
@@ -42,6 +42,15 @@ fn eid_of(alloc: Global, tree: &Tree, above: Option<&str>, id: NodeId) -> Result
     )
 }
 
+// Whether a provision has no reference and no provision beneath it: most have neither, and none of them needs its eId.
+fn is_bare(tree: &Tree, id: NodeId) -> bool
+    requires { has_node tree.now id ≡ true }
+    ensures refs { IsTrue result → (provision_at tree.now id).own.refs ≡ [] }
+    ensures below { IsTrue result → below_at tree.now id ≡ no_branches }
+{
+    tree.provision(id).refs.as_slice().is_empty() && tree.children(id).is_empty()
+}
+
 // Adds the references of provisions with all beneath them, below the one of the eId `above`, or right below the root where that is
 // `None`. It takes as much stack as the tree is deep.
 fn add_all(
@@ -56,6 +65,9 @@ fn add_all(
         (option_map (λ s. s.now) above.entry) (branches_of (map (branch_at tree.now) ids.now))) }
 {
     for id in ids {
+        if is_bare(tree, *id) {
+            continue;
+        }
         let eid = eid_of(alloc, tree, above, *id)?;
         let provision = tree.provision(*id);
         add_refs(&eid, provision.refs.as_slice(), found)?;

@@ -23,5 +23,5 @@ pub use past_key::PastKey;
 pub use queries::{AskFault, QueryRule};
 pub use question::{Question, Reading};
 pub use replayer::Replayer;
-pub use replaying::{continue_replay, enact};
+pub use replaying::{continue_replay, enact, go_on};
 pub use version::Version;

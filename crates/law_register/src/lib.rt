@@ -13,7 +13,7 @@ mod series;
 pub use answer::{
     Answer, AnswerNode, AnswerNodes, AskFault, Dated, Days, Due, Ids, PastKey, QueryRule, Question,
     Reading, Replayer, Touched, Unapplied, Version, answer_by, answer_dated, continue_replay,
-    enact,
+    enact, go_on,
 };
 pub use desk::{CommandFault, Damage, Desk, Event, FaultMark, OpenFault};
 pub use law::{

@@ -11,7 +11,6 @@ use Rattle.act_tree.specs.Changes.{holds, any_holds, is_in, found, sought, or_el
 use Rattle.act_tree.specs.Provisions.{Provision}
 use Rattle.act_tree.specs.Seen.{tree_view, branch_at, below_at}
 use Rattle.textual_mods.specs.Targets.{provision_named, below, children_named}
-use Rattle.textual_mods.specs.declared.edit.Pos.TheVariants as stands
 
 neither : (s t : Bool) → (s || t) ≡ false → (s ≡ false) × (t ≡ false)
 neither false t none = (refl, none)

@@ -1,9 +1,9 @@
 //! Applying a textual modification: one step, which changes the tree once or leaves it.
 
-ghost use Rattle.std.specs.Prelude.{◌≡◌, ◌+◌, ◌<◌, ◌^◌, None, false, IfOk, OnOk, OnErr};
+ghost use Rattle.std.specs.Prelude.{◌≡◌, true, ◌+◌, ◌<◌, ◌^◌, None, false, IfOk, OnOk, OnErr};
 ghost use Rattle.act_tree.specs.Brought.{has_brought};
 ghost use Rattle.act_tree.specs.Faults.{first_cause};
-ghost use Rattle.act_tree.specs.Seen.{tree_view};
+ghost use Rattle.act_tree.specs.Seen.{is_own, tree_view};
 ghost use Rattle.textual_mods.specs.Edits.{IsSound, applied, outcome_of, tree_with};
 
 use crate::joining::join;
@@ -27,9 +27,11 @@ pub fn apply<L: Ledger>(
     edit: &TextualMod,
     steps: &mut Steps<L>,
 ) -> Result<Outcome, Memory>
+    requires own { is_own tree.old ≡ true }
     requires fits { first_cause (tree_view tree.old) ≡ None }
     requires fresh { has_brought by (tree_view tree.old).body ≡ false }
     requires sound { IsSound edit.now }
+    ensures own { is_own tree.new ≡ true }
     ensures outcome { IfOk result (λ o. o ≡ outcome_of (applied (tree_view tree.old) by edit.now)) }
     ensures tree { OnOk result (tree_view tree.new ≡ tree_with (tree_view tree.old) by edit.now) }
     ensures kept { OnErr result (tree_view tree.new ≡ tree_view tree.old) }
@@ -51,9 +53,11 @@ fn edit_tree<L: Ledger>(
     edit: &TextualMod,
     steps: &mut Steps<L>,
 ) -> Result<Outcome, Memory>
+    requires own { is_own tree.old ≡ true }
     requires fits { first_cause (tree_view tree.old) ≡ None }
     requires fresh { has_brought by (tree_view tree.old).body ≡ false }
     requires sound { IsSound edit.now }
+    ensures own { is_own tree.new ≡ true }
     ensures outcome { IfOk result (λ o. o ≡ outcome_of (applied (tree_view tree.old) by edit.now)) }
     ensures tree { OnOk result (tree_view tree.new ≡ tree_with (tree_view tree.old) by edit.now) }
     ensures kept { OnErr result (tree_view tree.new ≡ tree_view tree.old) }

@@ -5,7 +5,7 @@ ghost use Rattle.act_tree.specs.Branches.{branches_of, heights};
 ghost use Rattle.act_tree.specs.Brought.{brought, has_brought};
 ghost use Rattle.act_tree.specs.Changes.{is_in};
 ghost use Rattle.act_tree.specs.Faults.{all_eids, all_owns, first_cause, first_fault};
-ghost use Rattle.act_tree.specs.Seen.{tree_view, has_node, provision_at, children_at, grafted_at};
+ghost use Rattle.act_tree.specs.Seen.{is_own, tree_view, has_node, provision_at, children_at, grafted_at};
 ghost use Rattle.act_tree.specs.Wids.{one_twice};
 ghost use Rattle.act_tree.specs.declared.limits.NodeLimit.TheVariants.{Plain};
 ghost use Rattle.act_tree.specs.declared.surveying.TheConstants.{NONE_THROUGHOUT};
@@ -179,11 +179,13 @@ pub fn insert_at<L: Ledger>(
     new: &Nodes,
     steps: &mut Steps<L>,
 ) -> Result<Outcome, Memory>
+    requires own { is_own tree.old ≡ true }
     requires fits { first_cause (tree_view tree.old) ≡ None }
     requires node { has_node tree.old parent ≡ true }
     requires place { place ≤ length (children_at tree.old parent) }
     requires payload { first_fault NONE_THROUGHOUT Plain (branches_of new.now) ≡ None }
     requires fresh { has_brought by (tree_view tree.old).body ≡ false }
+    ensures own { is_own tree.new ≡ true }
     ensures outcome { IfOk result (λ o. o
         ≡ answer_to tree.old (λ _. Ok (grafted_at tree.old parent place (brought by (branches_of new.now))))) }
     ensures tree { OnOk result (tree_view tree.new

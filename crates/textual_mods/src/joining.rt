@@ -4,7 +4,7 @@ ghost use Rattle.std.specs.Prelude.{◌≡◌, ◌==◌, ◌+◌, ◌++◌, true
 ghost use Rattle.act_tree.specs.Branches.{branch};
 ghost use Rattle.act_tree.specs.Changes.{merged};
 ghost use Rattle.act_tree.specs.Faults.{first_cause};
-ghost use Rattle.act_tree.specs.Seen.{tree_view, has_node, provision_at, below_at, next_at};
+ghost use Rattle.act_tree.specs.Seen.{is_own, tree_view, has_node, provision_at, below_at, next_at};
 ghost use Rattle.eid_paths.specs.Elements.{element_place};
 ghost use Rattle.textual_mods.specs.Edits.{answer_to, settled};
 ghost use Rattle.textual_mods.specs.EditsOfNodes.{join_next_at, join_both_at, step_at};
@@ -28,7 +28,9 @@ pub fn join<L: Ledger>(
     separator: &str,
     steps: &mut Steps<L>,
 ) -> Result<Outcome, Memory>
-    requires { first_cause (tree_view tree.old) ≡ None }
+    requires own { is_own tree.old ≡ true }
+    requires fits { first_cause (tree_view tree.old) ≡ None }
+    ensures own { is_own tree.new ≡ true }
     ensures outcome { IfOk result (λ o. o ≡ answer_to tree.old (joined_with wid.now second.now separator.now)) }
     ensures tree { OnOk result (tree_view tree.new ≡ settled tree.old (joined_with wid.now second.now separator.now)) }
     ensures kept { OnErr result (tree_view tree.new ≡ tree_view tree.old) }
@@ -52,9 +54,11 @@ fn join_next<L: Ledger>(
     separator: &str,
     steps: &mut Steps<L>,
 ) -> Result<Outcome, Memory>
+    requires own { is_own tree.old ≡ true }
     requires fits { first_cause (tree_view tree.old) ≡ None }
     requires node { has_node tree.old id ≡ true }
     requires provision { id ≡ 0 → ⊥ }
+    ensures own { is_own tree.new ≡ true }
     ensures outcome { IfOk result (λ o. o ≡ answer_to tree.old (join_next_at tree.old id second.now separator.now)) }
     ensures tree { OnOk result (tree_view tree.new
         ≡ settled tree.old (join_next_at tree.old id second.now separator.now)) }
@@ -79,11 +83,13 @@ fn join_both<L: Ledger>(
     separator: &str,
     steps: &mut Steps<L>,
 ) -> Result<Outcome, Memory>
+    requires own { is_own tree.old ≡ true }
     requires fits { first_cause (tree_view tree.old) ≡ None }
     requires node { has_node tree.old id ≡ true }
     requires provision { id ≡ 0 → ⊥ }
     requires other { has_node tree.old next ≡ true }
     requires next { next_at tree.old id ≡ Some (branch (provision_at tree.old next) (below_at tree.old next)) }
+    ensures own { is_own tree.new ≡ true }
     ensures outcome { IfOk result (λ o. o ≡ answer_to tree.old (join_both_at tree.old id next separator.now)) }
     ensures tree { OnOk result (tree_view tree.new ≡ settled tree.old (join_both_at tree.old id next separator.now)) }
     ensures kept { OnErr result (tree_view tree.new ≡ tree_view tree.old) }
@@ -114,11 +120,13 @@ fn take_in<L: Ledger>(
     content: Text,
     steps: &mut Steps<L>,
 ) -> Result<Outcome, Memory>
+    requires own { is_own tree.old ≡ true }
     requires fits { first_cause (tree_view tree.old) ≡ None }
     requires node { has_node tree.old id ≡ true }
     requires provision { id ≡ 0 → ⊥ }
     requires other { has_node tree.old next ≡ true }
     requires next { next_at tree.old id ≡ Some (branch (provision_at tree.old next) (below_at tree.old next)) }
+    ensures own { is_own tree.new ≡ true }
     ensures outcome { IfOk result (λ o. o ≡ answer_to tree.old (step_at tree.old id (merged content))) }
     ensures tree { OnOk result (tree_view tree.new ≡ settled tree.old (step_at tree.old id (merged content))) }
     ensures kept { OnErr result (tree_view tree.new ≡ tree_view tree.old) }

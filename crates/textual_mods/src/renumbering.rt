@@ -4,7 +4,7 @@ ghost use Rattle.std.specs.Prelude.{◌≡◌, ◌+◌, true, None, Ok, is_some,
 ghost use Rattle.std.specs.List.{All, list_all};
 ghost use Rattle.act_tree.specs.Changes.{renumbered};
 ghost use Rattle.act_tree.specs.Faults.{first_cause};
-ghost use Rattle.act_tree.specs.Seen.{tree_view, has_node, nums_by_wid};
+ghost use Rattle.act_tree.specs.Seen.{is_own, tree_view, has_node, nums_by_wid};
 ghost use Rattle.eid_paths.specs.Nums.{is_num};
 ghost use Rattle.textual_mods.specs.Edits.{answer_to, settled};
 ghost use Rattle.textual_mods.specs.Renumberings.{nums_given};
@@ -28,7 +28,9 @@ pub fn renumber<L: Ledger>(
     pairs: &Pairs,
     steps: &mut Steps<L>,
 ) -> Result<Outcome, Memory>
-    requires { first_cause (tree_view tree.old) ≡ None }
+    requires own { is_own tree.old ≡ true }
+    requires fits { first_cause (tree_view tree.old) ≡ None }
+    ensures own { is_own tree.new ≡ true }
     ensures outcome { IfOk result (λ o. o ≡ answer_to tree.old (nums_given pairs.now)) }
     ensures tree { OnOk result (tree_view tree.new ≡ settled tree.old (nums_given pairs.now)) }
     ensures kept { OnErr result (tree_view tree.new ≡ tree_view tree.old) }
@@ -47,10 +49,12 @@ fn give_nums<L: Ledger>(
     named: &[(NodeId, Num)],
     steps: &mut Steps<L>,
 ) -> Result<Outcome, Memory>
+    requires own { is_own tree.old ≡ true }
     requires fits { first_cause (tree_view tree.old) ≡ None }
     requires nodes { All (λ pair. has_node tree.old pair.0 ≡ true) named.now }
     requires provisions { All (λ pair. pair.0 ≡ 0 → ⊥) named.now }
     requires nums { All (λ pair. is_num pair.1 ≡ true) named.now }
+    ensures own { is_own tree.new ≡ true }
     ensures outcome { IfOk result (λ o. o ≡ answer_to tree.old (λ body.
         Ok (renumbered (nums_by_wid tree.old named.now) body))) }
     ensures tree { OnOk result (tree_view tree.new ≡ settled tree.old (λ body.

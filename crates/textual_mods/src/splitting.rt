@@ -5,7 +5,7 @@ ghost use Rattle.std.specs.List.{All};
 ghost use Rattle.act_tree.specs.Branches.{branches_of};
 ghost use Rattle.act_tree.specs.Brought.{has_brought};
 ghost use Rattle.act_tree.specs.Faults.{first_cause};
-ghost use Rattle.act_tree.specs.Seen.{tree_view, has_node, provision_at, children_at, branch_at, below_at};
+ghost use Rattle.act_tree.specs.Seen.{is_own, tree_view, has_node, provision_at, children_at, branch_at, below_at};
 ghost use Rattle.eid_paths.specs.Nums.{is_num};
 ghost use Rattle.textual_mods.specs.Edits.{answer_to, settled};
 ghost use Rattle.textual_mods.specs.EditsOfNodes as at_node;
@@ -47,8 +47,10 @@ pub fn split<L: Ledger>(
     heading: &Text,
     steps: &mut Steps<L>,
 ) -> Result<Outcome, Memory>
+    requires own { is_own tree.old ≡ true }
     requires fresh { has_brought by (tree_view tree.old).body ≡ false }
     requires fits { first_cause (tree_view tree.old) ≡ None }
+    ensures own { is_own tree.new ≡ true }
     ensures outcome { IfOk result (λ o. o ≡ answer_to tree.old (split_at_cut by wid.now at.now num.now heading.now)) }
     ensures tree { OnOk result (tree_view tree.new
         ≡ settled tree.old (split_at_cut by wid.now at.now num.now heading.now)) }
@@ -72,10 +74,12 @@ fn split_node<L: Ledger>(
     heading: &Text,
     steps: &mut Steps<L>,
 ) -> Result<Outcome, Memory>
+    requires own { is_own tree.old ≡ true }
     requires fresh { has_brought by (tree_view tree.old).body ≡ false }
     requires node { has_node tree.old id ≡ true }
     requires provision { id ≡ 0 → ⊥ }
     requires fits { first_cause (tree_view tree.old) ≡ None }
+    ensures own { is_own tree.new ≡ true }
     ensures outcome { IfOk result (λ o. o ≡ answer_to tree.old
         (split_with tree.old by id (at_node.cut_at tree.old id at.now) num.now heading.now)) }
     ensures tree { OnOk result (tree_view tree.new ≡ settled tree.old
@@ -100,11 +104,13 @@ fn split_along<L: Ledger>(
     heading: &Text,
     steps: &mut Steps<L>,
 ) -> Result<Outcome, Memory>
+    requires own { is_own tree.old ≡ true }
     requires fresh { has_brought by (tree_view tree.old).body ≡ false }
     requires node { has_node tree.old id ≡ true }
     requires provision { id ≡ 0 → ⊥ }
     requires place { cut.children ≤ length (children_at tree.old id) }
     requires fits { first_cause (tree_view tree.old) ≡ None }
+    ensures own { is_own tree.new ≡ true }
     ensures outcome { IfOk result (λ o. o ≡ answer_to tree.old
         (split_with tree.old by id (Ok cut) num.now heading.now)) }
     ensures tree { OnOk result (tree_view tree.new ≡ settled tree.old
@@ -137,12 +143,14 @@ fn part_along<L: Ledger>(
     heading: Text,
     steps: &mut Steps<L>,
 ) -> Result<Outcome, Memory>
+    requires own { is_own tree.old ≡ true }
     requires fresh { has_brought by (tree_view tree.old).body ≡ false }
     requires node { has_node tree.old id ≡ true }
     requires provision { id ≡ 0 → ⊥ }
     requires place { cut.children ≤ length (children_at tree.old id) }
     requires fits { first_cause (tree_view tree.old) ≡ None }
     requires num { is_num num ≡ true }
+    ensures own { is_own tree.new ≡ true }
     ensures outcome { IfOk result (λ o. o ≡ answer_to tree.old (split_with tree.old by id (Ok cut) num heading)) }
     ensures tree { OnOk result (tree_view tree.new
         ≡ settled tree.old (split_with tree.old by id (Ok cut) num heading)) }

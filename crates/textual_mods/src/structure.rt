@@ -6,7 +6,7 @@ ghost use Rattle.act_tree.specs.Brought.{brought, has_brought};
 ghost use Rattle.act_tree.specs.Changes.{after};
 ghost use Rattle.act_tree.specs.Faults.{first_cause, first_fault};
 ghost use Rattle.act_tree.specs.Provisions.{Provision};
-ghost use Rattle.act_tree.specs.Seen.{tree_view, has_node, children_at, grafted_at, changed_at, substituted_at};
+ghost use Rattle.act_tree.specs.Seen.{is_own, tree_view, has_node, children_at, grafted_at, changed_at, substituted_at};
 ghost use Rattle.act_tree.specs.declared.limits.NodeLimit.TheVariants.{Plain};
 ghost use Rattle.act_tree.specs.declared.surveying.TheConstants.{NONE_THROUGHOUT};
 ghost use Rattle.textual_mods.specs.Edits.{answer_to, settled};
@@ -25,7 +25,9 @@ use std::sync::ledger::Ledger;
 /// Takes the target away with all that stands beneath it, or all provisions where the target is the root. No limit can
 /// be passed by that, so it is done in place.
 pub fn repeal<L: Ledger>(tree: &mut Tree, wid: &str, steps: &mut Steps<L>) -> Outcome
-    requires { first_cause (tree_view tree.old) ≡ None }
+    requires own { is_own tree.old ≡ true }
+    requires fits { first_cause (tree_view tree.old) ≡ None }
+    ensures own { is_own tree.new ≡ true }
     ensures outcome { result ≡ answer_to tree.old (repealed wid.now) }
     ensures tree { tree_view tree.new ≡ settled tree.old (repealed wid.now) }
     ensures step { steps.new ≡ steps.old + 1 }
@@ -48,9 +50,11 @@ pub fn substitute_nodes<L: Ledger>(
     new: &Nodes,
     steps: &mut Steps<L>,
 ) -> Result<Outcome, Memory>
+    requires own { is_own tree.old ≡ true }
     requires fits { first_cause (tree_view tree.old) ≡ None }
     requires payload { first_fault NONE_THROUGHOUT Plain (branches_of new.now) ≡ None }
     requires fresh { has_brought by (tree_view tree.old).body ≡ false }
+    ensures own { is_own tree.new ≡ true }
     ensures outcome { IfOk result (λ o. o ≡ answer_to tree.old (nodes_substituted by wid.now (branches_of new.now))) }
     ensures tree { OnOk result (tree_view tree.new
         ≡ settled tree.old (nodes_substituted by wid.now (branches_of new.now))) }
@@ -75,11 +79,13 @@ fn substitute_node<L: Ledger>(
     new: &Nodes,
     steps: &mut Steps<L>,
 ) -> Result<Outcome, Memory>
+    requires own { is_own tree.old ≡ true }
     requires fits { first_cause (tree_view tree.old) ≡ None }
     requires node { has_node tree.old id ≡ true }
     requires provision { id ≡ 0 → ⊥ }
     requires payload { first_fault NONE_THROUGHOUT Plain (branches_of new.now) ≡ None }
     requires fresh { has_brought by (tree_view tree.old).body ≡ false }
+    ensures own { is_own tree.new ≡ true }
     ensures outcome { IfOk result (λ o. o
         ≡ answer_to tree.old (λ _. Ok (substituted_at tree.old id (brought by (branches_of new.now))))) }
     ensures tree { OnOk result (tree_view tree.new
@@ -108,8 +114,10 @@ fn substitute_all<L: Ledger>(
     new: &Nodes,
     steps: &mut Steps<L>,
 ) -> Result<Outcome, Memory>
+    requires own { is_own tree.old ≡ true }
     requires payload { first_fault NONE_THROUGHOUT Plain (branches_of new.now) ≡ None }
     requires fresh { has_brought by (tree_view tree.old).body ≡ false }
+    ensures own { is_own tree.new ≡ true }
     ensures outcome { IfOk result (λ o. o ≡ answer_to tree.old (λ _. Ok (brought by (branches_of new.now)))) }
     ensures tree { OnOk result (tree_view tree.new ≡ settled tree.old (λ _. Ok (brought by (branches_of new.now)))) }
     ensures kept { OnErr result (tree_view tree.new ≡ tree_view tree.old) }
@@ -136,9 +144,11 @@ pub fn insert_nodes<L: Ledger>(
     new: &Nodes,
     steps: &mut Steps<L>,
 ) -> Result<Outcome, Memory>
+    requires own { is_own tree.old ≡ true }
     requires fits { first_cause (tree_view tree.old) ≡ None }
     requires payload { first_fault NONE_THROUGHOUT Plain (branches_of new.now) ≡ None }
     requires fresh { has_brought by (tree_view tree.old).body ≡ false }
+    ensures own { is_own tree.new ≡ true }
     ensures outcome { IfOk result (λ o. o ≡ answer_to tree.old (nodes_inserted by wid.now pos (branches_of new.now))) }
     ensures tree { OnOk result (tree_view tree.new
         ≡ settled tree.old (nodes_inserted by wid.now pos (branches_of new.now))) }

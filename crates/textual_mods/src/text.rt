@@ -4,7 +4,7 @@
 ghost use Rattle.std.specs.Prelude.{◌≡◌, ◌+◌, ◌++◌, None, true, string_bytes, IfOk, OnOk, OnErr};
 ghost use Rattle.act_tree.specs.Changes.{any_holds, with_content};
 ghost use Rattle.act_tree.specs.Faults.{first_cause};
-ghost use Rattle.act_tree.specs.Seen.{tree_view, has_node, provision_at};
+ghost use Rattle.act_tree.specs.Seen.{is_own, tree_view, has_node, provision_at};
 ghost use Rattle.textual_mods.specs.Edits.{answer_to, settled};
 ghost use Rattle.textual_mods.specs.EditsOfNodes.{step_at};
 ghost use Rattle.textual_mods.specs.TextEdits as spec;
@@ -28,7 +28,9 @@ pub fn substitute_text<L: Ledger>(
     new: &str,
     steps: &mut Steps<L>,
 ) -> Result<Outcome, Memory>
-    requires { first_cause (tree_view tree.old) ≡ None }
+    requires own { is_own tree.old ≡ true }
+    requires fits { first_cause (tree_view tree.old) ≡ None }
+    ensures own { is_own tree.new ≡ true }
     ensures outcome { IfOk result (λ o. o ≡ answer_to tree.old (text_substituted wid.now spot.now new.now)) }
     ensures tree { OnOk result (tree_view tree.new ≡ settled tree.old (text_substituted wid.now spot.now new.now)) }
     ensures kept { OnErr result (tree_view tree.new ≡ tree_view tree.old) }
@@ -51,7 +53,9 @@ pub fn insert_text<L: Ledger>(
     new: &str,
     steps: &mut Steps<L>,
 ) -> Result<Outcome, Memory>
-    requires { first_cause (tree_view tree.old) ≡ None }
+    requires own { is_own tree.old ≡ true }
+    requires fits { first_cause (tree_view tree.old) ≡ None }
+    ensures own { is_own tree.new ≡ true }
     ensures outcome { IfOk result (λ o. o ≡ answer_to tree.old (text_inserted wid.now at.now new.now)) }
     ensures tree { OnOk result (tree_view tree.new ≡ settled tree.old (text_inserted wid.now at.now new.now)) }
     ensures kept { OnErr result (tree_view tree.new ≡ tree_view tree.old) }
@@ -72,10 +76,12 @@ fn give_content<L: Ledger>(
     content: Option<Text>,
     steps: &mut Steps<L>,
 ) -> Outcome
+    requires own { is_own tree.old ≡ true }
     requires fits { first_cause (tree_view tree.old) ≡ None }
     requires node { has_node tree.old id ≡ true }
     requires provision { id ≡ 0 → ⊥ }
     requires held { any_holds (provision_at tree.old id).wid (tree_view tree.old).body ≡ true }
+    ensures own { is_own tree.new ≡ true }
     ensures outcome { result ≡ answer_to tree.old (content_set (provision_at tree.old id).wid content) }
     ensures tree { tree_view tree.new ≡ settled tree.old (content_set (provision_at tree.old id).wid content) }
     ensures step { steps.new ≡ steps.old + 1 }
@@ -88,10 +94,12 @@ fn give_content<L: Ledger>(
 
 // Gives a provision another content, if it is not too long.
 fn give_text<L: Ledger>(tree: &mut Tree, id: NodeId, text: Text, steps: &mut Steps<L>) -> Outcome
+    requires own { is_own tree.old ≡ true }
     requires fits { first_cause (tree_view tree.old) ≡ None }
     requires node { has_node tree.old id ≡ true }
     requires provision { id ≡ 0 → ⊥ }
     requires held { any_holds (provision_at tree.old id).wid (tree_view tree.old).body ≡ true }
+    ensures own { is_own tree.new ≡ true }
     ensures outcome { result ≡ answer_to tree.old (step_at tree.old id (with_content text)) }
     ensures tree { tree_view tree.new ≡ settled tree.old (step_at tree.old id (with_content text)) }
     ensures step { steps.new ≡ steps.old + 1 }

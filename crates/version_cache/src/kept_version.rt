@@ -19,16 +19,29 @@ pub struct KeptVersion {
 }
 
 impl KeptVersion {
-    ghost use Rattle.std.specs.Prelude.{◌≡◌, IfOk};
+    ghost use Rattle.std.specs.Prelude.{◌≡◌, true, IfOk};
+    ghost use Rattle.act_tree.specs.Seen.{is_own};
     ghost use Rattle.version_cache.specs.Rows.{kept_view};
 
-    /// The version, behind a count.
+    /// The version, kept behind a count: its tree shares what it lies in with what was kept of the version before.
     pub fn new(alloc: Global, version: Version) -> Result<KeptVersion, Memory>
         requires { IsReplayed (version_view version) }
         ensures { IfOk result (λ kept. kept_view kept ≡ version_view version) }
     {
+        let mut version = version;
+        KeptVersion::of(alloc, &mut version)
+    }
+
+    /// The same as `new`, of a version that goes on: it stays as it is.
+    pub fn of(alloc: Global, version: &mut Version) -> Result<KeptVersion, Memory>
+        requires { IsReplayed (version_view version.old) }
+        ensures same { version_view version.new ≡ version_view version.old }
+        ensures own { is_own version.old.tree ≡ true → is_own version.new.tree ≡ true }
+        ensures kept { IfOk result (λ kept. kept_view kept ≡ version_view version.old) }
+    {
+        let kept = version.keep(alloc)?;
         Ok(KeptVersion {
-            version: Arc::new(alloc, version)?,
+            version: Arc::new(alloc, kept)?,
         })
     }
 

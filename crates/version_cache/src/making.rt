@@ -1,16 +1,18 @@
 //! Making: the rows of a table, each continued from the one before where the same modifications come first.
 
-ghost use Rattle.std.specs.Prelude.{◌≡◌, ◌+◌, ◌≤◌, ◌++◌, [], false, IfOk, OnOk, length};
+ghost use Rattle.std.specs.Prelude.{◌≡◌, ◌+◌, ◌≤◌, ◌++◌, [], false, true, IfOk, OnOk, length};
+ghost use Rattle.act_tree.specs.Seen.{is_own};
 ghost use Rattle.law_register.specs.Answer.Costs as costs;
 ghost use Rattle.law_register.specs.Answer.Replay.{as_enacted, replayed};
 ghost use Rattle.law_register.specs.Answer.Soundness.{IsSound, id_twice};
+ghost use Rattle.law_register.specs.Answer.Versions.{version_view};
 ghost use Rattle.version_cache.specs.Rows.{kept_view, rows_view};
 ghost use Rattle.version_cache.specs.Tables.{last_version, rows_on};
 
 use crate::Row;
 use crate::kept_version::KeptVersion;
 use desk_base::{Day, Id, Memory, Steps};
-use law_register::{Ids, Known, Reading, Replayer, continue_replay, enact};
+use law_register::{Ids, Known, Reading, Replayer, Version, enact, go_on};
 use std::alloc::Global;
 use std::sync::ledger::Ledger;
 
@@ -56,33 +58,40 @@ fn begins_with(firsts: &[Id], ids: &[Id]) -> bool
     true
 }
 
-// A version with these ids applied after it; the same one, shared, where there are none.
+// A version with these ids applied after it; the same one, shared, where there are none. The working version goes on to it.
 fn continued<L: Ledger>(
     alloc: Global,
     known: &Known,
     kept: &KeptVersion,
+    working: &mut Version,
     ids: &[Id],
     steps: &mut Steps<L>,
 ) -> Result<KeptVersion, Memory>
     requires sound { IsSound known.now }
+    requires own { is_own working.old.tree ≡ true }
+    requires working { version_view working.old ≡ kept_view kept.now }
     requires apart { id_twice ((kept_view kept.now).applied ++ ids.now) ≡ false }
     ensures version { IfOk result (λ k. kept_view k
         ≡ replayed known.now.mods (kept_view kept.now) ids.now) }
+    ensures own { is_own working.new.tree ≡ true }
+    ensures working { IfOk result (λ k. version_view working.new ≡ kept_view k) }
     ensures steps { steps.new ≤ steps.old + length ids.now }
 {
     if ids.is_empty() {
         return kept.share();
     }
-    let copy = kept.version().copy(alloc)?;
-    let version = continue_replay(alloc, &known.mods, copy, ids, steps)?;
-    KeptVersion::new(alloc, version)
+    go_on(alloc, &known.mods, working, ids, steps)?;
+    KeptVersion::of(alloc, working)
 }
 
+// The version of the ids that bear, continued from the last row, or from the act as enacted. The working version, which is
+// that of the last row, goes on to it.
 fn version_after<L: Ledger>(
     alloc: Global,
     course: &Course<'_>,
     before: &[Id],
     last: &KeptVersion,
+    working: &mut Version,
     ids: &[Id],
     steps: &mut Steps<L>,
 ) -> Result<KeptVersion, Memory>
@@ -90,16 +99,21 @@ fn version_after<L: Ledger>(
     requires enacted { kept_view course.now.enacted.now ≡ as_enacted course.now.known.now.act }
     requires last { kept_view last.now
         ≡ replayed course.now.known.now.mods (as_enacted course.now.known.now.act) before.now }
+    requires own { is_own working.old.tree ≡ true }
+    requires working { version_view working.old ≡ kept_view last.now }
     requires once { id_twice ids.now ≡ false }
+    ensures own { OnOk result (is_own working.new.tree ≡ true) }
+    ensures working { IfOk result (λ k. version_view working.new ≡ kept_view k) }
     ensures version { IfOk result (λ kept. kept_view kept
         ≡ replayed course.now.known.now.mods (as_enacted course.now.known.now.act) ids.now) }
     ensures steps { steps.new ≤ steps.old + costs.ids_applied before.now ids.now }
 {
     if begins_with(before, ids) {
         let parts = ids.split_at(before.len());
-        continued(alloc, course.known, last, parts.1, steps)
+        continued(alloc, course.known, last, working, parts.1, steps)
     } else {
-        continued(alloc, course.known, course.enacted, ids, steps)
+        *working = course.enacted.version().copy(alloc)?;
+        continued(alloc, course.known, course.enacted, working, ids, steps)
     }
 }
 
@@ -113,7 +127,8 @@ pub fn last_kept<'a>(last: &'a KeptVersion, rows: &'a [Row]) -> &'a KeptVersion
     }
 }
 
-/// Adds a row for each of these days.
+/// Adds a row for each of these days. One working version goes on from row to row, and each row keeps it beside the row before,
+/// so that no tree is copied whole but the first.
 pub fn add_rows<P: Replayer, L: Ledger>(
     alloc: Global,
     replayer: &P,
@@ -135,6 +150,7 @@ pub fn add_rows<P: Replayer, L: Ledger>(
 {
     let orders = replayer.orders_at(alloc, course.known, course.reading, days)?;
     let Start { ids, last } = start;
+    let mut working = last.version().copy(alloc)?;
     let mut before = ids;
     let mut index = 0;
     for ids in orders {
@@ -144,6 +160,7 @@ pub fn add_rows<P: Replayer, L: Ledger>(
             course,
             before.as_slice(),
             so_far,
+            &mut working,
             ids.as_slice(),
             steps,
         )?;

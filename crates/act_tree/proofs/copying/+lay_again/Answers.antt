@@ -1,6 +1,5 @@
 use Rattle.std.proofs.Common.{rules, ◌∙◌, sym, ap, subst, ℕ, ◌+◌, ◌<◌, List, length, map, take}
 use Rattle.std.proofs.lemmas.List.{take_all}
-use Rattle.act_tree.specs.Arena.{Laid}
 use Rattle.act_tree.specs.Branches.{Branch, branch, branches_of}
 use Rattle.act_tree.specs.Planted.{IsLaid, AreLaid}
 use Rattle.act_tree.specs.Seen.{branch_at, below_at}
@@ -14,7 +13,7 @@ pub lay_again-requires : goal.lay_again-requires
 lay_again-requires t c =
     let within : c.loop-child.child-index < length c.children-children.result.now = search rules in
     let lower = child_lower c.args.tree.now c.children-children.result.now c.loop-child.child-index c.child-item.result c.args.node within c.child-item.is c.children-children.ensures.branches in
-    (search (rules, lower), search rules)
+    (search (rules, lower), (search rules, c.loop-child.invariant.grown.own c.in_ok-id.ensures.added.own))
 
 pub loop-child-preserved : goal.loop-child-preserved
 loop-child-preserved t c =
@@ -38,7 +37,10 @@ returns t c =
     let tree = c.args.tree.now in
     let P : Branch _ → Type 0 = λ b. IsLaid c.args.arena.now c.hold.new.self c.in_ok-id.id b in
     let all = ap (λ ids. branches_of (map (branch_at tree) ids)) (take_all _ _ (search rules)) ∙ c.children-children.ensures.branches in
-    let says = ap (λ (l : Laid). l.provision) c.in_ok-slot.ensures.laid ∙ c.slot.ensures in
+    let says = ap provision_of c.in_ok-slot.ensures.same ∙ c.slot.ensures in
     subst P (ap (λ bs. branch (provision_of c.in_ok-slot.slot) bs) all ∙ ap (λ p. branch p (below_at tree c.args.node)) says ∙ sym (branch_is tree c.args.node))
     (laid_node c.args.arena.now c.add_alone.new.self c.loop-child.arena c.hold.new.self c.in_ok-id.id (provision_of c.in_ok-slot.slot) c.loop-child.below.items _
     c.in_ok-id.ensures.id c.in_ok-id.ensures.added c.in_ok-slot.ensures.num c.loop-child.invariant c.hold.ensures.relisted c.hold.ensures.numbers c.hold.ensures.size)
+
+pub hold-requires-clause-own : goal.hold-requires-clause-own
+hold-requires-clause-own t c = c.loop-child.invariant.grown.own c.in_ok-id.ensures.added.own

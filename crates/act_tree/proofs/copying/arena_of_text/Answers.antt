@@ -8,3 +8,6 @@ returns-clause-whole c =
 pub returns-clause-reads : goal.returns-clause-reads
 returns-clause-reads c =
     (text_laid c.args.tree.now c.new-arena.result c.lay_again.new.arena c.root-root.result c.in_ok-_root._root c.new-arena.ensures.slots c.new-arena.ensures.numbers c.root-root.ensures.root c.in_ok-_root.ensures).reads
+
+pub returns-clause-own : goal.returns-clause-own
+returns-clause-own c = c.in_ok-_root.ensures.grown.own c.new-arena.ensures.own

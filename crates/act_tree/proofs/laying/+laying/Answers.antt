@@ -103,3 +103,6 @@ lay_all-returns-in_err-push-clause-kept t c =
     on_err c.from_residual-in_err-push.result _
     (stopped_within (enacted c.args.numbering above) c.deref-node-items.result.now c.loop-node.node-index c.args.arena.now c.loop-node.arena c.loop-node.ids.items _ are
     c.lay.new.arena node b c.loop-node.invariant within c.node-item.is same c.in_ok-id.ensures.laid.grown)
+
+pub lay-hold-requires-clause-own : goal.lay-hold-requires-clause-own
+lay-hold-requires-clause-own t c = c.in_ok-below.ensures.laid.grown.own c.in_ok-id.ensures.added.own

@@ -16,3 +16,6 @@ returns-clause-reads c =
     (built c.new-arena.result c.lay.new.arena c.in_ok-_root._root (provision_of c.in_ok-root_slot.field-0)
     (all_enacted c.args.numbering (option_map (λ s. s.now) c.args.wid) (branches_of c.args.nodes.now))
     c.new-arena.ensures.slots c.new-arena.ensures.numbers c.in_ok-root_slot.ensures.provision c.requires.apart c.requires.differ c.in_ok-_root.ensures.laid).reads
+
+pub returns-clause-own : goal.returns-clause-own
+returns-clause-own c = c.in_ok-_root.ensures.laid.grown.own c.new-arena.ensures.own

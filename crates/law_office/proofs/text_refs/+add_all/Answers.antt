@@ -3,7 +3,7 @@ use Rattle.act_tree.specs.Branches.{branches_of}
 use Rattle.act_tree.specs.Seen.{branch_at, tree_view}
 use Rattle.act_tree.proofs.Walking.{children_lower}
 use Rattle.law_refs.specs.Missing.{all_branch_refs}
-use Rattle.law_office.proofs.TextRefs.{refs_more, refs_one}
+use Rattle.law_office.proofs.TextRefs.{refs_more, refs_none, refs_one}
 use Rattle.law_office.proofs.text_refs.+add_all.Goals as goal
 
 pub add_all-requires : goal.add_all-requires
@@ -11,6 +11,17 @@ add_all-requires t c =
     let within : c.loop-id.id-index < length c.args.ids.now = search rules in
     let lower = children_lower c.args.tree.now c.args.ids.now c.children-children.result.now c.loop-id.id-index c.id-item.result within c.id-item.is c.children-children.ensures.branches in
     (search (rules, lower), c.children-children.ensures.nodes)
+
+pub loop-id-preserved-then-is_bare : goal.loop-id-preserved-then-is_bare
+loop-id-preserved-then-is_bare t c =
+    let tree = c.args.tree.now in
+    let n = (tree_view tree).numbering in
+    let above = option_map (λ s. s.now) c.args.above in
+    let within : c.loop-id.id-index < length c.args.ids.now = search rules in
+    refs_more tree n above c.args.ids.now c.loop-id.id-index c.id-item.result c.loop-id.found c.loop-id.found
+    (c.args.found.now ++ all_branch_refs n above (branches_of (map (branch_at tree) c.args.ids.now)))
+    within c.id-item.is (refs_none tree n above c.id-item.result c.loop-id.found (c.is_bare.ensures.refs c.if-is_bare.true) (c.is_bare.ensures.below c.if-is_bare.true))
+    c.loop-id.invariant
 
 pub loop-id-preserved : goal.loop-id-preserved
 loop-id-preserved t c =

@@ -21,6 +21,9 @@ version_after-requires-clause-once g c =
     let next = next_day known r c.args.days.now c.loop-ids.index c.in-Some.ids (into_iter_items c.next.new.self) (sym c.in-Some.ensures.steps.0 ∙ c.loop-ids.invariant.orders) in
     ap id_twice (c.as_slice-in-loop-ids-2.ensures ∙ next.ordered) ∙ order_once known r next.day c.requires.sound.ids
 
+pub returns-clause-rows : goal.returns-clause-rows
+returns-clause-rows g c = search (rules, c.loop-ids.invariant.rows, c.loop-ids.invariant.orders, c.in-None.ensures.steps) depth 24 fits 60000
+
 pub returns-in_err-kept-clause-steps : goal.returns-in_err-kept-clause-steps
 returns-in_err-kept-clause-steps g c =
     let known : Known = c.args.course.now.known.now in
@@ -69,6 +72,10 @@ loop-ids-preserved g c =
       rows =
           ap (λ (rows : List Row). rows_view rows ++ rows_on known r (drop (i + 1) days)) c.in_ok-push.ensures.items
           ∙ rows_step known r c.loop-ids.rows.items row ids (drop (i + 1) days) (drop i days) days cut orders.0 made c.loop-ids.invariant.rows;
+      own = c.in_ok-kept.ensures.own;
+      working =
+          c.in_ok-kept.ensures.working ∙ made ∙ sym (ap (λ (rows : List Row). last_version (kept_view c.args.start.last.now) (rows_view rows)) c.in_ok-push.ensures.items
+          ∙ last_step known r (kept_view c.args.start.last.now) c.loop-ids.rows.items row ids made);
       last =
           ap (λ (rows : List Row). last_version (kept_view c.args.start.last.now) (rows_view rows)) c.in_ok-push.ensures.items
           ∙ last_step known r (kept_view c.args.start.last.now) c.loop-ids.rows.items row ids made;

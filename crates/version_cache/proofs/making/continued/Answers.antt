@@ -1,7 +1,10 @@
-use Rattle.std.proofs.Common.{◌∙◌, ◌++◌, ap}
+use Rattle.std.proofs.Common.{◌∙◌, ◌++◌, ap, subst, sym}
 use Rattle.law_register.specs.Answer.Replay.{VersionValue}
-use Rattle.law_register.specs.Answer.Soundness.{id_twice}
+use Rattle.law_register.specs.Answer.Soundness.{IsReplayed, id_twice}
 use Rattle.version_cache.proofs.making.continued.Goals as goal
 
-pub continue_replay-requires-clause-apart : goal.continue_replay-requires-clause-apart
-continue_replay-requires-clause-apart g c = ap (λ (v : VersionValue). id_twice (v.applied ++ c.args.ids.now)) (c.in_ok-copy.ensures ∙ c.version.ensures.same) ∙ c.requires.apart
+pub go_on-requires-clause-replayed : goal.go_on-requires-clause-replayed
+go_on-requires-clause-replayed g c = subst IsReplayed (sym c.requires.working) c.args.kept.now.replayed
+
+pub go_on-requires-clause-apart : goal.go_on-requires-clause-apart
+go_on-requires-clause-apart g c = ap (λ (v : VersionValue). id_twice (v.applied ++ c.args.ids.now)) c.requires.working ∙ c.requires.apart

@@ -7,7 +7,7 @@ use Rattle.act_tree.proofs.arena.Arena.add.Goals as goal
 
 pub returns-clause-numbers : goal.returns-clause-numbers
 returns-clause-numbers c = λ w.
-    let wids : List (List ℕ) = c.args.self.now.numbers in
+    let wids : List (List ℕ) = c.args.self.now.numbers.wids in
     let same : c.in_ok-copy.field-0 ≡ c.args.slot.wid = search rules in
     ap (λ (ns : List (List ℕ)). last_named ns w) c.in_ok-add.ensures.ok ∙ led_on wids c.in_ok-copy.field-0 w
     ∙ ap (λ (v : List ℕ). cond (bytes_eq v w) (Some (length wids)) (last_named wids w)) same

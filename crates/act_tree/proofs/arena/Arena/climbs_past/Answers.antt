@@ -12,10 +12,9 @@ returns-then-eq-2 c =
     let slot = c.in-Some.slot.now in
     let h = c.in-Some.ensures.lookup in
     let it : slot ≡ get_or items c.loop-steps.id slot =
-    h.1 ∙ ap (λ xs. get_or xs c.place-in-loop-steps.result slot) c.deref.ensures.value ∙ ap (λ k. get_or items k slot) c.place-in-loop-steps.ensures in
-    let within : c.place-in-loop-steps.result < length c.deref.result.now = h.3.0 in
-    let same : length c.deref.result.now ≡ length items = ap length c.deref.ensures.value in
-    let inside : c.loop-steps.id < length items = omega arith in
+    h.1 ∙ ap (λ k. get_or items k slot) c.place-in-loop-steps.ensures in
+    let within : c.place-in-loop-steps.result < length items = h.3.0 in
+    let inside : c.loop-steps.id < length items = omega (arith, within, c.place-in-loop-steps.ensures) in
     let below : c.loop-steps.id ≡ 0 → ⊥ = λ root. c.if-place-eq0.false (c.place.ensures ∙ root) in
     let all : c.len-steps.result ≡ length items = search rules in
     let own : slot.above ≡ c.loop-steps.id = eqb-true slot.above c.loop-steps.id (sym c.if-eq-2.ensures) in
@@ -29,10 +28,9 @@ loop-steps-preserved c =
     let slot = c.in-Some.slot.now in
     let h = c.in-Some.ensures.lookup in
     let it : slot ≡ get_or items c.loop-steps.id slot =
-    h.1 ∙ ap (λ xs. get_or xs c.place-in-loop-steps.result slot) c.deref.ensures.value ∙ ap (λ k. get_or items k slot) c.place-in-loop-steps.ensures in
-    let within : c.place-in-loop-steps.result < length c.deref.result.now = h.3.0 in
-    let same : length c.deref.result.now ≡ length items = ap length c.deref.ensures.value in
-    let inside : c.loop-steps.id < length items = omega arith in
+    h.1 ∙ ap (λ k. get_or items k slot) c.place-in-loop-steps.ensures in
+    let within : c.place-in-loop-steps.result < length items = h.3.0 in
+    let inside : c.loop-steps.id < length items = omega (arith, within, c.place-in-loop-steps.ensures) in
     let below : c.loop-steps.id ≡ 0 → ⊥ = λ root. c.if-place-eq0.false (c.place.ensures ∙ root) in
     let apart : c.loop-steps.id ≡ c.args.gone → ⊥ = eqb-false c.loop-steps.id c.args.gone (sym c.if-eq.ensures) in
     let other : slot.above ≡ c.loop-steps.id → ⊥ = eqb-false slot.above c.loop-steps.id (sym c.if-eq-2.ensures) in

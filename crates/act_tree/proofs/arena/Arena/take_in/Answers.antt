@@ -5,8 +5,8 @@ use Rattle.act_tree.specs.Slots.{at}
 use Rattle.act_tree.proofs.Settling.{relisted_in}
 use Rattle.act_tree.proofs.arena.Arena.take_in.Goals as goal
 
-pub raise-requires : goal.raise-requires
-raise-requires c = let P : ℕ → Type 0 = λ n. All (λ k. k < n) c.args.come.now in subst P (sym c.relist.ensures.size) c.requires.come
+pub raise-requires-clause-come : goal.raise-requires-clause-come
+raise-requires-clause-come c = let P : ℕ → Type 0 = λ n. All (λ k. k < n) c.args.come.now in subst P (sym c.relist.ensures.size) c.requires.come
 
 pub returns-clause-relisted : goal.returns-clause-relisted
 returns-clause-relisted c =

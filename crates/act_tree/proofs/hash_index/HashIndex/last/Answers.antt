@@ -10,7 +10,7 @@ returns-then-width-eq0-clause-value c =
       arith,
       latest_le (buckets v.width v.hashes) (length v.hashes) (bucket_of v.width c.args.hash),
       ap (λ (i : IndexValue). length i.hashes) c.self.view_is,
-      c.self.invariant.enough,
+      c.self.invariant.index.enough,
       c.if-width-eq0.true,
       c.len-width.ensures,
     )

@@ -9,7 +9,7 @@ returns-clause-value c =
     let a = c.self.inside in
     let low : c.args.number < length a.hashes.items = subst (λ (v : IndexValue). c.args.number < length v.hashes) (sym c.self.view_is) c.requires in
     subst (λ (v : IndexValue). c.index.result.now ≡ previous_in v c.args.number) c.self.view_is
-    (link_read a.heads.len a.hashes.items a.heads.items a.before.items c.args.number c.index.result.now c.self.invariant low c.index.ensures)
+    (link_read (length a.heads.items) a.hashes.items a.heads.items a.before.items c.args.number c.index.result.now c.self.invariant.index low c.index.ensures)
 
 pub returns-clause-within : goal.returns-clause-within
 returns-clause-within c =

@@ -16,22 +16,22 @@ index-requires c =
 pub returns-clause-numbers : goal.returns-clause-numbers
 unfolding children_at
 returns-clause-numbers c =
-    c.deref.ensures.value ∙ sym (ap below_in (node_slot c.args.self.now c.args.id c.place.result c.index.result.now c.requires c.place.ensures c.index.ensures))
+    c.as_slice.ensures ∙ sym (ap below_in (node_slot c.args.self.now c.args.id c.place.result c.index.result.now c.requires c.place.ensures c.index.ensures))
 
 pub returns-clause-nodes : goal.returns-clause-nodes
 unfolding has_node
 returns-clause-nodes c =
     let arena = c.args.self.now.arena in
     let P : List ℕ → Type 0 = λ ids. All (λ k. climbs (size arena) (at arena) k ≡ true) ids in
-    let same : c.deref.result.now ≡ below_in (at arena c.args.id) =
-    c.deref.ensures.value ∙ sym (ap below_in (node_slot c.args.self.now c.args.id c.place.result c.index.result.now c.requires c.place.ensures c.index.ensures)) in
+    let same : c.as_slice.result.now ≡ below_in (at arena c.args.id) =
+    c.as_slice.ensures ∙ sym (ap below_in (node_slot c.args.self.now c.args.id c.place.result c.index.result.now c.requires c.place.ensures c.index.ensures)) in
     subst P (sym same) (children_climb (at arena) (number arena) (size arena) c.args.self.now.whole c.args.id c.requires)
 
 pub returns-clause-branches : goal.returns-clause-branches
 unfolding has_node branch_at below_at
 returns-clause-branches c =
     let arena = c.args.self.now.arena in
-    let same : c.deref.result.now ≡ below_in (at arena c.args.id) =
-    c.deref.ensures.value ∙ sym (ap below_in (node_slot c.args.self.now c.args.id c.place.result c.index.result.now c.requires c.place.ensures c.index.ensures)) in
+    let same : c.as_slice.result.now ≡ below_in (at arena c.args.id) =
+    c.as_slice.ensures ∙ sym (ap below_in (node_slot c.args.self.now c.args.id c.place.result c.index.result.now c.requires c.place.ensures c.index.ensures)) in
     ap (λ ids. branches_of (map (branch_from (size arena) (at arena)) ids)) same
     ∙ children_branches (at arena) (number arena) (size arena) c.args.self.now.whole c.args.id c.requires

@@ -4,10 +4,10 @@ use Rattle.act_tree.specs.Trees.{TreeValue}
 use Rattle.act_tree.proofs.tree.Tree.copy.Goals as goal
 
 pub invariant_of-result : goal.invariant_of-result
-invariant_of-result c = record { whole = c.in_ok-copy_arena.ensures.whole }
+invariant_of-result c = record { whole = c.in_ok-arena.ensures.whole }
 
-pub returns : goal.returns
+pub returns-clause-tree : goal.returns-clause-tree
 unfolding tree_view
-returns c =
+returns-clause-tree c =
     let t = c.args.self.now in
-    ap {B = TreeValue} (λ body. record { numbering = t.numbering; limit = t.limit; body = body; changes = t.changes }) c.in_ok-copy_arena.ensures.reads
+    ap {B = TreeValue} (λ body. record { numbering = t.numbering; limit = t.limit; body = body; changes = t.changes }) c.in_ok-arena.ensures.reads

@@ -9,8 +9,8 @@ pub plant-requires-clause-apart : goal.plant-requires-clause-apart
 plant-requires-clause-apart c = no_roots c.args.numbering None (branches_of c.args.body.now)
 
 pub invariant_of-result : goal.invariant_of-result
-invariant_of-result c = record { whole = c.in_ok-plant.ensures.whole }
+invariant_of-result c = record { whole = c.in_ok-arena.ensures.whole }
 
-pub returns : goal.returns
+pub returns-clause-tree : goal.returns-clause-tree
 unfolding tree_view
-returns c = ap {B = TreeValue} (λ bs. record { numbering = c.args.numbering; limit = c.args.limit; body = bs; changes = 0 }) c.in_ok-plant.ensures.reads
+returns-clause-tree c = ap {B = TreeValue} (λ bs. record { numbering = c.args.numbering; limit = c.args.limit; body = bs; changes = 0 }) c.in_ok-arena.ensures.reads

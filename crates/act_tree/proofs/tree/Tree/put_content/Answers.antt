@@ -5,8 +5,8 @@ use Rattle.act_tree.proofs.RestatedNodes.{content_given}
 use Rattle.act_tree.proofs.SlotsOfNodes.{node_within}
 use Rattle.act_tree.proofs.tree.Tree.put_content.Goals as goal
 
-pub set_content-requires : goal.set_content-requires
-set_content-requires c = node_within c.args.self.now c.args.id c.requires.node
+pub set_content-requires-clause-within : goal.set_content-requires-clause-within
+set_content-requires-clause-within c = node_within c.args.self.now c.args.id c.requires.node
 
 pub invariant_of-self : goal.invariant_of-self
 unfolding has_node

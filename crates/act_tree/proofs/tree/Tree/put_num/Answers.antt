@@ -5,8 +5,8 @@ use Rattle.act_tree.proofs.Renumbering.{num_put}
 use Rattle.act_tree.proofs.SlotsOfNodes.{node_within}
 use Rattle.act_tree.proofs.tree.Tree.put_num.Goals as goal
 
-pub set_num-requires : goal.set_num-requires
-set_num-requires c = node_within c.args.self.now c.args.id c.requires.node
+pub set_num-requires-clause-within : goal.set_num-requires-clause-within
+set_num-requires-clause-within c = node_within c.args.self.now c.args.id c.requires.node
 
 pub invariant_of-self : goal.invariant_of-self
 unfolding has_node

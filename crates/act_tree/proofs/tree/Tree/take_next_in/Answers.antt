@@ -45,9 +45,9 @@ below_both-requires-clause-next c =
     let other : c.args.id ≡ 0 → ⊥ = root_alone (at arena) (number arena) (size arena) c.args.self.now.whole c.args.id c.requires.next in
     behind_within arena c.args.id c.unwrap-next.result c.args.self.now.whole c.requires.node other (sym c.next.ensures ∙ c.unwrap-next.ensures)
 
-pub join-requires : goal.join-requires
+pub join-requires-clause-can : goal.join-requires-clause-can
 unfolding has_node tree_view provision_at
-join-requires c =
+join-requires-clause-can c =
     let arena = c.args.self.now.arena in
     let other : c.args.id ≡ 0 → ⊥ = root_alone (at arena) (number arena) (size arena) c.args.self.now.whole c.args.id c.requires.next in
     may_join arena c.args.id c.unwrap-next.result c.args.self.now.whole c.requires.node other (sym c.next.ensures ∙ c.unwrap-next.ensures) c.in_ok-below.below.items c.in_ok-below.ensures

@@ -7,8 +7,8 @@ use Rattle.act_tree.proofs.wid_index.WidIndex.last.Given as goal
 
 abbrev pub invariant-loop-end : goal.invariant-loop-end
 invariant-loop-end l = record {
-  most : l.end ≤ length l.self;
-  same : last_passing (is_named l.self l.wid) l.end ≡ last_named l.self l.wid;
+  most : l.end ≤ length l.self.wids;
+  same : last_passing (is_named l.self.wids l.wid) l.end ≡ last_named l.self.wids l.wid;
   here : EndsIn l.self-inside.chains (hash_on 0 l.wid) l.end;
 }
 

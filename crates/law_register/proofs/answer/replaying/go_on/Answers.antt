@@ -7,7 +7,7 @@ use Rattle.law_register.specs.Answer.Soundness.{id_twice}
 use Rattle.law_register.specs.Answer.Versions.{version_view}
 use Rattle.law_register.proofs.ApartIds.{first_apart}
 use Rattle.law_register.proofs.Continuing.{edited_apart}
-use Rattle.law_register.proofs.answer.replaying.continue_replay.Goals as goal
+use Rattle.law_register.proofs.answer.replaying.go_on.Goals as goal
 
 none : Id
 none = record { law = 0; item = 0 }
@@ -36,6 +36,7 @@ loop-id-preserved g c =
     let made : new ≡ edited_by old id (edit_of mods id) = c.in_ok-apply_id.ensures.version ∙ ap (λ ms. edited_by old id (edit_of ms id)) c.as_slice.ensures in
     record {
       version = ap (λ v. replayed mods v (drop (i + 1) ids)) made ∙ sym (ap (replayed mods old) rest) ∙ c.loop-id.invariant.version;
+      own = c.apply_id.ensures.own;
       replayed = c.in_ok-apply_id.ensures.replayed;
       apart =
           ap (λ (v : VersionValue). id_twice (v.applied ++ drop (i + 1) ids)) made
