@@ -1,7 +1,7 @@
 -- What one row more makes of the rows so far, of the orders that are left, and of what the rest costs.
-use Rattle.std.proofs.Common.{◌≡◌, ◌∙◌, sym, ap, ℕ, suc, ◌+◌, ◌-◌, ◌≤◌, ◌<◌, true, cond, nat_le, drop, get_or, length, map, List, [], ◌∷◌, ◌++◌, append_assoc, arith}
+use Rattle.std.proofs.Common.{◌≡◌, ◌∙◌, sym, ap, ℕ, suc, ◌+◌, ◌-◌, ◌≤◌, ◌<◌, true, cond, nat_le, drop, get_or, length, map, List, [], ◌∷◌, ◌++◌, append_assoc, append-nil, arith}
 use Rattle.std.proofs.lemmas.Bool.Decides.{nat_tests}
-use Rattle.std.proofs.lemmas.List.{drop_more, length-drop, length-map, map-append}
+use Rattle.std.proofs.lemmas.List.{drop_more, length-drop, length-map, map-append, nil_from_length}
 use Rattle.desk_base.specs.declared.id.Id.{Id}
 use Rattle.law_register.specs.declared.answer.question.Reading.{Reading}
 use Rattle.law_register.specs.declared.register.known.Known.{Known}
@@ -39,6 +39,13 @@ module _ (known : Known) (r : Reading) where
       ∙ ap (λ (version : VersionValue). rows_view rows ++ (record { day = row.day; version = version } ∷ rows_on known r rest)) (version_is (row_view row).version ids row.day ordered made)
       ∙ sym (ap (λ days. rows_view rows ++ rows_on known r days) cut)
       ∙ so_far
+
+  -- where no order is left, no day is, and the rows so far are all
+  pub rows_whole : (rows : List Row) (orders : List (List Id)) (left all : List ℕ) → length orders ≡ 0 → orders ≡ map (order known r) left
+      → rows_view rows ++ rows_on known r left ≡ rows_on known r all → rows_view rows ≡ rows_on known r all
+  rows_whole rows orders left all none is so_far =
+      let no_day : left ≡ [] = nil_from_length left (sym (length-map left (order known r)) ∙ sym (ap length is) ∙ none) in
+      sym (ap (λ days. rows_view rows ++ rows_on known r days) no_day ∙ append-nil (rows_view rows)) ∙ so_far
 
   pub last_step : (before : VersionValue) (rows : List Row) (row : Row) (ids : List Id) → (row_view row).version ≡ made_by ids
       → last_version before (rows_view (rows ++ row ∷ [])) ≡ made_by ids

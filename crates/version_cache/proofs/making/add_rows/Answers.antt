@@ -1,4 +1,4 @@
-use Rattle.std.proofs.Common.{rules, ◌≡◌, ◌∙◌, ◌+◌, ◌<◌, ◌≤◌, ◌++◌, sym, ap, arith, drop, length, map, List, ◌∷◌, ℕ}
+use Rattle.std.proofs.Common.{◌≡◌, ◌∙◌, ◌+◌, ◌<◌, ◌≤◌, ◌++◌, sym, ap, arith, drop, length, map, List, ◌∷◌, ℕ}
 use Rattle.std.specs.Vec.Iter.{into_iter_items}
 use Rattle.std.proofs.lemmas.List.{drop_more}
 use Rattle.desk_base.specs.declared.id.Id.{Id}
@@ -11,7 +11,7 @@ use Rattle.law_register.proofs.DueOnce.{order_once}
 use Rattle.version_cache.specs.declared.row.Row.{Row}
 use Rattle.version_cache.specs.Rows.{kept_view, rows_view}
 use Rattle.version_cache.specs.Tables.{last_version, rows_on}
-use Rattle.version_cache.proofs.Adding.{cost_step, day_left, last_step, made_by, next_day, orders_step, rows_step, spent_by}
+use Rattle.version_cache.proofs.Adding.{cost_step, day_left, last_step, made_by, next_day, orders_step, rows_step, rows_whole, spent_by}
 use Rattle.version_cache.proofs.making.add_rows.Goals as goal
 
 pub version_after-requires-clause-once : goal.version_after-requires-clause-once
@@ -22,7 +22,9 @@ version_after-requires-clause-once g c =
     ap id_twice (c.as_slice-in-loop-ids-2.ensures ∙ next.ordered) ∙ order_once known r next.day c.requires.sound.ids
 
 pub returns-clause-rows : goal.returns-clause-rows
-returns-clause-rows g c = search (rules, c.loop-ids.invariant.rows, c.loop-ids.invariant.orders, c.in-None.ensures.steps) depth 24 fits 60000
+returns-clause-rows g c =
+    rows_whole c.args.course.now.known.now c.args.course.now.reading c.loop-ids.rows.items (into_iter_items c.loop-ids.ids-iterator) (drop c.loop-ids.index c.args.days.now) c.args.days.now
+    (sym c.loop-ids.ids-iterator.rest.ok.0 ∙ c.in-None.ensures.steps.0) c.loop-ids.invariant.orders c.loop-ids.invariant.rows
 
 pub returns-in_err-kept-clause-steps : goal.returns-in_err-kept-clause-steps
 returns-in_err-kept-clause-steps g c =
