@@ -1,12 +1,13 @@
 -- The pieces of a list: what stands at a place of one, and which of them a written value leaves.
-use Rattle.std.proofs.Common.{◌≡◌, ◌∙◌, sym, ap, refl, subst, ℕ, zero, suc, ◌+◌, ◌-◌, ◌*◌, ◌/◌, min, ◌%◌, ◌<◌, ◌≤◌, Bool, true, false, true≢false, List, [], ◌∷◌, ◌++◌, length, get_or, set, take, drop, replicate, inl, inr, arith, suc-mul, div-lt_iff_lt-mul, le-div_iff_mul-le, add-mul, one-mul, take-add}
+use Rattle.std.proofs.Common.{◌≡◌, ◌∙◌, sym, ap, refl, subst, ℕ, zero, suc, ◌+◌, ◌-◌, ◌*◌, ◌/◌, min, ◌%◌, ◌<◌, ◌≤◌, ◌==◌, Bool, true, false, true≢false, List, [], ◌∷◌, ◌++◌, length, get_or, set, take, drop, replicate, inl, inr, arith, suc-mul, div-lt_iff_lt-mul, le-div_iff_mul-le, add-mul, one-mul, take-add}
 use Rattle.std.specs.List.{refill}
 use Rattle.std.proofs.lemmas.Bool.{cases_lt, cases_eq}
 use Rattle.std.proofs.lemmas.Grind.{div_ceil_times}
 use Rattle.std.proofs.lemmas.Nat.{div-add-mod', mod_below, mul-le}
 use Rattle.std.proofs.lemmas.List.{length-set, length-take, length-drop, length_push, get_or-take, get_or-drop, get_or-set_same, get_or-set_other, get_or_append_left, get_or_push, get_or_past, get_or_default, drop-set-lt, drop-set-add, take-set-le, drop_all, drop-append-le, take-append-le, take_all, take_at, take_more, append-nil, length-replicate, get_or-replicate}
 use Rattle.std.proofs.lemmas.List.Concat.{flat_map-append}
-use Rattle.act_tree.specs.KeptLists.{ListValue, IsList, IsNoted, AreFresh, joined_pieces, piece, values_in, room_in}
+use lib.Seq.{take-set-lt}
+use Rattle.act_tree.specs.KeptLists.{ListValue, IsList, IsNoted, AreFresh, ArePieces, AreBlocks, joined_pieces, piece, values_in, room_in}
 
 -- a place is in the piece of its quotient, and in no other
 pub in_piece : (size i k : ℕ) → 0 < size → k * size ≤ i → i < k * size + size → k ≡ i / size
@@ -18,6 +19,20 @@ in_piece size i k some from to =
 -- a place in its piece is within what was taken of the list
 long_enough : (q r size n taken dropped i : ℕ) → taken ≡ min size dropped → dropped ≡ n - q → q + r ≡ i → r < size → i < n → r < taken
 long_enough q r size n taken dropped i is rest place low within = omega (arith, is, rest, place, low, within)
+
+-- pieces of which none begins behind a list are no more than hold it
+pub few_enough : (size len n m : ℕ) → n * size < len + size → len ≤ m * size → n ≤ m
+few_enough size len n m ended enough = elim (cases_lt m n) [
+  | inl more ↦ absurd (omega (arith, mul-le (m + 1) size n size (omega (arith, more)) (omega arith), add-mul m 1 size, one-mul size, ended, enough))
+  | inr few ↦ few
+]
+
+-- so many begin within a list and hold it, and so they are as many as others that do
+pub as_many : (size len n m : ℕ) → n * size < len + size → len ≤ n * size → ((k : ℕ) → k < m → k * size < len) → len ≤ m * size → n ≡ m
+as_many size len n m ended enough low holds = elim (cases_lt n m) [
+  | inl more ↦ absurd (omega (arith, low n more, enough))
+  | inr most ↦ (let few : n ≤ m = few_enough size len n m ended holds in omega (arith, few, most))
+]
 
 -- where no piece is marked
 pub none_marked : (n k : ℕ) → get_or (replicate n false) k false ≡ false
@@ -66,6 +81,20 @@ module _ {T : Type 0} where
         ]
       ]
 
+  -- in its own it stands at the remainder
+  pub piece_set_here : (size : ℕ) (items : List T) (i : ℕ) (x : T) → 0 < size → piece size (set items i x) (i / size) ≡ set (piece size items (i / size)) (i % size) x
+  piece_set_here size items i x some =
+      ap (λ (n : ℕ). take size (drop (i / size * size) (set items n x))) (sym (div-add-mod' i size)) ∙ ap (take size) (drop-set-add (i / size * size) items (i % size) x)
+      ∙ take-set-lt size (drop (i / size * size) items) (i % size) x (mod_below i size some)
+
+  -- and a value that comes behind the others stands behind those of its piece
+  pub piece_push_here : (size : ℕ) (items : List T) (k : ℕ) (x : T) → k * size ≤ length items → length items < k * size + size → piece size (items ++ x ∷ []) k ≡ piece size items k ++ x ∷ []
+  piece_push_here size items k x from to =
+      let rest : List T = drop (k * size) items in
+      ap (take size) (drop-append-le (k * size) items (x ∷ []) from)
+      ∙ take_all size (rest ++ x ∷ []) (omega (arith, length_push rest x, length-drop (k * size) items, from, to))
+      ∙ ap (λ (xs : List T). xs ++ x ∷ []) (sym (take_all size rest (omega (arith, length-drop (k * size) items, from, to))))
+
   joined_push : (ps : List (List T)) (p : List T) → joined_pieces (ps ++ p ∷ []) ≡ joined_pieces ps ++ p
   joined_push ps p = flat_map-append (λ (q : List T). q) ps (p ∷ []) ∙ ap (λ (xs : List T). joined_pieces ps ++ xs) (append-nil p)
 
@@ -83,10 +112,83 @@ module _ {T : Type 0} where
       → joined_pieces (take n pieces) ≡ items
   joined_all size items pieces n within are enough = joined_first size items pieces n within are ∙ take_all (n * size) items enough
 
+  -- pieces that make up a list are it, one after another
+  pub joined_are : (size : ℕ) (items : List T) (pieces : List (List T)) → ArePieces size items pieces → joined_pieces pieces ≡ items
+  joined_are size items pieces are =
+      ap joined_pieces (sym (take_all (length pieces) pieces (omega arith))) ∙ joined_all size items pieces (length pieces) (omega arith) are.here are.enough
+
+  -- what stands at a place of a list stands in a piece that there is
+  pub part_low : (size : ℕ) (items : List T) (pieces : List (List T)) → ArePieces size items pieces → (i : ℕ) → i < length items → i / size < length pieces
+  part_low size items pieces are i low = (div-lt_iff_lt-mul are.some).1 (omega (arith, are.enough, low))
+
+  -- pieces after a value was written
+  pub pieces_set : (size : ℕ) (items : List T) (pieces : List (List T)) (i : ℕ) (x : T) (p : List T) → ArePieces size items pieces → i < length items → p ≡ set (get_or pieces (i / size) []) (i % size) x
+      → ArePieces size (set items i x) (set pieces (i / size) p)
+  pieces_set size items pieces i x p are low is =
+      let there : i / size < length pieces = part_low size items pieces are i low in
+      let many : length (set pieces (i / size) p) * size ≡ length pieces * size = ap (λ (m : ℕ). m * size) (length-set pieces (i / size) p) in
+      record {
+        some = are.some;
+        here = λ k inside. elim (cases_eq k (i / size)) [
+          | inl same ↦
+              ap (λ (n : ℕ). get_or (set pieces (i / size) p) n []) same ∙ get_or-set_same pieces (i / size) p [] there ∙ is ∙ ap (λ (q : List T). set q (i % size) x) (are.here (i / size) there)
+              ∙ sym (piece_set_here size items i x are.some) ∙ ap (piece size (set items i x)) (sym same)
+          | inr other ↦
+              get_or-set_other pieces (i / size) k p [] other ∙ are.here k (omega (arith, length-set pieces (i / size) p, inside)) ∙ sym (piece_set size items i k x are.some other)
+        ];
+        enough = omega (arith, are.enough, many, length-set items i x);
+        ended = omega (arith, are.ended, many, length-set items i x);
+      }
+
+  -- pieces after a value came behind the others, where the last one had room
+  pub pieces_more : (size : ℕ) (items : List T) (pieces : List (List T)) (n : ℕ) (x : T) (p : List T) → ArePieces size items pieces → length pieces ≡ n + 1 → length items < length pieces * size → p ≡ get_or pieces n [] ++ x ∷ []
+      → ArePieces size (items ++ x ∷ []) (set pieces n p)
+  pieces_more size items pieces n x p are last room is =
+      let rows : length pieces * size ≡ n * size + size = ap (λ (m : ℕ). m * size) last ∙ add-mul n 1 size ∙ ap (λ (m : ℕ). n * size + m) (one-mul size) in
+      let from : n * size ≤ length items = omega (arith, rows, are.ended) in
+      let to : length items < n * size + size = omega (arith, rows, room) in
+      let mine : n ≡ length items / size = in_piece size (length items) n are.some from to in
+      let many : length (set pieces n p) * size ≡ length pieces * size = ap (λ (m : ℕ). m * size) (length-set pieces n p) in
+      record {
+        some = are.some;
+        here = λ k inside. elim (cases_eq k n) [
+          | inl same ↦
+              ap (λ (j : ℕ). get_or (set pieces n p) j []) same ∙ get_or-set_same pieces n p [] (omega (arith, last)) ∙ is ∙ ap (λ (q : List T). q ++ x ∷ []) (are.here n (omega (arith, last)))
+              ∙ sym (piece_push_here size items n x from to) ∙ ap (piece size (items ++ x ∷ [])) (sym same)
+          | inr other ↦
+              get_or-set_other pieces n k p [] other ∙ are.here k (omega (arith, length-set pieces n p, inside)) ∙ sym (piece_push size items k x are.some (λ e. other (e ∙ sym mine)))
+        ];
+        enough = omega (arith, room, many, length_push items x);
+        ended = omega (arith, are.ended, many, length_push items x);
+      }
+
+  -- and where it was full
+  pub pieces_next : (size : ℕ) (items : List T) (pieces : List (List T)) (x : T) → ArePieces size items pieces → length items ≡ length pieces * size → ArePieces size (items ++ x ∷ []) (pieces ++ (x ∷ []) ∷ [])
+  pieces_next size items pieces x are full =
+      let n : ℕ = length pieces in
+      let from : n * size ≤ length items = omega (arith, full) in
+      let to : length items < n * size + size = omega (arith, full, are.some) in
+      let mine : n ≡ length items / size = in_piece size (length items) n are.some from to in
+      let many : length (pieces ++ (x ∷ []) ∷ []) * size ≡ n * size + size = ap (λ (m : ℕ). m * size) (length_push pieces (x ∷ [])) ∙ add-mul n 1 size ∙ ap (λ (m : ℕ). n * size + m) (one-mul size) in
+      let alone : piece size items n ≡ [] = ap (take size) (drop_all (n * size) items (omega (arith, full))) ∙ take_all size [] (omega arith) in
+      record {
+        some = are.some;
+        here = λ k inside. elim (cases_lt k n) [
+          | inl low ↦ get_or_append_left pieces ((x ∷ []) ∷ []) [] k low ∙ are.here k low ∙ sym (piece_push size items k x are.some (λ e. omega (arith, e, mine, low)))
+          | inr high ↦ (
+              let same : k ≡ n = omega (arith, high, length_push pieces (x ∷ []), inside) in
+              ap (λ (j : ℕ). get_or (pieces ++ (x ∷ []) ∷ []) j []) same ∙ get_or_push pieces (x ∷ []) [] n refl ∙ ap (λ (q : List T). q ++ x ∷ []) (sym alone)
+              ∙ sym (piece_push_here size items n x from to) ∙ ap (piece size (items ++ x ∷ [])) (sym same)
+              )
+        ];
+        enough = omega (arith, many, length_push items x, full, are.some);
+        ended = omega (arith, many, length_push items x, full);
+      }
+
   -- an own list of which a piece became another, where that is noted
   list_marked : (size : ℕ) (own now : List T) (pieces : List (List T)) (written : List Bool) (count q : ℕ) → IsList size true own pieces written count
-      → ((k : ℕ) → (k ≡ q → ⊥) → piece size now k ≡ piece size own k) → IsList size true now pieces (set written q true) count
-  list_marked size own now pieces written count q is alike =
+      → length own ≤ length now → ((k : ℕ) → (k ≡ q → ⊥) → piece size now k ≡ piece size own k) → IsList size true now pieces (set written q true) count
+  list_marked size own now pieces written count q is longer alike =
       let many : length written ≡ length pieces = is.noted refl in
       record {
         some = is.some;
@@ -94,6 +196,7 @@ module _ {T : Type 0} where
           | inl same ↦ absurd (true≢false (sym (get_or-set_same written q true false (omega (arith, many, same, low))) ∙ ap (λ (n : ℕ). get_or (set written q true) n false) (sym same) ∙ fresh))
           | inr other ↦ is.shared k low (sym (get_or-set_other written q k true false other) ∙ fresh) ∙ sym (alike k other)
         ];
+        ended = omega (arith, is.ended, longer);
         noted = λ _. length-set written q true ∙ many;
         unwritten = λ kept. absurd (true≢false kept);
         enough = λ kept. absurd (true≢false kept);
@@ -104,13 +207,13 @@ module _ {T : Type 0} where
   pub list_set : (size : ℕ) (own : List T) (pieces : List (List T)) (written : List Bool) (count i : ℕ) (x : T) → IsList size true own pieces written count
       → IsList size true (set own i x) pieces (set written (i / size) true) count
   list_set size own pieces written count i x is =
-      list_marked size own (set own i x) pieces written count (i / size) is (λ k other. piece_set size own i k x is.some other)
+      list_marked size own (set own i x) pieces written count (i / size) is (omega (arith, length-set own i x)) (λ k other. piece_set size own i k x is.some other)
 
   -- an own list after a value came behind the others
   pub list_push : (size : ℕ) (own : List T) (pieces : List (List T)) (written : List Bool) (count : ℕ) (x : T) → IsList size true own pieces written count
       → IsList size true (own ++ x ∷ []) pieces (set written (length own / size) true) count
   list_push size own pieces written count x is =
-      list_marked size own (own ++ x ∷ []) pieces written count (length own / size) is (λ k other. piece_push size own k x is.some other)
+      list_marked size own (own ++ x ∷ []) pieces written count (length own / size) is (omega (arith, length_push own x)) (λ k other. piece_push size own k x is.some other)
 
   -- what stands at a place of a kept list, in the piece of the place
   pub in_pieces : (size : ℕ) (own : List T) (pieces : List (List T)) (written : List Bool) (count : ℕ) → IsList size false own pieces written count → (i : ℕ) → i < length (joined_pieces pieces)
@@ -151,31 +254,33 @@ module _ {T : Type 0} where
   push_own size own pieces written count x b is l =
       subst (λ (c : Bool). IsList size c (own ++ x ∷ []) pieces (set written (length own / size) true) count) (sym is) (list_push size own pieces written count x (as_own size own pieces written count b is l))
 
-  -- an own list of which something was written in each piece
-  pub marked_own : (size : ℕ) (own now : List T) (pieces : List (List T)) (written : List Bool) (count : ℕ) (b : Bool) → b ≡ true → IsList size b own pieces written count
-      → IsList size b now pieces (replicate (length written) true) count
-  marked_own size own now pieces written count b is l =
-      let many : length written ≡ length pieces = l.noted is in
-      record {
+  -- an own list without the pieces that were made of it
+  pub forgotten_own : (size : ℕ) (own now : List T) (pieces gone : List (List T)) (written marks : List Bool) (count : ℕ) (b : Bool) → b ≡ true → IsList size b own pieces written count → gone ≡ [] → marks ≡ []
+      → IsList size b now gone marks count
+  forgotten_own size own now pieces gone written marks count b is l empty none =
+      let made : IsList size b now [] [] count = record {
         some = l.some;
-        shared = λ k low fresh. absurd (true≢false (sym (get_or-replicate (length written) k true false (omega (arith, many, low))) ∙ fresh));
-        noted = λ _. length-replicate (length written) true ∙ many;
-        unwritten = λ kept. absurd (true≢false (sym is ∙ kept));
+        shared = λ k low fresh. absurd (omega (arith, low));
+        ended = omega (arith, l.some);
+        noted = λ _. refl;
+        unwritten = λ _. refl;
         enough = λ kept. absurd (true≢false (sym is ∙ kept));
         counted = λ kept. absurd (true≢false (sym is ∙ kept));
-      }
+      } in
+      subst (λ (ps : List (List T)). IsList size b now ps marks count) (sym empty) (subst (λ (ms : List Bool). IsList size b now [] ms count) (sym none) made)
 
   -- what is noted of the pieces of an own list
   pub noted_of : (size : ℕ) (own : List T) (pieces : List (List T)) (written : List Bool) (count : ℕ) (b : Bool) → b ≡ true → IsList size b own pieces written count → IsNoted size own pieces written
   noted_of size own pieces written count b is l =
       let it : IsList size true own pieces written count = as_own size own pieces written count b is l in
-      record { shared = it.shared; noted = it.noted refl }
+      record { shared = it.shared; ended = it.ended; noted = it.noted refl }
 
   pub own_of : (size : ℕ) (own : List T) (pieces : List (List T)) (written : List Bool) (count : ℕ) (b : Bool) → b ≡ true → 0 < size → IsNoted size own pieces written → IsList size b own pieces written count
   own_of size own pieces written count b is some n =
       let it : IsList size true own pieces written count = record {
         some = some;
         shared = n.shared;
+        ended = n.ended;
         noted = λ _. n.noted;
         unwritten = λ kept. absurd (true≢false kept);
         enough = λ kept. absurd (true≢false kept);
@@ -183,21 +288,33 @@ module _ {T : Type 0} where
       } in
       subst (λ (c : Bool). IsList size c own pieces written count) (sym is) it
 
-  -- the pieces of which nothing was written make a kept list of the same values
-  pub kept_of : (size : ℕ) (own now : List T) (pieces : List (List T)) (written none : List Bool) (n len : ℕ) (shared : List (List T)) → 0 < size → IsNoted size own pieces written → AreFresh n pieces written → length own ≤ n * size
-      → shared ≡ take n pieces → none ≡ [] → len ≡ length own → (joined_pieces shared ≡ own) × IsList size false now shared none len
-  kept_of size own now pieces written none n len shared some noted fresh enough same empty counted =
-      let are : (k : ℕ) → k < n → get_or pieces k [] ≡ piece size own k = λ k low. noted.shared k (omega (arith, fresh.within, low)) (fresh.fresh k low) in
-      let many : length (take n pieces) ≡ n = omega (arith, length-take n pieces, fresh.within) in
-      let all : joined_pieces (take n pieces) ≡ own = joined_all size own pieces n fresh.within are enough in
-      let P : List (List T) → Type 0 = λ ps. (joined_pieces ps ≡ own) × IsList size false now ps none len in
-      let it : IsList size false now (take n pieces) none len = record {
+  -- the pieces of which nothing was written make up the list
+  pub all_fresh : (size : ℕ) (items : List T) (pieces : List (List T)) (written : List Bool) (n : ℕ) → 0 < size → IsNoted size items pieces written → AreFresh n pieces written → length items ≤ n * size → ArePieces size items pieces
+  all_fresh size items pieces written n some noted fresh enough =
+      let few : length pieces ≤ n = few_enough size (length items) (length pieces) n noted.ended enough in
+      let many : length pieces ≡ n = omega (arith, few, fresh.within) in
+      record {
         some = some;
-        shared = λ k low told. get_or-take n pieces k [] (omega (arith, many, low)) ∙ are k (omega (arith, many, low)) ∙ ap (λ (xs : List T). piece size xs k) (sym all);
+        here = λ k low. noted.shared k low (fresh.fresh k (omega (arith, low, many)));
+        enough = omega (arith, enough, ap (λ (m : ℕ). m * size) many);
+        ended = noted.ended;
+      }
+
+  -- and are a kept list of the same values
+  pub kept_of : (size : ℕ) (own now : List T) (pieces shared : List (List T)) (none : List Bool) (len : ℕ) → ArePieces size own pieces → shared ≡ pieces → none ≡ [] → len ≡ length own
+      → (joined_pieces shared ≡ own) × IsList size false now shared none len
+  kept_of size own now pieces shared none len are same empty counted =
+      let all : joined_pieces pieces ≡ own = joined_are size own pieces are in
+      let long : length (joined_pieces pieces) ≡ length own = ap (λ (xs : List T). length xs) all in
+      let P : List (List T) → Type 0 = λ ps. (joined_pieces ps ≡ own) × IsList size false now ps none len in
+      let it : IsList size false now pieces none len = record {
+        some = are.some;
+        shared = λ k low told. are.here k low ∙ ap (λ (xs : List T). piece size xs k) (sym all);
+        ended = omega (arith, are.ended, long);
         noted = λ owned. absurd (true≢false (sym owned));
         unwritten = λ _. empty;
-        enough = λ _. omega (arith, enough, counted, ap (λ (m : ℕ). m * size) many);
-        counted = λ _. counted ∙ sym (ap (λ (xs : List T). length xs) all);
+        enough = λ _. omega (arith, are.enough, counted);
+        counted = λ _. counted ∙ sym long;
       } in
       subst P (sym same) (all, it)
 
@@ -209,6 +326,7 @@ module _ {T : Type 0} where
       let made : IsList size false now pieces none count = record {
         some = it.some;
         shared = λ k low fresh. it.shared k low (ap (λ (bs : List Bool). get_or bs k false) (it.unwritten refl));
+        ended = it.ended;
         noted = λ owned. absurd (true≢false (sym owned));
         unwritten = λ _. empty;
         enough = it.enough;
@@ -223,6 +341,7 @@ module _ {T : Type 0} where
       let made : IsList size true now pieces marks 0 = record {
         some = l.some;
         shared = λ k low fresh. l.shared k low (sym (alike k) ∙ fresh) ∙ ap (λ (xs : List T). piece size xs k) (sym values);
+        ended = omega (arith, l.ended, ap (λ (xs : List T). length xs) values);
         noted = λ _. many;
         unwritten = λ kept. absurd (true≢false kept);
         enough = λ kept. absurd (true≢false kept);
@@ -239,6 +358,7 @@ module _ {T : Type 0} where
       | inr other ↦
           get_or-set_other pieces i k made [] other ∙ n.shared k (omega (arith, length-set pieces i made, inside)) (sym (get_or-set_other written i k false false other) ∙ fresh)
     ];
+    ended = omega (arith, n.ended, ap (λ (m : ℕ). m * size) (length-set pieces i made));
     noted = length-set written i false ∙ n.noted ∙ sym (length-set pieces i made);
   }
 
@@ -266,9 +386,9 @@ module _ {T : Type 0} where
   }
 
   -- a piece came behind the others
-  pub noted_push : (size : ℕ) (items : List T) (pieces : List (List T)) (written : List Bool) (i : ℕ) (made : List T) → IsNoted size items pieces written → i ≡ length pieces → made ≡ piece size items i
+  pub noted_push : (size : ℕ) (items : List T) (pieces : List (List T)) (written : List Bool) (i : ℕ) (made : List T) → IsNoted size items pieces written → i ≡ length pieces → i * size < length items → made ≡ piece size items i
       → IsNoted size items (pieces ++ made ∷ []) (written ++ false ∷ [])
-  noted_push size items pieces written i made n place is = record {
+  noted_push size items pieces written i made n place begins is = record {
     shared = λ k inside fresh. elim (cases_lt k (length pieces)) [
       | inl low ↦
           get_or_append_left pieces (made ∷ []) [] k low ∙ n.shared k low (sym (get_or_append_left written (false ∷ []) false k (omega (arith, n.noted, low))) ∙ fresh)
@@ -277,6 +397,10 @@ module _ {T : Type 0} where
           ap (λ (j : ℕ). get_or (pieces ++ made ∷ []) j []) same ∙ get_or_push pieces made [] i (sym place) ∙ is ∙ ap (piece size items) (sym same)
           )
     ];
+    ended = (
+        let many : length (pieces ++ made ∷ []) * size ≡ length pieces * size + size = ap (λ (m : ℕ). m * size) (length_push pieces made) ∙ add-mul (length pieces) 1 size ∙ ap (λ (m : ℕ). length pieces * size + m) (one-mul size) in
+        omega (arith, many, ap (λ (m : ℕ). m * size) place, begins)
+        );
     noted = length_push written false ∙ ap (λ (m : ℕ). m + 1) n.noted ∙ sym (length_push pieces made);
   }
 
@@ -388,20 +512,20 @@ module _ {T : Type 0} where
       (subst (λ (ms : List Bool). IsList size b (own ++ x ∷ []) pieces ms count) (sym (noted ∙ ap (λ (m : ℕ). set written (m / size) true) many))
       (push_own size own pieces written count x b (same_own b own pieces spare v is owned) l))
 
-  pub marked_seen : (size : ℕ) (own now : List T) (pieces : List (List T)) (written marks : List Bool) (count spare : ℕ) (b : Bool) (v : ListValue T) → seen b own pieces spare ≡ v → v.is_own ≡ true
-      → IsList size b own pieces written count → marks ≡ replicate (length written) true → IsList size b now pieces marks count
-  marked_seen size own now pieces written marks count spare b v is owned l noted =
-      subst (λ (ms : List Bool). IsList size b now pieces ms count) (sym noted) (marked_own size own now pieces written count b (same_own b own pieces spare v is owned) l)
+  pub forgotten_seen : (size : ℕ) (own now : List T) (pieces gone : List (List T)) (written marks : List Bool) (count spare : ℕ) (b : Bool) (v : ListValue T) → seen b own pieces spare ≡ v → v.is_own ≡ true
+      → IsList size b own pieces written count → gone ≡ [] → marks ≡ [] → IsList size b now gone marks count
+  forgotten_seen size own now pieces gone written marks count spare b v is owned l empty none =
+      forgotten_own size own now pieces gone written marks count b (same_own b own pieces spare v is owned) l empty none
 
   -- of the pieces nothing changed
   pub noted_same : (size : ℕ) (items : List T) (pieces now : List (List T)) (written marks : List Bool) → IsNoted size items pieces written → now ≡ pieces → marks ≡ written → IsNoted size items now marks
   noted_same size items pieces now written marks n same alike =
       subst (λ (ps : List (List T)). IsNoted size items ps marks) (sym same) (subst (λ (ms : List Bool). IsNoted size items pieces ms) (sym alike) n)
 
-  pub noted_next : (size : ℕ) (items : List T) (pieces now : List (List T)) (written marks : List Bool) (i : ℕ) (made : List T) → IsNoted size items pieces written → i ≡ length pieces → made ≡ piece size items i
-      → now ≡ pieces ++ made ∷ [] → marks ≡ written ++ false ∷ [] → IsNoted size items now marks
-  noted_next size items pieces now written marks i made n place is longer noted =
-      noted_same size items (pieces ++ made ∷ []) now (written ++ false ∷ []) marks (noted_push size items pieces written i made n place is) longer noted
+  pub noted_next : (size : ℕ) (items : List T) (pieces now : List (List T)) (written marks : List Bool) (i : ℕ) (made : List T) → IsNoted size items pieces written → i ≡ length pieces → i * size < length items
+      → made ≡ piece size items i → now ≡ pieces ++ made ∷ [] → marks ≡ written ++ false ∷ [] → IsNoted size items now marks
+  noted_next size items pieces now written marks i made n place begins is longer noted =
+      noted_same size items (pieces ++ made ∷ []) now (written ++ false ∷ []) marks (noted_push size items pieces written i made n place begins is) longer noted
 
   pub fresh_next : (size : ℕ) (items : List T) (pieces now : List (List T)) (written marks : List Bool) (i : ℕ) (made : List T) → IsNoted size items pieces written → AreFresh i pieces written → i ≡ length pieces
       → now ≡ pieces ++ made ∷ [] → marks ≡ written ++ false ∷ [] → AreFresh (i + 1) now marks
@@ -438,28 +562,96 @@ module _ {T : Type 0} where
   pub kept_values : (b : Bool) (own : List T) (pieces shared : List (List T)) (spare : ℕ) (v : ListValue T) → seen b own pieces spare ≡ v → v.is_own ≡ false → shared ≡ pieces → joined_pieces shared ≡ v.items
   kept_values b own pieces shared spare v is kept same = ap joined_pieces same ∙ (kept_inside b own pieces spare v is kept).1
 
-  -- a kept list that was made of an own one, whose pieces are as its values stand
-  pub fresh_within : (n : ℕ) (pieces : List (List T)) (written : List Bool) → AreFresh n pieces written → n ≤ length pieces
-  fresh_within n pieces written f = f.within
-
+  -- a kept list that was made of an own one, whose pieces make up its values
   pub some_of : (size : ℕ) (own : List T) (pieces : List (List T)) (written : List Bool) (count : ℕ) (b : Bool) → IsList size b own pieces written count → 0 < size
   some_of size own pieces written count b l = l.some
 
-  pub kept_seen : (size : ℕ) (own now : List T) (was pieces shared : List (List T)) (marks written none : List Bool) (count n len : ℕ) (b : Bool) → IsList size b own was marks count → IsNoted size own pieces written → AreFresh n pieces written
-      → length own ≤ n * size → shared ≡ take n pieces → none ≡ [] → len ≡ length own → IsList size false now shared none len
-  kept_seen size own now was pieces shared marks written none count n len b l noted fresh enough same empty counted =
-      (kept_of size own now pieces written none n len shared l.some noted fresh enough same empty counted).1
+  pub kept_seen : (size : ℕ) (own now : List T) (pieces shared : List (List T)) (none : List Bool) (len : ℕ) → ArePieces size own pieces → shared ≡ pieces → none ≡ [] → len ≡ length own → IsList size false now shared none len
+  kept_seen size own now pieces shared none len are same empty counted = (kept_of size own now pieces shared none len are same empty counted).1
 
-  pub kept_same : (size : ℕ) (own : List T) (was pieces shared : List (List T)) (marks written : List Bool) (count spare n : ℕ) (b : Bool) (v : ListValue T) → seen b own was spare ≡ v → v.is_own ≡ true → IsList size b own was marks count
-      → IsNoted size own pieces written → AreFresh n pieces written → length own ≤ n * size → shared ≡ take n pieces → joined_pieces shared ≡ v.items
-  kept_same size own was pieces shared marks written count spare n b v is owned l noted fresh enough same =
-      (kept_of size own own pieces written [] n (length own) shared l.some noted fresh enough same refl refl).0 ∙ own_values b own was spare v is owned
+  pub kept_same : (size : ℕ) (own : List T) (was pieces shared : List (List T)) (spare : ℕ) (b : Bool) (v : ListValue T) → seen b own was spare ≡ v → v.is_own ≡ true → ArePieces size own pieces → shared ≡ pieces
+      → joined_pieces shared ≡ v.items
+  kept_same size own was pieces shared spare b v is owned are same = ap joined_pieces same ∙ joined_are size own pieces are ∙ own_values b own was spare v is owned
+
+  -- as many marks as pieces
+  many_marks : (size : ℕ) (own : List T) (pieces : List (List T)) (written marks : List Bool) (count n : ℕ) (b : Bool) → IsList size b own pieces written count → (b ≡ true → length marks ≡ length written) → (b ≡ false → length marks ≡ n)
+      → ((k : ℕ) → k < n → k * size < count) → count ≤ n * size → length marks ≡ length pieces
+  many_marks size own pieces written marks count n true l owned kept low enough = owned refl ∙ l.noted refl
+  many_marks size own pieces written marks count n false l owned kept low enough =
+      kept refl ∙ sym (as_many size count (length pieces) n (omega (arith, l.ended, l.counted refl)) (l.enough refl) low enough)
 
   -- an own list of the values that are seen, beside the same pieces
   pub owned_seen : (size : ℕ) (own now : List T) (pieces shared : List (List T)) (written marks : List Bool) (count spare : ℕ) (b : Bool) (v : ListValue T) → seen b own pieces spare ≡ v → IsList size b own pieces written count → now ≡ v.items
-      → shared ≡ pieces → length marks ≡ length pieces → ((k : ℕ) → get_or marks k false ≡ get_or written k false) → IsList size true now shared marks 0
-  owned_seen size own now pieces shared written marks count spare b v is l values same many alike =
-      owned_too size own now pieces shared written marks count b l (values ∙ sym (ap (λ (u : ListValue T). u.items) is)) same many alike
+      → shared ≡ pieces → (b ≡ true → length marks ≡ length written) → (n : ℕ) → (b ≡ false → length marks ≡ n) → ((k : ℕ) → k < n → k * size < count) → count ≤ n * size
+      → ((k : ℕ) → get_or marks k false ≡ get_or written k false) → IsList size true now shared marks 0
+  owned_seen size own now pieces shared written marks count spare b v is l values same owned n kept low enough alike =
+      owned_too size own now pieces shared written marks count b l (values ∙ sym (ap (λ (u : ListValue T). u.items) is)) same (many_marks size own pieces written marks count n b l owned kept low enough) alike
+
+-- pieces in blocks of so many
+module _ {T : Type 0} (size : ℕ) (blocks : List (List (List T))) (v : List (List T)) (are : AreBlocks size blocks) (is : joined_pieces blocks ≡ v) where
+  -- as the list of all pieces is seen
+  pub blocks_seen : ArePieces size v blocks
+  blocks_seen = subst (λ (ps : List (List T)). ArePieces size ps blocks) is are
+
+  pub block_low : (i : ℕ) → i < length v → i / size < length blocks
+  block_low i low = part_low size v blocks blocks_seen i low
+
+  -- a block that was read
+  block_read : (i : ℕ) → i < length v → (b p : List (List T)) → b ≡ get_or blocks (i / size) b → p ≡ b → p ≡ get_or blocks (i / size) []
+  block_read i low b p read same = same ∙ read ∙ get_or_default blocks (i / size) b [] (block_low i low)
+
+  pub block_long : (i : ℕ) → i < length v → (b p : List (List T)) → b ≡ get_or blocks (i / size) b → p ≡ b → i % size < length p
+  block_long i low b p read same =
+      subst (λ (q : List (List T)). i % size < length q) (sym (block_read i low b p read same ∙ blocks_seen.here (i / size) (block_low i low))) (piece_long size v i are.some low)
+
+  pub block_value : (i : ℕ) → i < length v → (b p : List (List T)) (x : List T) → b ≡ get_or blocks (i / size) b → p ≡ b → x ≡ get_or p (i % size) x → x ≡ get_or v i x
+  block_value i low b p x read same value =
+      value ∙ ap (λ (q : List (List T)). get_or q (i % size) x) (block_read i low b p read same ∙ blocks_seen.here (i / size) (block_low i low)) ∙ at_piece size v i x are.some
+
+  -- blocks that make up another list of pieces
+  pub blocks_now : (now : List (List T)) (new : List (List (List T))) → ArePieces size now new → (joined_pieces new ≡ now) × AreBlocks size new
+  blocks_now now new made = (joined_are size now new made, subst (λ (ps : List (List T)). ArePieces size ps new) (sym (joined_are size now new made)) made)
+
+  pub blocks_set : (i : ℕ) (x : List T) (b p made : List (List T)) (new : List (List (List T))) → i < length v → b ≡ get_or blocks (i / size) b → p ≡ b → made ≡ set p (i % size) x → new ≡ set blocks (i / size) made
+      → (joined_pieces new ≡ set v i x) × AreBlocks size new
+  blocks_set i x b p made new low read same is written =
+      blocks_now (set v i x) new (
+      subst (λ (bs : List (List (List T))). ArePieces size (set v i x) bs) (sym written)
+      (pieces_set size v blocks i x made blocks_seen low (is ∙ ap (λ (q : List (List T)). set q (i % size) x) (block_read i low b p read same)))
+      )
+
+  -- how many pieces the last block has
+  pub last_long : (n : ℕ) (b p : List (List T)) → length blocks ≡ n + 1 → b ≡ get_or blocks n b → p ≡ b → length p ≡ min size (length v - n * size)
+  last_long n b p last read same =
+      ap (λ (q : List (List T)). length q) (same ∙ read ∙ get_or_default blocks n b [] (omega (arith, last)) ∙ blocks_seen.here n (omega (arith, last))) ∙ length-take size (drop (n * size) v)
+      ∙ ap (min size) (length-drop (n * size) v)
+
+  pub blocks_more : (n : ℕ) (x : List T) (b p made : List (List T)) (new : List (List (List T))) → length blocks ≡ n + 1 → length v < length blocks * size → b ≡ get_or blocks n b → p ≡ b → made ≡ p ++ x ∷ [] → new ≡ set blocks n made
+      → (joined_pieces new ≡ v ++ x ∷ []) × AreBlocks size new
+  blocks_more n x b p made new last room read same is written =
+      let here : made ≡ get_or blocks n [] ++ x ∷ [] = is ∙ ap (λ (q : List (List T)). q ++ x ∷ []) (same ∙ read ∙ get_or_default blocks n b [] (omega (arith, last))) in
+      blocks_now (v ++ x ∷ []) new (subst (λ (bs : List (List (List T))). ArePieces size (v ++ x ∷ []) bs) (sym written) (pieces_more size v blocks n x made blocks_seen last room here))
+
+  pub blocks_next : (x : List T) (made ps none : List (List T)) (new : List (List (List T))) → length v ≡ length blocks * size → made ≡ ps → ps ≡ none ++ x ∷ [] → none ≡ [] → new ≡ blocks ++ made ∷ []
+      → (joined_pieces new ≡ v ++ x ∷ []) × AreBlocks size new
+  blocks_next x made ps none new full is filled empty longer =
+      let alone : made ≡ x ∷ [] = is ∙ filled ∙ ap (λ (qs : List (List T)). qs ++ x ∷ []) empty in
+      blocks_now (v ++ x ∷ []) new (
+      subst (λ (bs : List (List (List T))). ArePieces size (v ++ x ∷ []) bs) (sym (longer ∙ ap (λ (q : List (List T)). blocks ++ q ∷ []) alone)) (pieces_next size v blocks x blocks_seen full)
+      )
+
+-- so many pieces are in blocks of 16, of which the last one is full, or is not
+pub full_blocks : (n rows : ℕ) → n ≤ rows * 16 → rows * 16 < n + 16 → n % 16 ≡ 0 → n ≡ rows * 16
+full_blocks n rows enough ended full = omega (arith, enough, ended, full)
+
+pub last_full : (n rows last len : ℕ) → n ≤ rows * 16 → rows * 16 < n + 16 → rows ≡ last + 1 → len ≡ min 16 (n - last * 16) → 16 ≤ len → n % 16 ≡ 0
+last_full n rows last len enough ended many is full = omega (arith, enough, ended, many, is, full)
+
+pub last_not_full : (n rows last len : ℕ) → n ≤ rows * 16 → rows * 16 < n + 16 → rows ≡ last + 1 → len ≡ min 16 (n - last * 16) → len < 16 → 0 < n % 16
+last_not_full n rows last len enough ended many is few = omega (arith, enough, ended, many, is, few)
+
+pub some_room : (n rows : ℕ) → n ≤ rows * 16 → 0 < n % 16 → (rows ≡ (rows - 1) + 1) × (n < rows * 16)
+some_room n rows enough some = (omega (arith, enough, some), omega (arith, enough, some))
 
 -- so many pieces begin within the list
 pub pieces_low : (count size n : ℕ) → n ≡ count / size + min 1 (count % size) → 0 < size → (k : ℕ) → k < n → k * size < count

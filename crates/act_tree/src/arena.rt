@@ -37,7 +37,7 @@ pub struct Slot {
 }
 
 /// The provisions of an arena. Pieces are small, since a provision takes more bytes than a number.
-pub type Slots = KeptList<Slot, 16>;
+pub type Slots = KeptList<Slot, 8>;
 
 /// The provisions of a tree, and the indexes of their wIds and of their levels.
 #[derive(Debug, Drop)]

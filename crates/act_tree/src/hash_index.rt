@@ -13,7 +13,7 @@ use std::alloc::{AllocError, Global};
 use std::marker::Model;
 
 /// Numbers in a list whose pieces can be shared.
-pub type Words = KeptList<u32, 128>;
+pub type Words = KeptList<u32, 32>;
 
 /// Which numbers have which hash, in chains by bucket.
 #[derive(Debug, Drop)]

@@ -1,15 +1,16 @@
 //! Kept lists: an own list lies in one piece and is written to; a kept one lies in pieces of so many values, which other
-//! lists share. What is kept of an own list is made of pieces that were made before wherever nothing was written since, so
-//! that each time only what was written takes memory. A clause sees the values, whether the list is own, and for how many
-//! more values there is room.
+//! lists share, and the pieces in blocks that are shared, too. What is kept of an own list is made of pieces that were made
+//! before wherever nothing was written since, so that each time only what was written takes memory, and a count for each
+//! block. A clause sees the values, whether the list is own, and for how many more values there is room.
 
 ghost use Rattle.std.specs.Prelude.{◌≡◌, ℕ, ◌+◌, ◌-◌, ◌*◌, ◌<◌, ◌≤◌, [], ◌∷◌, ◌++◌, true, false, length, get_or, replicate, slice_index_or, slice_set, IfOk, OnOk, OnErr};
 ghost use Rattle.std.specs.Borrow.{sem};
 ghost use Rattle.std.specs.Slice.{IsItemAt};
-ghost use Rattle.act_tree.specs.KeptLists.{piece, IsNoted, AreFresh};
+ghost use Rattle.act_tree.specs.KeptLists.{piece, IsNoted, AreFresh, ArePieces};
 
 use crate::copied::Copied;
 use crate::piece::Piece;
+use crate::piece_list::PieceList;
 use desk_base::Memory;
 use std::alloc::{AllocError, Global};
 use std::marker::Model;
@@ -21,7 +22,7 @@ pub struct KeptList<T, const SIZE: usize> {
     // The values of an own list; a kept one has none here.
     own: Vec<T>,
     // The pieces of a kept list; of an own one those that were made when it was kept last.
-    pieces: Vec<Piece<T>>,
+    pieces: PieceList<T>,
     // Of each piece of an own list, whether one of its values was written since it was made.
     written: Vec<bool>,
     // How many values a kept list has.
@@ -38,12 +39,12 @@ impl<T, const SIZE: usize> Model for KeptList<T, SIZE> {
     ghost coded = { list_code T.code };
 
     ghost view = { λ a. record {
-      items = values_in a.is_own a.own.items a.pieces.items;
+      items = values_in a.is_own a.own.items a.pieces;
       is_own = a.is_own;
       room = room_in a.is_own (vec_capacity a.own - vec_len a.own);
     } };
 
-    ghost invariant = { λ a. IsList SIZE a.is_own a.own.items a.pieces.items a.written.items a.count };
+    ghost invariant = { λ a. IsList SIZE a.is_own a.own.items a.pieces a.written.items a.count };
 }
 
 // Notes that a value of a piece was written.
@@ -53,13 +54,6 @@ fn note(written: &mut Vec<bool>, piece: usize)
     if piece < written.len() {
         written[piece] = true;
     }
-}
-
-// Notes that values of all pieces were written.
-fn mark_all(written: &mut Vec<bool>)
-    ensures { written.new.items ≡ replicate (length written.old.items) true }
-{
-    written.fill(true);
 }
 
 // How many pieces so many values make.
@@ -96,19 +90,19 @@ fn remake<T: Copied>(
     alloc: Global,
     items: &[T],
     size: usize,
-    pieces: &mut Vec<Piece<T>>,
+    pieces: &mut PieceList<T>,
     written: &mut Vec<bool>,
     place: usize,
 ) -> Result<(), Memory>
     requires within { place * size < length items.now }
-    requires there { place < length pieces.old.items }
-    requires noted { IsNoted size items.now pieces.old.items written.old.items }
-    requires fresh { AreFresh place pieces.old.items written.old.items }
-    ensures noted { IsNoted size items.now pieces.new.items written.new.items }
-    ensures fresh { OnOk result (AreFresh (place + 1) pieces.new.items written.new.items) }
+    requires there { place < length pieces.old }
+    requires noted { IsNoted size items.now pieces.old written.old.items }
+    requires fresh { AreFresh place pieces.old written.old.items }
+    ensures noted { IsNoted size items.now pieces.new written.new.items }
+    ensures fresh { OnOk result (AreFresh (place + 1) pieces.new written.new.items) }
 {
     let made = piece_of(alloc, items, size, place)?;
-    pieces[place] = made;
+    pieces.set(alloc, place, made)?;
     written[place] = false;
     Ok(())
 }
@@ -119,21 +113,20 @@ fn make_next<T: Copied>(
     alloc: Global,
     items: &[T],
     size: usize,
-    pieces: &mut Vec<Piece<T>>,
+    pieces: &mut PieceList<T>,
     written: &mut Vec<bool>,
     place: usize,
 ) -> Result<(), Memory>
     requires within { place * size < length items.now }
-    requires next { place ≡ length pieces.old.items }
-    requires noted { IsNoted size items.now pieces.old.items written.old.items }
-    requires fresh { AreFresh place pieces.old.items written.old.items }
-    ensures noted { IsNoted size items.now pieces.new.items written.new.items }
-    ensures fresh { OnOk result (AreFresh (place + 1) pieces.new.items written.new.items) }
+    requires next { place ≡ length pieces.old }
+    requires noted { IsNoted size items.now pieces.old written.old.items }
+    requires fresh { AreFresh place pieces.old written.old.items }
+    ensures noted { IsNoted size items.now pieces.new written.new.items }
+    ensures fresh { OnOk result (AreFresh (place + 1) pieces.new written.new.items) }
 {
     let made = piece_of(alloc, items, size, place)?;
-    pieces.reserve(1)?;
     written.reserve(1)?;
-    pieces.push_reserved(made);
+    pieces.push(alloc, made)?;
     written.push_reserved(false);
     Ok(())
 }
@@ -144,17 +137,17 @@ fn renew_one<T: Copied>(
     alloc: Global,
     items: &[T],
     size: usize,
-    pieces: &mut Vec<Piece<T>>,
+    pieces: &mut PieceList<T>,
     written: &mut Vec<bool>,
     place: usize,
 ) -> Result<(), Memory>
     requires within { place * size < length items.now }
-    requires noted { IsNoted size items.now pieces.old.items written.old.items }
-    requires fresh { AreFresh place pieces.old.items written.old.items }
-    ensures noted { IsNoted size items.now pieces.new.items written.new.items }
-    ensures fresh { OnOk result (AreFresh (place + 1) pieces.new.items written.new.items) }
+    requires noted { IsNoted size items.now pieces.old written.old.items }
+    requires fresh { AreFresh place pieces.old written.old.items }
+    ensures noted { IsNoted size items.now pieces.new written.new.items }
+    ensures fresh { OnOk result (AreFresh (place + 1) pieces.new written.new.items) }
 {
-    if place >= pieces.len() {
+    if place >= written.len() {
         return make_next(alloc, items, size, pieces, written, place);
     }
     if written[place] {
@@ -164,25 +157,24 @@ fn renew_one<T: Copied>(
 }
 
 // Makes the pieces anew that are not there yet, and those of which something was written.
-#[tactic(auto, using(crate::proofs::Pieces::fresh_none))]
+#[tactic(auto, using(crate::proofs::Pieces::fresh_none, crate::proofs::Pieces::all_fresh))]
 fn renew<T: Copied>(
     alloc: Global,
     items: &[T],
     size: usize,
-    pieces: &mut Vec<Piece<T>>,
+    pieces: &mut PieceList<T>,
     written: &mut Vec<bool>,
-) -> Result<usize, Memory>
+) -> Result<(), Memory>
     requires some { 0 < size }
-    requires noted { IsNoted size items.now pieces.old.items written.old.items }
-    ensures noted { IsNoted size items.now pieces.new.items written.new.items }
-    ensures fresh { IfOk result (λ n. AreFresh n pieces.new.items written.new.items) }
-    ensures enough { IfOk result (λ n. length items.now ≤ n * size) }
+    requires noted { IsNoted size items.now pieces.old written.old.items }
+    ensures noted { IsNoted size items.now pieces.new written.new.items }
+    ensures fresh { OnOk result (ArePieces size items.now pieces.new) }
 {
     let count = pieces_for(items.len(), size);
     for place in 0..count {
         renew_one(alloc, items, size, pieces, written, place)?;
     }
-    Ok(count)
+    Ok(())
 }
 
 // The marks of an own list that is made of another one: those that it has, and of a kept one none for each piece.
@@ -193,9 +185,9 @@ fn marks_of(
     written: &[bool],
     count: usize,
 ) -> Result<Vec<bool>, Memory>
-    requires noted { is_own ≡ true → length written.now ≡ count }
-    requires unwritten { is_own ≡ false → written.now ≡ [] }
-    ensures many { IfOk result (λ marks. length marks.items ≡ count) }
+    requires { is_own ≡ false → written.now ≡ [] }
+    ensures own { IfOk result (λ marks. is_own ≡ true → length marks.items ≡ length written.now) }
+    ensures kept { IfOk result (λ marks. is_own ≡ false → length marks.items ≡ count) }
     ensures alike { IfOk result (λ marks. (k : ℕ) → get_or marks.items k false ≡ get_or written.now k false) }
 {
     if is_own {
@@ -204,19 +196,8 @@ fn marks_of(
     Ok(Vec::from_elem(alloc, false, count)?)
 }
 
-// The same pieces, shared.
-fn share<T: Copied>(alloc: Global, pieces: &[Piece<T>]) -> Result<Vec<Piece<T>>, Memory>
-    ensures { IfOk result (λ v. v.items ≡ pieces.now) }
-{
-    let mut shared = Vec::with_capacity(alloc, pieces.len())?;
-    for piece in pieces {
-        shared.push(piece.copy()?)?;
-    }
-    Ok(shared)
-}
-
 impl<T, const SIZE: usize> KeptList<T, SIZE> {
-    ghost use Rattle.act_tree.specs.LendsItem.{lends_value, lends_all};
+    ghost use Rattle.act_tree.specs.LendsItem.{lends_value};
 
     /// No values, own. It takes no memory.
     pub fn new(alloc: Global) -> Self
@@ -226,7 +207,7 @@ impl<T, const SIZE: usize> KeptList<T, SIZE> {
     {
         KeptList {
             own: Vec::new(alloc),
-            pieces: Vec::new(alloc),
+            pieces: PieceList::new(alloc),
             written: Vec::new(alloc),
             count: 0,
             is_own: true,
@@ -295,17 +276,6 @@ impl<T, const SIZE: usize> KeptList<T, SIZE> {
         self.own.as_slice()
     }
 
-    /// The values of an own list, for writing. Then nothing is shared of it but what was shared before.
-    #[tactic(auto, using(crate::proofs::Pieces::own_values, crate::proofs::Pieces::marked_seen))]
-    pub fn as_own_mut(&mut self) -> &mut [T]
-        requires { self.old.is_own ≡ true }
-        ensures* writes_back { sem 𝓛 (lends_all T.row SIZE.row self.entry result) }
-        ensures value { result.now ≡ self.old.items }
-    {
-        mark_all(&mut self.written);
-        self.own.as_mut_slice()
-    }
-
     /// The value at a place of an own list, for writing.
     #[tactic(auto, using(crate::proofs::Pieces::own_values, crate::proofs::Pieces::own_within))]
     pub fn at_mut(&mut self, place: usize) -> &mut T
@@ -320,6 +290,20 @@ impl<T, const SIZE: usize> KeptList<T, SIZE> {
 }
 
 impl<T: Drop, const SIZE: usize> KeptList<T, SIZE> {
+    ghost use Rattle.act_tree.specs.LendsItem.{lends_all};
+
+    /// The values of an own list, for writing. Then nothing is shared of it but what was shared before.
+    #[tactic(auto, using(crate::proofs::Pieces::own_values, crate::proofs::Pieces::forgotten_seen))]
+    pub fn as_own_mut(&mut self) -> &mut [T]
+        requires { self.old.is_own ≡ true }
+        ensures* writes_back { sem 𝓛 (lends_all T.row SIZE.row self.entry result) }
+        ensures value { result.now ≡ self.old.items }
+    {
+        self.pieces.clear();
+        self.written.clear();
+        self.own.as_mut_slice()
+    }
+
     /// Adds a value behind the others. It takes no memory.
     #[tactic(auto, using(crate::proofs::Pieces::own_values, crate::proofs::Pieces::own_room))]
     pub fn push_reserved(&mut self, value: T)
@@ -342,7 +326,7 @@ impl<T: Copied, const SIZE: usize> KeptList<T, SIZE> {
         ensures items { IfOk result (λ l. l.items ≡ self.now.items) }
         ensures kept { IfOk result (λ l. l.is_own ≡ false) }
     {
-        let pieces = share(alloc, &self.pieces)?;
+        let pieces = self.pieces.share(alloc)?;
         Ok(KeptList {
             own: Vec::new(alloc),
             pieces,
@@ -353,15 +337,15 @@ impl<T: Copied, const SIZE: usize> KeptList<T, SIZE> {
     }
 
     // The same values, kept, of an own list.
-    #[tactic(auto, using(crate::proofs::Pieces::noted_seen, crate::proofs::Pieces::some_of, crate::proofs::Pieces::own_again, crate::proofs::Pieces::seen_again, crate::proofs::Pieces::fresh_within))]
+    #[tactic(auto, using(crate::proofs::Pieces::noted_seen, crate::proofs::Pieces::some_of, crate::proofs::Pieces::own_again, crate::proofs::Pieces::seen_again))]
     fn keep_own(&mut self, alloc: Global) -> Result<Self, Memory>
         requires { self.old.is_own ≡ true }
         ensures same { self.new ≡ self.old }
         ensures items { IfOk result (λ l. l.items ≡ self.old.items) }
         ensures kept { IfOk result (λ l. l.is_own ≡ false) }
     {
-        let count = renew(alloc, &self.own, SIZE, &mut self.pieces, &mut self.written)?;
-        let pieces = share(alloc, &self.pieces[..count])?;
+        renew(alloc, &self.own, SIZE, &mut self.pieces, &mut self.written)?;
+        let pieces = self.pieces.share(alloc)?;
         Ok(KeptList {
             own: Vec::new(alloc),
             pieces,
@@ -392,8 +376,9 @@ impl<T: Copied, const SIZE: usize> KeptList<T, SIZE> {
         ensures own { IfOk result (λ l. l.is_own ≡ true) }
     {
         let own = self.values(alloc)?;
-        let written = marks_of(alloc, self.is_own, &self.written, self.pieces.len())?;
-        let pieces = share(alloc, &self.pieces)?;
+        let count = pieces_for(self.count, SIZE);
+        let written = marks_of(alloc, self.is_own, &self.written, count)?;
+        let pieces = self.pieces.share(alloc)?;
         Ok(KeptList {
             own,
             pieces,
@@ -418,7 +403,7 @@ impl<T: Copied, const SIZE: usize> KeptList<T, SIZE> {
 impl<T: Clone, const SIZE: usize> KeptList<T, SIZE> {
     /// Makes an own list as long as that, with this value behind the others. `Err`: there was not enough memory, and nothing
     /// has changed.
-    #[tactic(auto, using(crate::proofs::Pieces::own_values, crate::proofs::Pieces::marked_seen))]
+    #[tactic(auto, using(crate::proofs::Pieces::own_values, crate::proofs::Pieces::forgotten_seen))]
     pub fn resize(&mut self, count: usize, value: T) -> Result<(), AllocError>
         requires own { self.old.is_own ≡ true }
         requires longer { length self.old.items ≤ count }
@@ -426,7 +411,8 @@ impl<T: Clone, const SIZE: usize> KeptList<T, SIZE> {
         ensures ok { OnOk result (length self.new.items ≡ count) }
         ensures err { OnErr result (self.new.items ≡ self.old.items) }
     {
-        mark_all(&mut self.written);
+        self.pieces.clear();
+        self.written.clear();
         self.own.resize(count, value)
     }
 }

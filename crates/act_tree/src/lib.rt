@@ -25,6 +25,7 @@ mod node_spec;
 mod numbers;
 mod parting;
 mod piece;
+mod piece_list;
 mod refs;
 mod relisting;
 mod restating;

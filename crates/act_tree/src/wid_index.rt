@@ -16,7 +16,7 @@ use std::marker::Model;
 #[derive(Debug, Drop)]
 pub struct WidIndex {
     // The wIds, which are shared.
-    wids: KeptList<Text, 32>,
+    wids: KeptList<Text, 16>,
     // The numbers by the hashes of their wIds.
     chains: HashIndex,
 }

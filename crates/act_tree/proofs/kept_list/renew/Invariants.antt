@@ -4,6 +4,6 @@ use Rattle.act_tree.proofs.kept_list.renew.Given as goal
 
 abbrev pub invariant-loop-place : goal.invariant-loop-place
 invariant-loop-place g l = record {
-  noted : IsNoted l.size l.items l.pieces.items l.written.items;
-  fresh : AreFresh l.place l.pieces.items l.written.items;
+  noted : IsNoted l.size l.items l.pieces l.written.items;
+  fresh : AreFresh l.place l.pieces l.written.items;
 }
