@@ -4,6 +4,7 @@
 mod answering;
 mod breakpoints;
 mod counted;
+mod eids;
 mod from_enacted;
 mod on_day;
 mod order;

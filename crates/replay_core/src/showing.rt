@@ -12,8 +12,9 @@ ghost use Rattle.law_register.specs.Answer.Flags as flags;
 ghost use Rattle.law_register.specs.Answer.Flags.{flag_below};
 ghost use Rattle.law_register.specs.Answer.ShownNodes.{shown_view};
 
+use crate::eids::eid_by_wid;
 use crate::on_day::OnDay;
-use act_tree::{NodeId, Tree, eid_below};
+use act_tree::{NodeId, Tree};
 use desk_base::{Memory, Text};
 use law_register::{AnswerNode, AnswerNodes};
 use std::alloc::Global;
@@ -53,12 +54,13 @@ fn eid_of(alloc: Global, tree: &Tree, above: Option<&str>, id: NodeId) -> Result
         (provision_at tree.now id).own.element (provision_at tree.now id).own.num) }
 {
     let provision = tree.provision(id);
-    eid_below(
+    eid_by_wid(
         alloc,
         tree.numbering(),
         above,
         provision.element,
         provision.num,
+        provision.wid,
     )
 }
 
