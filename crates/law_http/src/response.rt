@@ -13,6 +13,9 @@ use std::alloc::Global;
 /// Room for a head and a short body, which are laid out piece by piece.
 pub(crate) const ROOM: usize = 256;
 
+// A body up to so many bytes is copied behind its head. To turn a longer one in its own memory clears so much of the stack.
+const SHORT_BODY: usize = 65_536;
+
 // The fixed responses, which take no memory.
 const MEMORY_FAULT: &[u8] = b"HTTP/1.1 500 Internal Server Error\r\nConnection: close\r\n\
     Content-Length: 18\r\nContent-Type: application/json\r\n\r\n{\"fault\":\"memory\"}";
@@ -93,7 +96,7 @@ fn laid_out(
     ensures { IfOk result (λ message. message
         ≡ spec.reply_bytes (spec.reply status allow closes body.now)) }
 {
-    let mut message = Vec::with_capacity(alloc, ROOM)?;
+    let mut message = Vec::with_capacity(alloc, body.len().saturating_add(ROOM))?;
     put_first_lines(&mut message, status, allow, closes)?;
     put_body_lines(&mut message, body.len())?;
     message.extend_from_slice(body)?;
@@ -114,6 +117,9 @@ fn laid_around(alloc: Global, status: Status, closes: bool, body: Vec<u8>) -> Re
     ensures { IfOk result (λ message. message
         ≡ spec.reply_bytes (spec.reply status None closes body.items)) }
 {
+    if body.len() <= SHORT_BODY {
+        return laid_out(alloc, status, None, closes, body.as_slice());
+    }
     let mut head = Vec::with_capacity(alloc, ROOM)?;
     put_first_lines(&mut head, status, None, closes)?;
     put_body_lines(&mut head, body.len())?;
@@ -156,7 +162,7 @@ impl Response {
         }
     }
 
-    /// The same with a body that is given away, as a long one is: it is laid out in the memory that the body has.
+    /// The same with a body that is given away: a long one is laid out in the memory that it has.
     pub fn around(alloc: Global, status: Status, closes: bool, body: Vec<u8>) -> Response
         ensures { spec.Says (spec.reply status None closes body.items) result }
     {
