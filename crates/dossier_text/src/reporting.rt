@@ -1,6 +1,6 @@
 //! Reporting: what the program tells of its input, as a status and bytes.
 
-ghost use Rattle.std.specs.Prelude.{◌≡◌, ◌++◌, ◌∷◌, [], true, IfOk, Result};
+ghost use Rattle.std.specs.Prelude.{◌≡◌, ◌++◌, ◌∷◌, [], true, IfOk, Ok, Result};
 ghost use Rattle.law_register.specs.Law.Spelling.{are_spelled_modifications, is_spelled_act};
 ghost use Rattle.law_register.specs.Answer.Answers.{Answers};
 ghost use Rattle.law_register.specs.Answer.Asking.{answer_at};
@@ -20,8 +20,18 @@ use akn_json::{
 use desk_base::{Day, Memory, Steps};
 use law_register::{Answer, AskFault, EnterFault, Question, Reading, Register, Replayer, Rule};
 use std::alloc::Global;
+use std::mem::forget;
 use std::sync::ledger::Ledger;
 use viewpoints::answer_replayed;
+
+// The report of an answer, whose memory is left to the end of the program.
+fn report_text(alloc: Global, answer: Answer) -> Result<Report, Memory>
+    ensures { IfOk result (λ report. report_view report ≡ told_answer (Ok answer)) }
+{
+    let bytes = line(put_answer(alloc, &answer)?)?;
+    forget(answer);
+    Ok(Report { status: 0, bytes })
+}
 
 // The report of an answer, or of the rule that a question breaks.
 fn report_answer(alloc: Global, told: Result<Answer, AskFault>) -> Result<Report, Memory>
@@ -29,10 +39,7 @@ fn report_answer(alloc: Global, told: Result<Answer, AskFault>) -> Result<Report
         → IfOk result (λ report. report_view report ≡ told_answer answer) }
 {
     match told {
-        Ok(answer) => Ok(Report {
-            status: 0,
-            bytes: line(put_answer(alloc, &answer)?)?,
-        }),
+        Ok(answer) => report_text(alloc, answer),
         Err(AskFault::Query(rule)) => Ok(Report {
             status: 9,
             bytes: line(put_query_rule(alloc, &rule)?)?,
@@ -41,7 +48,7 @@ fn report_answer(alloc: Global, told: Result<Answer, AskFault>) -> Result<Report
     }
 }
 
-// The report of what a register answers to a question.
+// The report of what a register answers to a question. The register's memory is left to the end of the program.
 fn report_asked<L: Ledger, P: Replayer>(
     alloc: Global,
     replayer: &P,
@@ -52,6 +59,7 @@ fn report_asked<L: Ledger, P: Replayer>(
     ensures { IfOk result (λ report. report_view report ≡ told_answer (answer_at register.entries question)) }
 {
     let told = answer_replayed(alloc, replayer, &register, &question, steps);
+    forget(register);
     report_answer(alloc, told)
 }
 

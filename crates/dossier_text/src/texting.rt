@@ -43,7 +43,8 @@ fn tell_text<S: Source, W: Sink, L: Ledger>(
     }
 }
 
-/// Reads a dossier, writes the text of its act on a day, and gives the status to end with.
+/// Reads a dossier, writes the text of its act on a day, and gives the status to end with. The register and the answer that it made
+/// are left to the end of the program.
 pub fn text<S: Source, W: Sink, L: Ledger>(
     alloc: Global,
     job: TextJob,
