@@ -1,5 +1,5 @@
 -- What is found in a line by an IRI.
-use Rattle.std.proofs.Common.{◌≡◌, refl, ℕ, Bool, true, false, cond, List, [], ◌∷◌, map, Option, Some, None, option_map}
+use Rattle.std.proofs.Common.{◌≡◌, ap, refl, ℕ, Bool, true, false, cond, List, [], ◌∷◌, map, Option, Some, None, option_map}
 use Rattle.std.specs.List.{find}
 use Rattle.std.specs.Str.{bytes_eq}
 use Rattle.law_register.specs.declared.register.known.Known.{Known}
@@ -18,3 +18,8 @@ known_found {T = T} known work (one ∷ works) = by (bytes_eq (known one).act.wo
         → option_map known (cond b (Some one) (find (λ (x : T). bytes_eq (known x).act.work work) works)) ≡ cond b (Some (known one)) (work_in work (map known works))
     by true rest = refl
     by false rest = rest
+
+-- works of a line that stand for themselves
+pub same_works : (works : List Known) → map (λ (known : Known). known) works ≡ works
+same_works [] = refl
+same_works (known ∷ works) = ap (λ (others : List Known). known ∷ others) (same_works works)

@@ -1,4 +1,16 @@
 pub mod Alongside
+pub mod Costed
+pub mod Depended
+pub mod Flagged
 pub mod FoundWorks
+pub mod LastMade
+pub mod LinesTold
+pub mod MadeAll
+pub mod MadeRight
+pub mod NeededAhead
 pub mod Placed
 pub mod Sounded
+pub mod SourcesHeld
+pub mod Spent
+pub mod Until
+pub mod Walked

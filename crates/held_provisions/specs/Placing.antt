@@ -5,7 +5,8 @@ use Rattle.law_register.specs.declared.law.command.Command.{Command}
 use Rattle.law_register.specs.declared.law.command.Command.TheVariants.{Correct, DraftAdd, DraftDrop, Enact, File, Record, Restore, Withdraw}
 use Rattle.law_register.specs.declared.register.entry.Entry.{Entry}
 use Rattle.law_register.specs.declared.register.known.Known.{Known}
-use Rattle.source_provisions.specs.Line.{line_cmp}
+use Rattle.law_register.specs.Answer.Previews.{known_by_law}
+use Rattle.source_provisions.specs.Line.{line_cmp, with_work}
 
 -- the index before which a work is put that is not before the first of these, whose index this is; none, where one ties with it
 abbrev pub place_from : ℕ → Known → List Known → Option ℕ
@@ -33,3 +34,8 @@ with_own (Some work) works = work ∷ works
 abbrev pub works_of : List Entry → List (List ℕ)
 works_of [] = []
 works_of (e ∷ es) = with_own (enacted_work e.command) (works_of es)
+
+-- a work takes its place in a line, as a law makes it known, where there is one
+abbrev pub with_enacted : List Command → Option (List ℕ) → List Known → List Known
+with_enacted law None works = works
+with_enacted law (Some work) works = with_work works (known_by_law law work)

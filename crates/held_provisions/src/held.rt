@@ -2,7 +2,7 @@
 
 use desk_base::{Period, Text};
 use frbr_names::WorkName;
-use law_register::{Reading, Series};
+use law_register::{Days, Reading, Series};
 
 /// Periods in order.
 pub type Spans = Series<Period>;
@@ -22,3 +22,12 @@ pub struct HeldMember {
 
 /// What is held of provisions, in both readings.
 pub type HeldList = Series<HeldMember>;
+
+/// What is held of all provisions that a work looks at.
+#[derive(Debug, Drop)]
+pub struct Holding {
+    /// What is held of each.
+    pub held: HeldList,
+    /// The days on which the texts of their works may change.
+    pub days: Days,
+}

@@ -1,16 +1,20 @@
 //! Lines: what a register makes known of each work that it enacts, the act of the latest day first.
 
-ghost use Rattle.std.specs.Prelude.{◌≡◌, ◌<◌, ◌+◌, ◌++◌, ◌∷◌, [], IfOk, OnOk, drop, is_some, length, option_map, true};
+ghost use Rattle.std.specs.Prelude.{◌≡◌, ◌<◌, ◌≤◌, ◌+◌, ◌++◌, ◌∷◌, [], IfOk, OnOk, drop, is_some, length, option_map, take, true};
 ghost use Rattle.std.specs.BTreeSet.{insert_key};
+ghost use Rattle.std.specs.List.{AllByRecursion};
 ghost use Rattle.law_register.specs.Answer.Previews.{known_by_law};
-ghost use Rattle.law_register.specs.Register.KnownNext.{known_now};
+ghost use Rattle.law_register.specs.Answer.Soundness.{IsSound};
+ghost use Rattle.law_register.specs.Register.KnownNext.{known_now, up_to};
 ghost use Rattle.law_register.specs.Register.LawList.{laws};
+ghost use Rattle.law_register.specs.Register.Marks.{law_count};
 ghost use Rattle.law_register.specs.Register.Verdicts.{is_accepted, verdict};
-ghost use Rattle.held_provisions.specs.Placing.{enacted_work, place_from, works_of};
+ghost use Rattle.held_provisions.specs.Placing.{enacted_work, place_from, with_enacted, works_of};
 ghost use Rattle.source_provisions.specs.Line.{line, line_cmp, line_of, with_work};
 
 use desk_base::Memory;
 use frbr_names::WorkName;
+use law_register::laws::entries_are_legal;
 use law_register::{Command, Entry, Known, Register, known_after, known_at, known_enacted};
 use std::alloc::Global;
 use std::cmp::Ordering;
@@ -99,6 +103,110 @@ pub fn line_of_register(alloc: Global, register: &Register) -> Result<Vec<Known>
         put_enacted(alloc, register, &mut works, index)?;
     }
     Ok(works)
+}
+
+// How many law entries a command is.
+fn law_count(command: &Command) -> u32
+    ensures { result ≡ law_count command.now }
+{
+    match command {
+        Command::DraftAdd { .. } | Command::DraftDrop { .. } => 0,
+        _ => 1,
+    }
+}
+
+// How many entries make the law that a viewpoint knows.
+fn entries_until(register: &Register, viewpoint: u32) -> usize
+    ensures within { result ≤ length register.now.entries }
+    ensures law { laws (take result register.now.entries) ≡ take viewpoint (laws register.now.entries) }
+{
+    let mut known = 0;
+    for index in 0..register.len() {
+        if known == viewpoint {
+            return index;
+        }
+        known += law_count(&register.entry(index).command);
+    }
+    register.len()
+}
+
+// What is known of a work, where there are so many law entries and all are known.
+fn until(known: Known, number: u32) -> Known
+    ensures { result ≡ up_to number known }
+{
+    Known {
+        act: known.act,
+        enacted: known.enacted,
+        viewpoint: number,
+        front: number,
+        mods: known.mods,
+    }
+}
+
+// How many law entries a viewpoint knows.
+fn number_within(register: &Register, viewpoint: u32) -> u32
+    ensures { result ≡ length (take viewpoint (laws register.now.entries)) }
+{
+    let front = register.front();
+    if viewpoint < front { viewpoint } else { front }
+}
+
+// What the law that a viewpoint knows makes known of a work.
+fn known_within(
+    alloc: Global,
+    register: &Register,
+    work: &WorkName,
+    viewpoint: u32,
+) -> Result<Option<Known>, Memory>
+    ensures { IfOk result (λ known. known ≡ known_by_law (take viewpoint (laws register.now.entries)) work.now) }
+{
+    let number = number_within(register, viewpoint);
+    match known_at(alloc, register, work, viewpoint)? {
+        Some(known) => Ok(Some(until(known, number))),
+        None => Ok(None),
+    }
+}
+
+// Puts the work that a command enacts in its place, as it is known at a viewpoint.
+fn put_within(
+    alloc: Global,
+    register: &Register,
+    viewpoint: u32,
+    command: &Command,
+    works: &mut Vec<Known>,
+) -> Result<(), Memory>
+    ensures { OnOk result (works.new.items ≡ with_enacted (take viewpoint (laws register.now.entries))
+        (enacted_work command.now) works.old.items) }
+{
+    match enacted_work(command) {
+        Some(work) => {
+            let known = known_within(alloc, register, work, viewpoint)?;
+            put_known(works, known)
+        }
+        None => Ok(()),
+    }
+}
+
+#[tactic(auto, unfolding(source_provisions::specs::Line::line))]
+fn line_until(alloc: Global, register: &Register, viewpoint: u32) -> Result<Vec<Known>, Memory>
+    ensures { IfOk result (λ works. works.items ≡ line (take viewpoint (laws register.now.entries))) }
+{
+    let mut works = Vec::new(alloc);
+    let count = entries_until(register, viewpoint);
+    for index in (0..count).rev() {
+        let command = &register.entry(index).command;
+        put_within(alloc, register, viewpoint, command, &mut works)?;
+    }
+    Ok(works)
+}
+
+/// The line of a register at a viewpoint: what the law entries up to it make known of each work that one of them enacts.
+pub fn line_at(alloc: Global, register: &Register, viewpoint: u32) -> Result<Vec<Known>, Memory>
+    ensures works { IfOk result (λ works. works.items ≡ line (take viewpoint (laws register.now.entries))) }
+    ensures sound { IfOk result (λ works. AllByRecursion IsSound works.items) }
+{
+    entries_are_legal(register);
+    line_until(alloc, register, viewpoint)
 }
 
 // What is known of a work once an entry stands behind those of a register, which enact the work.

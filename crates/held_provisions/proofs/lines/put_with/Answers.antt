@@ -1,4 +1,4 @@
-use Rattle.std.proofs.Common.{◌∙◌, ◌++◌, ◌∷◌, [], sym}
+use Rattle.std.proofs.Common.{◌++◌, ◌∷◌, [], sym}
 use Rattle.std.proofs.lemmas.Result.{on_ok_weaker}
 use Rattle.law_register.specs.Register.LawList.{laws}
 use Rattle.held_provisions.proofs.Placed.{is_known, none_step, own_step}

@@ -1,0 +1,10 @@
+-- The works that the entries passed enact, from the last on, stand in their places.
+use Rattle.std.proofs.Common.{◌≡◌, drop, take}
+use Rattle.law_register.specs.Register.LawList.{laws}
+use Rattle.held_provisions.specs.Placing.{works_of}
+use Rattle.source_provisions.specs.Line.{line_of}
+use Rattle.held_provisions.proofs.lines.line_until.Given as goal
+
+abbrev pub invariant-loop-index : goal.invariant-loop-index
+invariant-loop-index l =
+    l.works.items ≡ line_of (take l.viewpoint (laws l.register.entries)) (works_of (drop l.index (take l.count l.register.entries)))
