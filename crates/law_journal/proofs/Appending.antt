@@ -1,16 +1,13 @@
 -- What each step of an append leaves.
-use Rattle.std.proofs.Common.{◌≡◌, ◌≢◌, ◌⊎◌, inl, inr, ⊎_elim, ℕ, ◌+◌, ◌/◌, ◌%◌, ◌<◌, List, [], ◌∷◌, ◌++◌, length, get_or, take, drop, refl, sym, ◌∙◌, ap, arith, append_assoc, length-append, take-append-drop}
+use Rattle.std.proofs.Common.{◌≡◌, ◌≢◌, ◌⊎◌, inl, inr, ⊎_elim, ℕ, ◌+◌, ◌<◌, List, [], ◌∷◌, ◌++◌, length, get_or, take, drop, sym, ◌∙◌, ap, arith, append_assoc, length-append, take-append-drop}
 use Rattle.std.proofs.lemmas.List.{append-nil, take_at, drop_at, take_all, drop_all, drop_more}
 use Rattle.std.proofs.lemmas.Bool.{cases_eq}
 use Rattle.law_journal.specs.Disks.{Outlook, IsOutlook, Only, Torn, LeavesOnly, overwritten}
-use Rattle.law_journal.specs.Grammar.{magic, number_of, four_bytes, is_size, payload_of, list_of, with_last}
-use Rattle.law_journal.specs.Journals.{IsJournal, Rests, IsFrame, IsBeforeOrAfter}
+use Rattle.law_journal.specs.Grammar.{magic, records_of, list_of, with_more}
+use Rattle.law_journal.specs.Journals.{IsJournal, Rests, AreFrames, IsBeforeOrAfter}
 use Rattle.law_journal.proofs.Moments.{then_runs, weaker}
-use Rattle.law_journal.proofs.Records.{record_is, one_more, records_more}
+use Rattle.law_journal.proofs.Records.{records_join, records_long, few_records, more_records}
 use Rattle.law_journal.proofs.Crash.{shut_list, same_list}
-
-pub number_back : (n : ℕ) → number_of (n / 16777216) (n / 65536 % 256) (n / 256 % 256) (n % 256) ≡ n
-number_back n = omega arith
 
 -- the bytes of a journal in front of a gate
 pub front_of : (file : List ℕ) (place gate : ℕ) (behind : List ℕ) (j : IsJournal file place (gate ∷ behind)) → take place file ≡ magic ++ j.bytes
@@ -29,42 +26,38 @@ other_gate file c place gate next behind j is = record {
   at_place = j.at_place;
 }
 
--- a frame behind an open gate is one record more
-abbrev pub one_record : (file framed : List ℕ) (place : ℕ) → IsFrame framed → IsJournal file place (1 ∷ framed) → IsJournal file (place + length framed) (0 ∷ [])
-one_record file framed place f j =
-    let payload = payload_of framed in
-    let n = length payload in
-    let added = 1 ∷ (four_bytes n ++ payload) in
-    let back : number_of (n / 16777216) (n / 65536 % 256) (n / 256 % 256) (n % 256) ≡ n = number_back n in
-    let is_record = record_is 1 (n / 16777216) (n / 65536 % 256) (n / 256 % 256) (n % 256) payload refl (ap is_size back ∙ f.is_size) (sym back) in
-    let size : length framed ≡ 5 + n = ap length f.is_frame ∙ omega (arith, length-append (four_bytes n) (payload ++ 0 ∷ []), length-append payload (0 ∷ [])) in
+-- the frames of payloads behind an open gate are their records
+abbrev pub more_behind : (file framed : List ℕ) (place : ℕ) (payloads : List (List ℕ)) → AreFrames payloads framed → IsJournal file place (1 ∷ framed) → IsJournal file (place + length framed) (0 ∷ [])
+more_behind file framed place payloads f j =
+    let added = records_of payloads in
+    let size : length framed ≡ length added = omega (arith, ap length f.behind_gate, length-append added (0 ∷ [])) in
     record {
-      payloads = j.payloads ++ payload ∷ [];
+      payloads = j.payloads ++ payloads;
       bytes = j.bytes ++ added;
-      are_records = one_more j.payloads j.bytes payload added j.are_records is_record;
-      no_more = omega (arith, j.no_more, length-append j.payloads (payload ∷ []), length-append j.bytes added);
-      size = omega (arith, j.size, records_more j.payloads payload, length-append j.bytes added, length-append (four_bytes n) payload);
-      file_is = j.file_is ∙ ap (λ (l : List ℕ). magic ++ j.bytes ++ 1 ∷ l) f.is_frame ∙ ap (λ (l : List ℕ). magic ++ l) (sym (append_assoc j.bytes added (0 ∷ [])));
-      at_place = omega (arith, j.at_place, size, length-append j.bytes added, length-append (four_bytes n) payload);
+      are_records = more_records payloads j.payloads j.bytes f.sizes j.are_records;
+      no_more = omega (arith, j.no_more, length-append j.payloads payloads, length-append j.bytes added, records_long payloads, few_records payloads);
+      size = omega (arith, j.size, records_join j.payloads payloads, length-append j.bytes added, records_long payloads);
+      file_is = j.file_is ∙ ap (λ (l : List ℕ). magic ++ (j.bytes ++ l)) f.behind_gate ∙ ap (λ (l : List ℕ). magic ++ l) (sym (append_assoc j.bytes added (0 ∷ [])));
+      at_place = omega (arith, j.at_place, size, length-append j.bytes added);
     }
 
--- a frame behind an open gate is one payload more
-pub opened_list : (file c framed : List ℕ) (place gate : ℕ) → IsFrame framed → IsJournal file place (gate ∷ framed) → gate ≢ 1 → c ≡ take place file ++ 1 ∷ framed
-    → list_of c ≡ with_last (payload_of framed) (list_of file)
-opened_list file c framed place gate f j shut is =
-    shut_list c (place + length framed) 0 [] (one_record c framed place f (other_gate file c place gate 1 framed j is)) (λ zero. absurd (cc zero))
-    ∙ sym (ap (with_last (payload_of framed)) (shut_list file place gate framed j shut))
+-- the frames of payloads behind an open gate are these payloads more
+pub opened_list : (file c framed : List ℕ) (place gate : ℕ) (payloads : List (List ℕ)) → AreFrames payloads framed → IsJournal file place (gate ∷ framed) → gate ≢ 1 → c ≡ take place file ++ 1 ∷ framed
+    → list_of c ≡ with_more payloads (list_of file)
+opened_list file c framed place gate payloads f j shut is =
+    shut_list c (place + length framed) 0 [] (more_behind c framed place payloads f (other_gate file c place gate 1 framed j is)) (λ zero. absurd (cc zero))
+    ∙ sym (ap (with_more payloads) (shut_list file place gate framed j shut))
 
--- a frame behind any gate counts or does not
-any_gate : (file c framed : List ℕ) (place gate next : ℕ) → IsFrame framed → IsJournal file place (gate ∷ framed) → gate ≢ 1 → c ≡ take place file ++ next ∷ framed
-    → IsBeforeOrAfter file (payload_of framed) c
-any_gate file c framed place gate next f j shut is = by_gate (cases_eq next 1)
+-- frames behind any gate count or do not
+any_gate : (file c framed : List ℕ) (place gate next : ℕ) (payloads : List (List ℕ)) → AreFrames payloads framed → IsJournal file place (gate ∷ framed) → gate ≢ 1 → c ≡ take place file ++ next ∷ framed
+    → IsBeforeOrAfter file payloads c
+any_gate file c framed place gate next payloads f j shut is = by_gate (cases_eq next 1)
   where
-    by_gate : (next ≡ 1) ⊎ (next ≡ 1 → ⊥) → IsBeforeOrAfter file (payload_of framed) c
-    by_gate (inl one) = inr (opened_list file c framed place gate f j shut (is ∙ ap (λ n. take place file ++ n ∷ framed) one))
+    by_gate : (next ≡ 1) ⊎ (next ≡ 1 → ⊥) → IsBeforeOrAfter file payloads c
+    by_gate (inl one) = inr (opened_list file c framed place gate payloads f j shut (is ∙ ap (λ n. take place file ++ n ∷ framed) one))
     by_gate (inr not_one) = inl (shut_list c place next framed (other_gate file c place gate next framed j is) not_one ∙ sym (shut_list file place gate framed j shut))
 
--- the file with a frame behind its closed gate
+-- the file with frames behind its closed gate
 abbrev staged : (o : Outlook) (file framed : List ℕ) (gate : ℕ) (r : Rests o gate) → file ≡ overwritten (gate + 1) framed o.seen → IsJournal file gate (r.shut ∷ framed)
 staged o file framed gate r is =
     let j = r.journal in
@@ -87,7 +80,7 @@ staged_list : (o : Outlook) (file framed : List ℕ) (gate : ℕ) (r : Rests o g
 staged_list o file framed gate r is =
     shut_list file gate r.shut framed (staged o file framed gate r is) r.is_shut ∙ sym (shut_list o.seen gate r.shut [] r.journal r.is_shut)
 
--- the frame stands behind the gate
+-- the frames stand behind the gate
 behind_gate : (file framed : List ℕ) (place gate : ℕ) → IsJournal file place (gate ∷ framed) → drop (place + 1) file ≡ framed
 behind_gate file framed place gate j =
     let head = magic ++ j.bytes ++ gate ∷ [] in
@@ -95,46 +88,46 @@ behind_gate file framed place gate j =
     let size : length head ≡ place + 1 = omega (arith, j.at_place, length-append magic (j.bytes ++ gate ∷ []), length-append j.bytes (gate ∷ [])) in
     ap (λ (l : List ℕ). drop (place + 1) l) split ∙ drop_at head framed (place + 1) size
 
--- each outcome of the second write counts the frame or does not
-torn_gate : (file c framed : List ℕ) (place gate : ℕ) → IsFrame framed → IsJournal file place (gate ∷ framed) → gate ≢ 1 → Torn place 1 file c → IsBeforeOrAfter file (payload_of framed) c
-torn_gate file c framed place gate f j shut torn =
+-- each outcome of the second write counts the frames or does not
+torn_gate : (file c framed : List ℕ) (place gate : ℕ) (payloads : List (List ℕ)) → AreFrames payloads framed → IsJournal file place (gate ∷ framed) → gate ≢ 1 → Torn place 1 file c → IsBeforeOrAfter file payloads c
+torn_gate file c framed place gate payloads f j shut torn =
     let size : place < length file = omega (arith, ap length j.file_is, j.at_place, length-append magic (j.bytes ++ gate ∷ framed), length-append j.bytes (gate ∷ framed)) in
     let next = get_or c place 0 in
     let rest : drop place c ≡ next ∷ framed = drop_more c place 0 (omega (arith, size, torn.no_shorter)) ∙ ap (λ (l : List ℕ). next ∷ l) (torn.after ∙ behind_gate file framed place gate j) in
-    any_gate file c framed place gate next f j shut (sym (take-append-drop place c) ∙ (λ i. torn.before i ++ rest i))
+    any_gate file c framed place gate next payloads f j shut (sym (take-append-drop place c) ∙ (λ i. torn.before i ++ rest i))
 
-module _ (o m n : Outlook) (gate : ℕ) (framed : List ℕ) (f : IsFrame framed) (r : Rests o gate) where
+module _ (o m n : Outlook) (gate : ℕ) (framed : List ℕ) (payloads : List (List ℕ)) (f : AreFrames payloads framed) (r : Rests o gate) where
   abbrev P : List ℕ → Type 0
-  P = IsBeforeOrAfter o.seen (payload_of framed)
+  P = IsBeforeOrAfter o.seen payloads
 
-  -- while the frame is written behind the closed gate
-  pub first_write : (k : ℕ) → LeavesOnly (Torn (gate + 1) k o.seen) o m → LeavesOnly (IsBeforeOrAfter o.seen (payload_of framed)) o m
+  -- while the frames are written behind the closed gate
+  pub first_write : (k : ℕ) → LeavesOnly (Torn (gate + 1) k o.seen) o m → LeavesOnly (IsBeforeOrAfter o.seen payloads) o m
   first_write k run = weaker (Torn (gate + 1) k o.seen) P o m (λ c torn. inl (same_list o.seen c gate r.shut [] r.journal r.is_shut torn.before)) run
 
   -- while the gate is opened
-  pub second_write : m.seen ≡ overwritten (gate + 1) framed o.seen → (k : ℕ) → LeavesOnly (Torn (gate + 1) k o.seen) o m → LeavesOnly (Torn gate 1 m.seen) m n → LeavesOnly (IsBeforeOrAfter o.seen (payload_of framed)) o n
+  pub second_write : m.seen ≡ overwritten (gate + 1) framed o.seen → (k : ℕ) → LeavesOnly (Torn (gate + 1) k o.seen) o m → LeavesOnly (Torn gate 1 m.seen) m n → LeavesOnly (IsBeforeOrAfter o.seen payloads) o n
   second_write is k run next =
       let same = staged_list o m.seen framed gate r is in
-      let as_old : (c : List ℕ) → IsBeforeOrAfter m.seen (payload_of framed) c → P c =
-      λ c either. ⊎_elim (λ before. inl (before ∙ same)) (λ after. inr (after ∙ ap (with_last (payload_of framed)) same)) either in
+      let as_old : (c : List ℕ) → IsBeforeOrAfter m.seen payloads c → P c =
+      λ c either. ⊎_elim (λ before. inl (before ∙ same)) (λ after. inr (after ∙ ap (with_more payloads) same)) either in
       then_runs P o m n (first_write k run)
-      (weaker (Torn gate 1 m.seen) P m n (λ c torn. as_old c (torn_gate m.seen c framed gate r.shut f (staged o m.seen framed gate r is) r.is_shut torn)) next)
+      (weaker (Torn gate 1 m.seen) P m n (λ c torn. as_old c (torn_gate m.seen c framed gate r.shut payloads f (staged o m.seen framed gate r is) r.is_shut torn)) next)
 
   opened : m.seen ≡ overwritten (gate + 1) framed o.seen → n.seen ≡ overwritten gate (1 ∷ []) m.seen → n.seen ≡ take gate m.seen ++ 1 ∷ framed
   opened is next = next ∙ append_assoc (take gate m.seen) (1 ∷ []) (drop (gate + 1) m.seen) ∙ ap (λ (l : List ℕ). take gate m.seen ++ 1 ∷ l) (behind_gate m.seen framed gate r.shut (staged o m.seen framed gate r is))
 
-  -- afterwards the list has one payload more
-  pub added : m.seen ≡ overwritten (gate + 1) framed o.seen → n.seen ≡ overwritten gate (1 ∷ []) m.seen → list_of n.seen ≡ with_last (payload_of framed) (list_of o.seen)
+  -- afterwards the list has these payloads more
+  pub added : m.seen ≡ overwritten (gate + 1) framed o.seen → n.seen ≡ overwritten gate (1 ∷ []) m.seen → list_of n.seen ≡ with_more payloads (list_of o.seen)
   added is next =
-      opened_list m.seen n.seen framed gate r.shut f (staged o m.seen framed gate r is) r.is_shut (opened is next)
-      ∙ ap (with_last (payload_of framed)) (staged_list o m.seen framed gate r is)
+      opened_list m.seen n.seen framed gate r.shut payloads f (staged o m.seen framed gate r is) r.is_shut (opened is next)
+      ∙ ap (with_more payloads) (staged_list o m.seen framed gate r is)
 
   -- and the file is at rest
   pub rests_again : m.seen ≡ overwritten (gate + 1) framed o.seen → n.seen ≡ overwritten gate (1 ∷ []) m.seen → Only n.seen n.may_leave → Rests n (gate + length framed)
   rests_again is next durable = record {
     shut = 0;
     is_shut = λ zero. absurd (cc zero);
-    journal = one_record n.seen framed gate f (other_gate m.seen n.seen gate r.shut 1 framed (staged o m.seen framed gate r is) (opened is next));
+    journal = more_behind n.seen framed gate payloads f (other_gate m.seen n.seen gate r.shut 1 framed (staged o m.seen framed gate r is) (opened is next));
     durable = durable;
   }
 

@@ -4,7 +4,7 @@ use Rattle.std.proofs.lemmas.List.{take_at, take_all, drop_all, take-take, drop_
 use Rattle.std.proofs.lemmas.Bool.Decides.{nat_tests}
 use Rattle.law_journal.specs.Disks.{Outlook, IsOutlook, Only, Idles, Gives, Cut, LeavesOnly}
 use Rattle.law_journal.specs.Grammar.{ends, Listing, magic, magic_fault, length_at, step_list, list_from, list_of}
-use Rattle.law_journal.specs.Journals.{with_front, IsJournal, HasEnd, Rests, IsSameList, IsOldOrSame, is_started}
+use Rattle.law_journal.specs.Journals.{with_front, IsJournal, HasEnd, Rests, IsSameList, is_started}
 use Rattle.law_journal.proofs.Moments.{started, idles_on, then_runs, weaker}
 use Rattle.law_journal.proofs.Records.{no_records, list_at, short_list, front_none}
 

@@ -1,6 +1,7 @@
 mod Windows
 pub mod Moments
 mod Records
+mod Framed
 mod Scans
 mod Crash
 mod Appending

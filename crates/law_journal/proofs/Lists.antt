@@ -5,7 +5,7 @@ use Rattle.std.specs.Option.{option_map}
 use Rattle.std.proofs.lemmas.List.{drop_at, drop-drop}
 use Rattle.std.proofs.lemmas.List.Elements.{All-nil, All-cons}
 use Rattle.std.proofs.lemmas.Bool.Decides.{nat_tests}
-use Rattle.law_journal.specs.Grammar.{Step, ends, holds, breaks, Listing, is_size, records_size, gate_number, gate_in, step_at, step_list, list_from, list_of, with_first, with_last}
+use Rattle.law_journal.specs.Grammar.{Step, ends, holds, breaks, Listing, is_size, records_size, gate_number, gate_in, step_at, step_list, list_from, list_of, with_first, with_more}
 use Rattle.law_journal.specs.Journals.{KeepsGates, IsBeforeOrAfter}
 use Rattle.law_journal.proofs.Records.{held}
 
@@ -105,30 +105,30 @@ last_gate from [] place is = ap (λ p. gate_number from [] p) (is ∙ omega arit
 last_gate from (payload ∷ payloads) place is =
     next_gate from payload payloads place (length payloads) (omega (arith, is)) (last_gate (from + 5 + length payload) payloads place (is ∙ omega arith)) ∙ ap Some (omega arith)
 
--- a gate keeps its number where a payload is added behind the list
-kept_gate : (from : ℕ) (payloads : List (List ℕ)) (payload : List ℕ) (place n : ℕ) → gate_number from payloads place ≡ Some n → gate_number from (payloads ++ payload ∷ []) place ≡ Some n
-kept_gate from [] payload place n is =
+-- a gate keeps its number where payloads are added behind the list
+kept_gate : (from : ℕ) (payloads more : List (List ℕ)) (place n : ℕ) → gate_number from payloads place ≡ Some n → gate_number from (payloads ++ more) place ≡ Some n
+kept_gate from [] more place n is =
     let at = only_gate from place n is in
-    ap (λ p. gate_number from (payload ∷ []) p) at.0 ∙ first_gate from (payload ∷ []) ∙ ap Some (sym at.1)
-kept_gate from (first ∷ payloads) payload place n is = by_case (λ m at. kept_gate (from + 5 + length first) payloads payload place m at) (numbered from first payloads place n is)
+    ap (λ p. gate_number from more p) at.0 ∙ first_gate from more ∙ ap Some (sym at.1)
+kept_gate from (first ∷ payloads) more place n is = by_case (λ m at. kept_gate (from + 5 + length first) payloads more place m at) (numbered from first payloads place n is)
   where
     Rest : Type 0
-    Rest = (m : ℕ) → gate_number (from + 5 + length first) payloads place ≡ Some m → gate_number (from + 5 + length first) (payloads ++ payload ∷ []) place ≡ Some m
+    Rest = (m : ℕ) → gate_number (from + 5 + length first) payloads place ≡ Some m → gate_number (from + 5 + length first) (payloads ++ more) place ≡ Some m
 
-    by_case : Rest → Numbered from first payloads place n → gate_number from (first ∷ (payloads ++ payload ∷ [])) place ≡ Some n
-    by_case further (inl at) = ap (λ p. gate_number from (first ∷ (payloads ++ payload ∷ [])) p) at.0 ∙ first_gate from (first ∷ (payloads ++ payload ∷ [])) ∙ ap Some (sym at.1)
-    by_case further (inr (m, more, at)) =
+    by_case : Rest → Numbered from first payloads place n → gate_number from (first ∷ (payloads ++ more)) place ≡ Some n
+    by_case further (inl at) = ap (λ p. gate_number from (first ∷ (payloads ++ more)) p) at.0 ∙ first_gate from (first ∷ (payloads ++ more)) ∙ ap Some (sym at.1)
+    by_case further (inr (m, next, at)) =
         let far = gate_within (from + 5 + length first) payloads place m at in
-        next_gate from first (payloads ++ payload ∷ []) place m (omega (arith, far.0)) (further m at) ∙ ap Some (sym more)
+        next_gate from first (payloads ++ more) place m (omega (arith, far.0)) (further m at) ∙ ap Some (sym next)
 
-kept_last : (payload : List ℕ) (listing : Listing) → KeepsGates listing (with_last payload listing)
-kept_last payload (Ok payloads) = λ place n is. kept_gate 8 payloads payload place n is
-kept_last payload (Err damage) = λ place n is. absurd (cc is)
+kept_more : (more : List (List ℕ)) (listing : Listing) → KeepsGates listing (with_more more listing)
+kept_more more (Ok payloads) = λ place n is. kept_gate 8 payloads more place n is
+kept_more more (Err damage) = λ place n is. absurd (cc is)
 
--- gates keep their places and numbers where the list stays, or has one payload more
-pub kept_gates : (old : List ℕ) (payload new : List ℕ) → IsBeforeOrAfter old payload new → KeepsGates (list_of old) (list_of new)
-kept_gates old payload new (inl same) = λ place n is. ap (λ (l : Listing). gate_in l place) same ∙ is
-kept_gates old payload new (inr more) = λ place n is. ap (λ (l : Listing). gate_in l place) more ∙ kept_last payload (list_of old) place n is
+-- gates keep their places and numbers where the list stays, or has more payloads
+pub kept_gates : (old : List ℕ) (payloads : List (List ℕ)) (new : List ℕ) → IsBeforeOrAfter old payloads new → KeepsGates (list_of old) (list_of new)
+kept_gates old payloads new (inl same) = λ place n is. ap (λ (l : Listing). gate_in l place) same ∙ is
+kept_gates old payloads new (inr more) = λ place n is. ap (λ (l : Listing). gate_in l place) more ∙ kept_more payloads (list_of old) place n is
 
 -- what stands at the gate of a number: the end of the list, or a payload and the next gate
 abbrev pub NthStep : List (List ℕ) → ℕ → ℕ → ℕ → Step → Type 0

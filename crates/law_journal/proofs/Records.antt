@@ -1,8 +1,10 @@
 -- Bytes that are whole records, and what stands behind them.
-use Rattle.std.proofs.Common.{◌≡◌, ℕ, suc, ◌+◌, ◌-◌, ◌<◌, ◌≤◌, Bool, true, false, ◌==◌, nat_lt, nat_le, List, [], ◌∷◌, ◌++◌, length, take, drop, Some, None, Ok, Err, if◌then◌else◌, refl, sym, ◌∙◌, ap, arith, append_assoc, length-append, length-take, take-append-drop}
-use Rattle.std.proofs.lemmas.List.{take_at, drop_at}
+use Rattle.std.proofs.Common.{◌≡◌, ℕ, suc, ◌+◌, ◌-◌, ◌/◌, ◌%◌, ◌<◌, ◌≤◌, Bool, true, false, ◌==◌, nat_lt, nat_le, List, [], ◌∷◌, ◌++◌, length, take, drop, Some, None, Ok, Err, if◌then◌else◌, refl, sym, ◌∙◌, ap, subst, arith, append_assoc, length-append, length-take, take-append-drop}
+use Rattle.std.specs.Prelude.{All, IsTrue}
+use Rattle.std.proofs.lemmas.List.{append-nil, take_at, drop_at}
+use Rattle.std.proofs.lemmas.List.Elements.{All-head, All-tail}
 use Rattle.std.proofs.lemmas.Bool.Decides.{nat_tests}
-use Rattle.law_journal.specs.Grammar.{Damage, Step, ends, holds, breaks, Listing, magic, number_of, is_size, records_size, payload_at, length_at, step_at, step_list, list_from, with_first, magic_fault, list_behind, list_of}
+use Rattle.law_journal.specs.Grammar.{Damage, Step, ends, holds, breaks, Listing, magic, number_of, is_size, record_of, records_of, records_size, payload_at, length_at, step_at, step_list, list_from, with_first, magic_fault, list_behind, list_of}
 use Rattle.law_journal.specs.Journals.{with_front, AreRecords, IsJournal}
 
 -- one record: whatever gate and bytes stand behind these bytes, they hold the payload
@@ -30,6 +32,11 @@ front_damage (p ∷ payloads) damage = ap (λ (l : Listing). with_first p l) (fr
 pub records_more : (payloads : List (List ℕ)) (payload : List ℕ) → records_size (payloads ++ payload ∷ []) ≡ records_size payloads + (5 + length payload)
 records_more [] payload = omega arith
 records_more (p ∷ payloads) payload = omega (arith, records_more payloads payload)
+
+-- the bytes of the records of payloads behind others
+pub records_join : (payloads more : List (List ℕ)) → records_size (payloads ++ more) ≡ records_size payloads + records_size more
+records_join [] more = omega arith
+records_join (p ∷ payloads) more = omega (arith, records_join payloads more)
 
 -- no records
 pub no_records : AreRecords [] []
@@ -113,6 +120,37 @@ record_is gate a b c d payload is_open in_range long = record {
       ∙ ap (λ t. if t then payload_at (place + 1 + 4) (number_of a b c d) more else breaks (record { place = place + 1; byte = Some a })) in_range
       ∙ payload_there (place + 1 + 4) (number_of a b c d) payload next behind long;
 }
+
+number_back : (n : ℕ) → number_of (n / 16777216) (n / 65536 % 256) (n / 256 % 256) (n % 256) ≡ n
+number_back n = omega arith
+
+-- the record of a payload is one
+pub own_record : (payload : List ℕ) → is_size (length payload) ≡ true → IsRecord payload (record_of payload)
+own_record payload in_range =
+    let n = length payload in
+    let back : number_of (n / 16777216) (n / 65536 % 256) (n / 256 % 256) (n % 256) ≡ n = number_back n in
+    record_is 1 (n / 16777216) (n / 65536 % 256) (n / 256 % 256) (n % 256) payload refl (ap is_size back ∙ in_range) (sym back)
+
+-- the records of payloads have as many bytes as they are told to have
+pub records_long : (payloads : List (List ℕ)) → length (records_of payloads) ≡ records_size payloads
+records_long [] = refl
+records_long (p ∷ payloads) = omega (arith, length-append (record_of p) (records_of payloads), records_long payloads)
+
+-- which is one byte for each of them at least
+pub few_records : (payloads : List (List ℕ)) → length payloads ≤ records_size payloads
+few_records [] = omega arith
+few_records (p ∷ payloads) = omega (arith, few_records payloads)
+
+-- the records of more payloads
+pub more_records : (more payloads : List (List ℕ)) (bytes : List ℕ) → All (λ payload. IsTrue (is_size (length payload))) more → AreRecords payloads bytes → AreRecords (payloads ++ more) (bytes ++ records_of more)
+more_records [] payloads bytes sizes are =
+    subst (λ (l : List (List ℕ)). AreRecords l (bytes ++ [])) (sym (append-nil payloads)) (subst (AreRecords payloads) (sym (append-nil bytes)) are)
+more_records (p ∷ more) payloads bytes sizes are =
+    let P = λ (payload : List ℕ). IsTrue (is_size (length payload)) in
+    let one = one_more payloads bytes p (record_of p) are (own_record p (All-head P p more sizes)) in
+    let rest = more_records more (payloads ++ p ∷ []) (bytes ++ record_of p) (All-tail P p more sizes) one in
+    subst (λ (l : List (List ℕ)). AreRecords l (bytes ++ records_of (p ∷ more))) (append_assoc payloads (p ∷ []) more)
+    (subst (AreRecords ((payloads ++ p ∷ []) ++ more)) (append_assoc bytes (record_of p) (records_of more)) rest)
 
 -- a step over a record: the bytes are that record and what follows
 pub record Holding (rest payload next : List ℕ) : Type 0 where

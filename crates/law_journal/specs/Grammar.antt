@@ -1,5 +1,6 @@
 -- The journal's file: the magic, records behind open gates, and a closed gate.
-use Rattle.std.specs.Prelude.{ℕ, zero, suc, ◌+◌, ◌-◌, ◌*◌, ◌/◌, ◌%◌, Bool, ◌&&◌, ◌==◌, nat_lt, nat_le, List, [], ◌∷◌, ◌++◌, length, take, drop, Option, Some, None, Result, Ok, Err, codes, if◌then◌else◌}
+use Rattle.std.specs.Prelude.{ℕ, zero, suc, ◌+◌, ◌*◌, ◌/◌, ◌%◌, Bool, ◌&&◌, ◌==◌, nat_lt, nat_le, List, [], ◌∷◌, ◌++◌, length, take, drop, Option, Some, None, Result, Ok, Err, codes, if◌then◌else◌}
+use Rattle.std.specs.List.{flat_map}
 use Rattle.std.specs.Option.{option_map}
 
 -- where a file is damaged: the first place that shows it, and the byte there, if there is one
@@ -27,9 +28,13 @@ is_size n = nat_le 1 n && nat_le n 16777216
 abbrev pub frame_of : List ℕ → List ℕ
 frame_of payload = four_bytes (length payload) ++ payload ++ 0 ∷ []
 
--- the payload of a frame
-abbrev pub payload_of : List ℕ → List ℕ
-payload_of framed = take (length framed - 5) (drop 4 framed)
+-- the record of a payload: an open gate, its length, and the payload
+abbrev pub record_of : List ℕ → List ℕ
+record_of payload = 1 ∷ (four_bytes (length payload) ++ payload)
+
+-- the records of payloads, one behind the other
+abbrev pub records_of : List (List ℕ) → List ℕ
+records_of payloads = flat_map record_of payloads
 
 -- what stands at a gate: the end of the list, a payload with what follows it from the next gate on, or damage
 pub data Step : Type 0 where
@@ -67,6 +72,11 @@ with_first payload (Err damage) = Err damage
 abbrev pub with_last : List ℕ → Listing → Listing
 with_last payload (Ok payloads) = Ok (payloads ++ payload ∷ [])
 with_last payload (Err damage) = Err damage
+
+-- the list with more payloads behind
+abbrev pub with_more : List (List ℕ) → Listing → Listing
+with_more more (Ok payloads) = Ok (payloads ++ more)
+with_more more (Err damage) = Err damage
 
 -- what a step at a place makes of the list of what follows it
 abbrev pub step_list : ℕ → Step → (ℕ → List ℕ → Listing) → Listing

@@ -2,7 +2,7 @@
 use Rattle.std.specs.Prelude.{ℕ, suc, ◌≡◌, ◌≢◌, ◌⊎◌, ◌+◌, ◌^◌, ◌<◌, ◌≤◌, Bool, true, false, not, ◌&&◌, ◌==◌, is_none, get_or, List, [], ◌∷◌, ◌++◌, length, take, drop, All, slice_get, Option, Some, None, Result, Ok, Err, IsTrue}
 use Rattle.desk_base.specs.Streams.{risen}
 use Rattle.law_journal.specs.Disks.{Outlook, Only, LeavesOnly}
-use Rattle.law_journal.specs.Grammar.{Step, ends, holds, breaks, Listing, magic, is_size, records_size, gate_number, gate_in, step_at, step_list, list_from, with_first, with_last, magic_fault, list_of, frame_of, payload_of}
+use Rattle.law_journal.specs.Grammar.{Step, ends, holds, breaks, Listing, magic, is_size, records_size, gate_number, gate_in, step_at, step_list, list_from, with_first, magic_fault, list_of, records_of, with_more}
 use Rattle.desk_base.specs.declared.load_fault.LoadFault.{LoadFault}
 use Rattle.desk_base.specs.declared.load_fault.LoadFault.TheVariants.{Failed, Damaged, Memory}
 use Rattle.law_journal.specs.declared.step.Found.{Found}
@@ -53,14 +53,19 @@ pub record HasList (o : Outlook) (gate : ℕ) : Type 0 where
 abbrev pub KeepsGates : Listing → Listing → Type 0
 KeepsGates old new = (place n : ℕ) → gate_in old place ≡ Some n → gate_in new place ≡ Some n
 
--- bytes are the frame of a payload of 1 to 16,777,216 bytes
-pub record IsFrame (framed : List ℕ) : Type 0 where
-  pub is_size : IsTrue (is_size (length (payload_of framed)))
-  pub is_frame : framed ≡ frame_of (payload_of framed)
+-- bytes are the frames of payloads of 1 to 16,777,216 bytes each: behind an open gate they are the records of these
+-- payloads, at least one, and a closed gate
+pub record AreFrames (payloads : List (List ℕ)) (framed : List ℕ) : Type 0 where
+  pub sizes : All (λ payload. IsTrue (is_size (length payload))) payloads
+  pub behind_gate : 1 ∷ framed ≡ records_of payloads ++ 0 ∷ []
 
--- a file stands for the list of another, with one payload more or without it
-abbrev pub IsBeforeOrAfter : List ℕ → List ℕ → List ℕ → Type 0
-IsBeforeOrAfter old payload file = (list_of file ≡ list_of old) ⊎ (list_of file ≡ with_last payload (list_of old))
+-- bytes are the frames of some payloads
+abbrev pub IsFramed : List ℕ → Type 0
+IsFramed framed = (payloads : List (List ℕ)) × AreFrames payloads framed
+
+-- a file stands for the list of another, with all of these payloads behind it or with none
+abbrev pub IsBeforeOrAfter : List ℕ → List (List ℕ) → List ℕ → Type 0
+IsBeforeOrAfter old payloads file = (list_of file ≡ list_of old) ⊎ (list_of file ≡ with_more payloads (list_of old))
 
 -- a file is one that a crash could leave before the call, or stands for the list that the disk had
 abbrev pub IsOldOrSame : Outlook → List ℕ → Type 0
@@ -178,33 +183,30 @@ ReadsEntry o place result = o.tells → GivesEntry place (step_at place (drop pl
 abbrev pub ReadsBytes : Outlook → ℕ → ℕ → List ℕ → Type 0
 ReadsBytes o place size payload = o.tells → payload ≡ take size (drop place o.seen)
 
--- the list stays, has one payload more, or either; its gates stay
+-- the list stays; its gates stay
 abbrev pub ListStays : Outlook → Outlook → Type 0
 ListStays old new = old.tells → IsSameList old.seen new.seen
-
-abbrev pub AddsPayload : List ℕ → Outlook → Outlook → Type 0
-AddsPayload payload old new = old.tells → list_of new.seen ≡ with_last payload (list_of old.seen)
-
-abbrev pub MayAddPayload : List ℕ → Outlook → Outlook → Type 0
-MayAddPayload payload old new = old.tells → IsBeforeOrAfter old.seen payload new.seen
 
 abbrev pub GatesStay : Outlook → Outlook → Type 0
 GatesStay old new = old.tells → KeepsGates (list_of old.seen) (list_of new.seen)
 
--- a crash at any moment leaves the list; a file that could be left before, or the list; the list without a payload, or
--- with it
+-- a crash at any moment leaves the list; a file that could be left before, or the list
 abbrev pub LeavesSame : Outlook → Outlook → Type 0
 LeavesSame old new = old.tells → LeavesOnly (IsSameList old.seen) old new
 
 abbrev pub LeavesOldOrSame : Outlook → Outlook → Type 0
 LeavesOldOrSame old new = old.tells → LeavesOnly (IsOldOrSame old) old new
 
-abbrev pub LeavesOneOfTwo : List ℕ → Outlook → Outlook → Type 0
-LeavesOneOfTwo payload old new = old.tells → LeavesOnly (IsBeforeOrAfter old.seen payload) old new
+-- the payloads of frames are added; all of them or none; a crash at any moment leaves the list with all of them, or with
+-- none
+abbrev pub AddsFrames : List ℕ → Outlook → Outlook → Type 0
+AddsFrames framed old new = (payloads : List (List ℕ)) → AreFrames payloads framed → old.tells
+    → list_of new.seen ≡ with_more payloads (list_of old.seen)
 
--- the payload of a frame is added; a crash at any moment leaves the list without it, or with it
-abbrev pub AddsFrame : List ℕ → Outlook → Outlook → Type 0
-AddsFrame framed old new = AddsPayload (payload_of framed) old new
+abbrev pub MayAddFrames : List ℕ → Outlook → Outlook → Type 0
+MayAddFrames framed old new = (payloads : List (List ℕ)) → AreFrames payloads framed → old.tells
+    → IsBeforeOrAfter old.seen payloads new.seen
 
-abbrev pub LeavesFrameOrNot : List ℕ → Outlook → Outlook → Type 0
-LeavesFrameOrNot framed old new = LeavesOneOfTwo (payload_of framed) old new
+abbrev pub LeavesFramesOrNot : List ℕ → Outlook → Outlook → Type 0
+LeavesFramesOrNot framed old new = (payloads : List (List ℕ)) → AreFrames payloads framed → old.tells
+    → LeavesOnly (IsBeforeOrAfter old.seen payloads) old new

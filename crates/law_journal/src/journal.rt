@@ -4,10 +4,9 @@
 ghost use Rattle.std.specs.Prelude.{◌≡◌, ◌+◌, ◌≤◌, true, false, IsTrue, length, IfOk, IfErr, OnOk, OnErr};
 ghost use Rattle.desk_base.specs.Streams.{HasCause};
 ghost use Rattle.law_journal.specs.Disks.{Idles};
-ghost use Rattle.law_journal.specs.Grammar.{is_size, frame_of, payload_of};
-ghost use Rattle.law_journal.specs.Journals.{AddsFrame, GatesStay, GivesListed, HasLoadCause, IsFrame, IsLater};
-ghost use Rattle.law_journal.specs.Journals.{IsListed, LeavesFrameOrNot, LeavesOldOrSame, ListStays, MayAddPayload};
-ghost use Rattle.law_journal.specs.Journals.{MayBeAny, ReadsEntry, TellsDamage, read_into, stays_ready};
+ghost use Rattle.law_journal.specs.Journals.{AddsFrames, GatesStay, GivesListed, HasLoadCause, IsFramed};
+ghost use Rattle.law_journal.specs.Journals.{IsLater, IsListed, LeavesFramesOrNot, LeavesOldOrSame, ListStays};
+ghost use Rattle.law_journal.specs.Journals.{MayAddFrames, MayBeAny, ReadsEntry, TellsDamage, read_into, stays_ready};
 ghost use Rattle.law_journal.specs.States.{HasFault, IsKnown, LeavesAlone};
 
 use crate::Disk;
@@ -15,7 +14,7 @@ use crate::reading::entry_at;
 use crate::recovering::recover;
 use crate::window::Window;
 use crate::writing::append_at;
-use desk_base::{Failed, LoadFault, Memory};
+use desk_base::{Failed, LoadFault};
 use std::alloc::Global;
 
 /// A journal on a disk.
@@ -36,24 +35,6 @@ pub struct JournalRefused<D: Disk> {
     pub disk: D,
     /// Why.
     pub fault: LoadFault,
-}
-
-/// The frame of a payload: its length in four bytes, the payload, and a closed gate.
-pub fn frame(alloc: Global, payload: &[u8]) -> Result<Vec<u8>, Memory>
-    requires { IsTrue (is_size (length payload.now)) }
-    ensures bytes { IfOk result (λ framed. framed.items ≡ frame_of payload.now) }
-    ensures frame { IfOk result (λ framed. IsFrame framed.items) }
-    ensures payload { IfOk result (λ framed. payload_of framed.items ≡ payload.now) }
-{
-    let size = payload.len();
-    let mut framed = Vec::with_capacity(alloc, size + 5)?;
-    framed.push((size / 16_777_216) as u8)?;
-    framed.push((size / 65_536 % 256) as u8)?;
-    framed.push((size / 256 % 256) as u8)?;
-    framed.push((size % 256) as u8)?;
-    framed.extend_from_slice(payload)?;
-    framed.push(0)?;
-    Ok(framed)
 }
 
 impl<D: Disk> Journal<D> {
@@ -150,22 +131,22 @@ impl<D: Disk> Journal<D> {
         entry
     }
 
-    /// Adds the payload of a frame. Once it is Ok, each crash leaves a file whose list has the payload; the place is
-    /// that of the closed gate behind it. After a failure the journal has to be opened again, and has the payload or
-    /// has not.
+    /// Adds the payloads of frames, all of them or none. Once it is Ok, each crash leaves a file whose list has them; the
+    /// place is that of the closed gate behind them. After a failure the journal has to be opened again, and has all of
+    /// the payloads or none.
     pub fn append(&mut self, framed: &[u8]) -> Result<u64, Failed>
         requires ready { self.old.ready ≡ true }
-        requires frame { IsFrame framed.now }
+        requires framed { IsFramed framed.now }
         ensures ready { OnOk result (self.new.ready ≡ true) }
         ensures listed { IsTrue self.new.ready → IsListed (D.outlook self.new.disk) self.new.gate }
         ensures refused { OnErr result (self.new.ready ≡ false) }
         ensures place { IfOk result (λ place. place ≡ self.new.gate) }
         ensures first { IfOk result (λ place. 8 ≤ place) }
         ensures gate { OnOk result (self.new.gate ≡ self.old.gate + length framed.now) }
-        ensures added { OnOk result (AddsFrame framed.now (D.outlook self.old.disk) (D.outlook self.new.disk)) }
-        ensures left { MayAddPayload (payload_of framed.now) (D.outlook self.old.disk) (D.outlook self.new.disk) }
+        ensures added { OnOk result (AddsFrames framed.now (D.outlook self.old.disk) (D.outlook self.new.disk)) }
+        ensures left { MayAddFrames framed.now (D.outlook self.old.disk) (D.outlook self.new.disk) }
         ensures gates { GatesStay (D.outlook self.old.disk) (D.outlook self.new.disk) }
-        ensures any_moment { LeavesFrameOrNot framed.now (D.outlook self.old.disk) (D.outlook self.new.disk) }
+        ensures any_moment { LeavesFramesOrNot framed.now (D.outlook self.old.disk) (D.outlook self.new.disk) }
         ensures tells { (D.outlook self.new.disk).tells → (D.outlook self.old.disk).tells }
         ensures cause { HasCause (D.faults self.old.disk) (D.faults self.new.disk) result }
     {

@@ -4,6 +4,7 @@
 mod disk;
 mod effect;
 mod file_disk;
+mod framing;
 mod handle;
 mod history;
 mod journal;
@@ -21,7 +22,8 @@ mod writing;
 pub use disk::Disk;
 pub use effect::Effect;
 pub use file_disk::FileDisk;
-pub use journal::{Journal, JournalRefused, frame};
+pub use framing::{frame, frames};
+pub use journal::{Journal, JournalRefused};
 pub use memory_disk::MemoryDisk;
 pub use named_file::NamedFile;
 pub use system_file::SystemFile;

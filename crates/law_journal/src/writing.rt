@@ -3,8 +3,8 @@
 ghost use Rattle.std.specs.Prelude.{◌≡◌, ◌+◌, ◌^◌, ◌<◌, ◌≤◌, [], ◌∷◌, ◌++◌, Some, take, length, IfOk, OnOk};
 ghost use Rattle.desk_base.specs.Streams.{HasCause};
 ghost use Rattle.law_journal.specs.Disks.{CutsTo, IsSynced, LeavesCut, LeavesOnly, LeavesTorn, Only, Writes};
-ghost use Rattle.law_journal.specs.Grammar.{magic, payload_of};
-ghost use Rattle.law_journal.specs.Journals.{AddsPayload, IsFrame, IsShort, LeavesOneOfTwo, MayAddPayload, Rests};
+ghost use Rattle.law_journal.specs.Grammar.{magic};
+ghost use Rattle.law_journal.specs.Journals.{AddsFrames, IsFramed, IsShort, LeavesFramesOrNot, MayAddFrames, Rests};
 
 use crate::Disk;
 use desk_base::Failed;
@@ -56,21 +56,22 @@ pub fn start_synced<D: Disk>(disk: &mut D) -> Result<(), Failed>
     Ok(())
 }
 
-/// Adds the payload of a frame behind the closed gate at a place, and gives the place of the closed gate behind it.
+/// Adds the payloads of frames behind the closed gate at a place, and gives the place of the closed gate behind them.
 pub fn append_at<D: Disk>(disk: &mut D, gate: u64, framed: &[u8]) -> Result<u64, Failed>
     requires bound { gate + 1 < 2 ^ 63 }
     requires rests { (D.outlook disk.old).tells → Rests (D.outlook disk.old) gate }
-    requires frame { IsFrame framed.now }
+    requires framed { IsFramed framed.now }
     ensures place { IfOk result (λ place. place ≡ gate + length framed.now) }
     ensures bound { IfOk result (λ place. place + 1 < 2 ^ 63) }
     ensures rests { (D.outlook disk.new).tells → IfOk result (Rests (D.outlook disk.new)) }
-    ensures added { OnOk result (AddsPayload (payload_of framed.now) (D.outlook disk.old) (D.outlook disk.new)) }
-    ensures left { MayAddPayload (payload_of framed.now) (D.outlook disk.old) (D.outlook disk.new) }
-    ensures any_moment { LeavesOneOfTwo (payload_of framed.now) (D.outlook disk.old) (D.outlook disk.new) }
+    ensures added { OnOk result (AddsFrames framed.now (D.outlook disk.old) (D.outlook disk.new)) }
+    ensures left { MayAddFrames framed.now (D.outlook disk.old) (D.outlook disk.new) }
+    ensures any_moment { LeavesFramesOrNot framed.now (D.outlook disk.old) (D.outlook disk.new) }
     ensures tells { (D.outlook disk.new).tells → (D.outlook disk.old).tells }
     ensures cause { HasCause (D.faults disk.old) (D.faults disk.new) result }
 {
-    // The record has to be on the disk, behind its closed gate, before the gate is opened.
+    // The records have to be on the disk, behind the closed gate, before it is opened: it is the gate of the first one,
+    // and while it is closed the open gates behind it count for nothing.
     write_synced(disk, gate + 1, framed)?;
     write_synced(disk, gate, &[1])?;
     Ok(gate + framed.len() as u64)

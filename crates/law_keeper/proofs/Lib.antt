@@ -1,4 +1,5 @@
 pub mod Moments
+pub mod Several
 pub mod Walks
 pub mod Found
 pub mod OverJournals

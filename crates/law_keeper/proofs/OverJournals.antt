@@ -1,18 +1,21 @@
 -- What a journal does, said of the keeper over it.
-use Rattle.std.proofs.Common.{◌≡◌, ◌↔◌, inl, inr, ⊎_elim, ℕ, ◌+◌, ◌-◌, ◌^◌, ◌<◌, min, Bool, true, false, is_ok, List, Option, Some, None, Result, Ok, Err, IsOk, IfOk, refl, sym, ◌∙◌, ap, subst, arith}
+use Rattle.std.proofs.Common.{◌≡◌, ◌↔◌, ◌⊎◌, inl, inr, ⊎_elim, ℕ, ◌+◌, ◌-◌, ◌^◌, ◌<◌, min, Bool, true, false, is_ok, List, [], ◌∷◌, length, take, Option, Some, None, Result, Ok, Err, IsOk, IfOk, refl, sym, ◌∙◌, ap, subst, arith}
 use Rattle.desk_base.specs.declared.load_fault.LoadFault.{LoadFault}
 use Rattle.desk_base.specs.declared.load_fault.LoadFault.TheVariants.{Failed, Damaged, Memory}
-use Rattle.law_journal.specs.Disks.{Outlook, Idles}
+use Rattle.law_journal.specs.Disks.{Outlook, IsOutlook, Idles}
 use Rattle.law_journal.specs.Disks as disks
 use Rattle.law_journal.specs.Journals as journals
-use Rattle.law_journal.specs.Grammar.{Listing, gate_in, gate_number, list_of, with_last}
+use Rattle.law_journal.specs.Grammar.{Listing, gate_in, gate_number, list_of, with_last, with_more}
 use Rattle.law_journal.specs.Journals.{HasList, GivesListed, GivesNth, KeepsGates, IsBeforeOrAfter}
+use Rattle.std.proofs.lemmas.List.{take_all}
+use Rattle.law_journal.proofs.Moments.{started}
 use Rattle.law_journal.proofs.Resting.{gate_bound}
-use Rattle.law_keeper.specs.Keepers.{IsOldOrSame, IsSettled, LeavesOnly, HaveSizes, Gives, Appends, Becomes, size_of}
+use Rattle.law_keeper.specs.Keepers.{IsOldOrSame, IsSettled, IsWithOrWithout, IsWithFront, LeavesOnly, LeavesOneOfTwo, LeavesFront, HaveSizes, Gives, Appends, AppendsAll, Becomes, BecomesMore, size_of}
 use Rattle.law_keeper.specs.declared.keep_fault.KeepFault.{KeepFault}
 use Rattle.law_keeper.specs.declared.keep_fault.KeepFault.TheVariants as keep
 use Rattle.law_keeper.specs.JournalKeepers.{holding_of, readiness_of}
 use Rattle.law_keeper.specs.declared.readiness.Readiness.TheVariants.{Ready}
+use Rattle.law_keeper.proofs.Several.{more_none}
 
 -- a keeper whose journal has a list is settled
 pub settled : (o : Outlook) (gate : ℕ) → (o.tells → HasList o gate) → IsSettled (holding_of o)
@@ -77,25 +80,84 @@ new_end o gate h =
     let back : gate - 8 + 8 ≡ gate = omega (arith, h.size) in
     ap (λ (l : Listing). gate_in l (gate - 8 + 8)) h.is_list ∙ ap (λ p. gate_number 8 h.payloads p) back ∙ h.end ∙ sym (ap size_of h.is_list)
 
+-- one payload more
+last_more : (payload : List ℕ) (listing : Listing) → with_more (payload ∷ []) listing ≡ with_last payload listing
+last_more payload (Ok payloads) = refl
+last_more payload (Err damage) = refl
+
+-- a file stands for a list with one payload more or without it
+one_or_none : (old file payload : List ℕ) → IsBeforeOrAfter old (payload ∷ []) file → IsWithOrWithout (list_of old) payload (list_of file)
+one_or_none old file payload (inl same) = inl same
+one_or_none old file payload (inr more) = inr (more ∙ last_more payload (list_of old))
+
+-- a crash leaves it or does not
+pub leaves_one : (o n : Outlook) (payload : List ℕ) → (o.tells → disks.LeavesOnly (IsBeforeOrAfter o.seen (payload ∷ [])) o n) → LeavesOneOfTwo payload (holding_of o) (holding_of n)
+leaves_one o n payload run = λ t. of_files (IsBeforeOrAfter o.seen (payload ∷ [])) (IsWithOrWithout (list_of o.seen) payload) o n (λ file either. one_or_none o.seen file payload either) (run t)
+
 -- an append that failed, and one that was done
-pub failed : (o n : Outlook) (payload : List ℕ) → (o.tells ↔ n.tells) → (o.tells → IsBeforeOrAfter o.seen payload n.seen) → (o.tells → KeepsGates (list_of o.seen) (list_of n.seen)) → Appends payload (holding_of o) (holding_of n) (Err keep.Failed)
+pub failed : (o n : Outlook) (payload : List ℕ) → (o.tells ↔ n.tells) → (o.tells → IsBeforeOrAfter o.seen (payload ∷ []) n.seen) → (o.tells → KeepsGates (list_of o.seen) (list_of n.seen)) → Appends payload (holding_of o) (holding_of n) (Err keep.Failed)
 failed o n payload tells left gates = record {
   tells = tells;
   tells_crash = tells;
-  list = left;
+  list = λ t. one_or_none o.seen n.seen payload (left t);
   places = λ t cursor k at. gates t (cursor + 8) k at;
   end = λ t. tt;
 }
 
-pub done : (o n : Outlook) (payload : List ℕ) (gate : ℕ) → (o.tells ↔ n.tells) → (o.tells → list_of n.seen ≡ with_last payload (list_of o.seen)) → (o.tells → KeepsGates (list_of o.seen) (list_of n.seen)) → (n.tells → HasList n gate)
+pub done : (o n : Outlook) (payload : List ℕ) (gate : ℕ) → (o.tells ↔ n.tells) → (o.tells → list_of n.seen ≡ with_more (payload ∷ []) (list_of o.seen)) → (o.tells → KeepsGates (list_of o.seen) (list_of n.seen)) → (n.tells → HasList n gate)
     → Appends payload (holding_of o) (holding_of n) (Ok (gate - 8))
 done o n payload gate tells added gates lists = record {
+  tells = tells;
+  tells_crash = tells;
+  list = λ t. added t ∙ last_more payload (list_of o.seen);
+  places = λ t cursor k at. gates t (cursor + 8) k at;
+  end = λ t. new_end n gate (lists (tells.0 t));
+}
+
+-- several payloads behind a list or not are some of them, the first ones
+all_or_none : (old : Listing) (payloads : List (List ℕ)) (list : Listing) → (list ≡ old) ⊎ (list ≡ with_more payloads old) → IsWithFront old payloads list
+all_or_none old payloads list (inl same) = (0, same ∙ sym (more_none old))
+all_or_none old payloads list (inr more) = (length payloads, more ∙ ap (λ (l : List (List ℕ)). with_more l old) (sym (take_all (length payloads) payloads (omega arith))))
+
+-- a crash leaves all of them or none
+pub leaves_some : (o n : Outlook) (payloads : List (List ℕ)) → (o.tells → disks.LeavesOnly (IsBeforeOrAfter o.seen payloads) o n) → LeavesFront payloads (holding_of o) (holding_of n)
+leaves_some o n payloads run = λ t crash. of_files (IsBeforeOrAfter o.seen payloads) (IsWithFront (list_of o.seen) payloads) o n (λ file either. all_or_none (list_of o.seen) payloads (list_of file) either) (run t)
+
+-- an append of several that failed, and one that was done
+pub failed_all : (o n : Outlook) (payloads : List (List ℕ)) → (o.tells ↔ n.tells) → (o.tells → IsBeforeOrAfter o.seen payloads n.seen) → (o.tells → KeepsGates (list_of o.seen) (list_of n.seen)) → AppendsAll payloads (holding_of o) (holding_of n) (Err keep.Failed)
+failed_all o n payloads tells left gates = record {
+  tells = tells;
+  tells_crash = tells;
+  list = λ t. all_or_none (list_of o.seen) payloads (list_of n.seen) (left t);
+  places = λ t cursor k at. gates t (cursor + 8) k at;
+  end = λ t. tt;
+}
+
+pub done_all : (o n : Outlook) (payloads : List (List ℕ)) (gate : ℕ) → (o.tells ↔ n.tells) → (o.tells → list_of n.seen ≡ with_more payloads (list_of o.seen)) → (o.tells → KeepsGates (list_of o.seen) (list_of n.seen)) → (n.tells → HasList n gate)
+    → AppendsAll payloads (holding_of o) (holding_of n) (Ok (gate - 8))
+done_all o n payloads gate tells added gates lists = record {
   tells = tells;
   tells_crash = tells;
   list = added;
   places = λ t cursor k at. gates t (cursor + 8) k at;
   end = λ t. new_end n gate (lists (tells.0 t));
 }
+
+-- one that was not made
+pub none_made : (o : Outlook) (payloads : List (List ℕ)) → AppendsAll payloads (holding_of o) (holding_of o) (Err keep.Memory)
+none_made o payloads = record {
+  tells = (λ t. t, λ t. t);
+  tells_crash = (λ t. t, λ t. t);
+  list = λ t. (0, sym (more_none (list_of o.seen)));
+  places = λ t cursor k at. at;
+  end = λ t. tt;
+}
+
+pub none_left : (o : Outlook) (payloads : List (List ℕ)) → IsOutlook o → (o.tells → disks.Only o.seen o.may_leave) → LeavesFront payloads (holding_of o) (holding_of o)
+none_left o payloads is durable = λ t crash.
+    let stays : (file : List ℕ) → o.may_leave file → IsWithFront (list_of o.seen) payloads (list_of file) =
+    λ file left. (0, ap list_of (durable t file left) ∙ sym (more_none (list_of o.seen))) in
+    of_files o.may_leave (IsWithFront (list_of o.seen) payloads) o o stays (started o.may_leave o is t (λ file left. left))
 
 -- a list with one payload more is a list
 ok_last : (payload : List ℕ) (listing : Listing) → IsOk listing → IsOk (with_last payload listing)
@@ -111,6 +173,18 @@ became old payload (Err keep.Memory) new is now = ap is_ok now ∙ is
 -- an append makes no damage
 pub still_list : (o n : Outlook) (payload : List ℕ) (result : Result ℕ KeepFault) → Appends payload (holding_of o) (holding_of n) result → (o.tells → IsOk (list_of o.seen)) → n.tells → IsOk (list_of n.seen)
 still_list o n payload result appended is told = became (list_of o.seen) payload result (list_of n.seen) (is (appended.tells.1 told)) (appended.list (appended.tells.1 told))
+
+ok_more : (payloads : List (List ℕ)) (listing : Listing) → IsOk listing → IsOk (with_more payloads listing)
+ok_more payloads (Ok others) is = refl
+ok_more payloads (Err damage) is = absurd (cc is)
+
+became_more : (old : Listing) (payloads : List (List ℕ)) (result : Result ℕ KeepFault) (new : Listing) → IsOk old → BecomesMore old payloads result new → IsOk new
+became_more old payloads (Ok end) new is now = ap is_ok now ∙ ok_more payloads old is
+became_more old payloads (Err fault) new is (count, some) = ap is_ok some ∙ ok_more (take count payloads) old is
+
+-- nor does one of several
+pub still_list_all : (o n : Outlook) (payloads : List (List ℕ)) (result : Result ℕ KeepFault) → AppendsAll payloads (holding_of o) (holding_of n) result → (o.tells → IsOk (list_of o.seen)) → n.tells → IsOk (list_of n.seen)
+still_list_all o n payloads result appended is told = became_more (list_of o.seen) payloads result (list_of n.seen) (is (appended.tells.1 told)) (appended.list (appended.tells.1 told))
 
 -- only a keeper that was opened is ready, and so is its journal
 pub is_ready : (opened ready : Bool) → readiness_of opened ready ≡ Ready → (opened ≡ true) × (ready ≡ true)

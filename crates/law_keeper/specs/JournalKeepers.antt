@@ -5,7 +5,7 @@ use Rattle.desk_base.specs.declared.load_fault.LoadFault.{LoadFault}
 use Rattle.desk_base.specs.declared.load_fault.LoadFault.TheVariants.{Failed, Damaged, Memory}
 use Rattle.law_journal.specs.Disks.{Outlook, IsOutlook}
 use Rattle.law_journal.specs.Grammar.{Listing, gate_in, list_of}
-use Rattle.law_keeper.specs.Keepers.{Holding, IsHolding, Gives, Appends, LeavesNoMore, LeavesOneOfTwo}
+use Rattle.law_keeper.specs.Keepers.{Holding, IsHolding, Gives, Appends, AppendsAll, LeavesNoMore, LeavesOneOfTwo, LeavesFront}
 use Rattle.law_keeper.specs.declared.keep_fault.KeepFault.{KeepFault}
 use Rattle.law_keeper.specs.declared.readiness.Readiness.{Readiness}
 use Rattle.law_keeper.specs.declared.readiness.Readiness.TheVariants.{Unopened, Ready, Stopped}
@@ -35,15 +35,22 @@ holding_is o is = record {
   only_now = λ told list left. (left.0, is.only_now left.0 left.1, left.2);
 }
 
--- what is loaded, what an append makes of the list, and what a crash leaves of one, by the disk before and after
+-- what is loaded, what an append makes of the list, of one payload or of several, and what a crash leaves of one, by the
+-- disk before and after
 abbrev pub Loads : Outlook → ℕ → Outlook → Result (Option (List ℕ × ℕ)) LoadFault → Type 0
 Loads old cursor new result = Gives (holding_of old) cursor (holding_of new) result
 
 abbrev pub Adds : List ℕ → Outlook → Outlook → Result ℕ KeepFault → Type 0
 Adds payload old new result = Appends payload (holding_of old) (holding_of new) result
 
+abbrev pub AddsAll : List (List ℕ) → Outlook → Outlook → Result ℕ KeepFault → Type 0
+AddsAll payloads old new result = AppendsAll payloads (holding_of old) (holding_of new) result
+
 abbrev pub LeavesEither : List ℕ → Outlook → Outlook → Type 0
 LeavesEither payload old new = LeavesOneOfTwo payload (holding_of old) (holding_of new)
+
+abbrev pub LeavesSome : List (List ℕ) → Outlook → Outlook → Type 0
+LeavesSome payloads old new = LeavesFront payloads (holding_of old) (holding_of new)
 
 abbrev pub LeavesAsMuch : Outlook → Outlook → Type 0
 LeavesAsMuch old new = LeavesNoMore (holding_of old) (holding_of new)

@@ -1,10 +1,10 @@
 -- What is known of a keeper, and what its calls do to it.
-use Rattle.std.specs.Prelude.{ℕ, ◌≡◌, ◌≢◌, ◌⊎◌, ◌↔◌, ◌+◌, ◌<◌, ◌≤◌, List, [], ◌∷◌, ◌++◌, length, map, All, slice_get, Option, Some, None, Result, Ok, Err, IsOk, IfOk, IfErr, IsTrue, Vec}
+use Rattle.std.specs.Prelude.{ℕ, ◌≡◌, ◌≢◌, ◌⊎◌, ◌↔◌, ◌+◌, ◌<◌, ◌≤◌, List, [], ◌∷◌, ◌++◌, length, map, take, All, slice_get, Option, Some, None, Result, Ok, Err, IsOk, IfOk, IfErr, IsTrue, Vec}
 use Rattle.std.specs.declared.alloc.Global.{Global}
 use Rattle.desk_base.specs.Streams.{risen}
 use Rattle.desk_base.specs.declared.load_fault.LoadFault.{LoadFault}
 use Rattle.desk_base.specs.declared.load_fault.LoadFault.TheVariants as fault
-use Rattle.law_journal.specs.Grammar.{Listing, is_size, with_last}
+use Rattle.law_journal.specs.Grammar.{Listing, is_size, with_last, with_more}
 use Rattle.law_journal.specs.Journals.{IsNoDamage, Tells}
 use Rattle.law_keeper.specs.declared.keep_fault.KeepFault.{KeepFault}
 use Rattle.law_keeper.specs.declared.keep_fault.KeepFault.TheVariants as keep
@@ -80,6 +80,23 @@ pub record Appends (payload : List ℕ) (old new : Holding) (result : Result ℕ
   pub tells : old.tells ↔ new.tells
   pub tells_crash : old.tells_crash ↔ new.tells_crash
   pub list : old.tells → Becomes old.list payload result new.list
+  pub places : old.tells → KeepsPlaces old.place_of new.place_of
+  pub end : old.tells → IfOk result (λ end. new.place_of end ≡ size_of new.list)
+
+-- a list is another with some of these payloads behind it, the first ones: all of them, or fewer, or none
+abbrev pub IsWithFront : Listing → List (List ℕ) → Listing → Type 0
+IsWithFront old payloads list = (count : ℕ) × (list ≡ with_more (take count payloads) old)
+
+-- what an append of several payloads makes of a list: they stand behind it; after a refusal some of them, the first ones
+abbrev pub BecomesMore : Listing → List (List ℕ) → Result ℕ KeepFault → Listing → Type 0
+BecomesMore old payloads (Ok end) list = list ≡ with_more payloads old
+BecomesMore old payloads (Err fault) list = IsWithFront old payloads list
+
+-- an append of several payloads, which gives a cursor of the end of the list
+pub record AppendsAll (payloads : List (List ℕ)) (old new : Holding) (result : Result ℕ KeepFault) : Type 0 where
+  pub tells : old.tells ↔ new.tells
+  pub tells_crash : old.tells_crash ↔ new.tells_crash
+  pub list : old.tells → BecomesMore old.list payloads result new.list
   pub places : old.tells → KeepsPlaces old.place_of new.place_of
   pub end : old.tells → IfOk result (λ end. new.place_of end ≡ size_of new.list)
 
@@ -186,6 +203,11 @@ LeavesNoMore old new = old.tells_crash → LeavesOnly old.may_leave old new
 -- where a keeper tells it: a crash at any moment leaves the list from before an append, or that list with the payload
 abbrev pub LeavesOneOfTwo : List ℕ → Holding → Holding → Type 0
 LeavesOneOfTwo payload old new = old.tells_crash → LeavesOnly (IsWithOrWithout old.list payload) old new
+
+-- where a keeper tells its list and that, too: a crash at any moment leaves the list from before an append of several
+-- payloads, with some of them behind it, the first ones
+abbrev pub LeavesFront : List (List ℕ) → Holding → Holding → Type 0
+LeavesFront payloads old new = old.tells → old.tells_crash → LeavesOnly (IsWithFront old.list payloads) old new
 
 -- where a keeper tells it: a crash at any moment leaves a list that it could leave before the call, or the list itself
 abbrev pub LeavesOldOrSame : Holding → Holding → Type 0

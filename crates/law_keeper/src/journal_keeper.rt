@@ -1,7 +1,7 @@
 //! JournalKeeper: a keeper over a journal. A clause sees the journal, whether it was opened, and how much damage was
 //! found after that.
 
-ghost use Rattle.std.specs.Prelude.{◌≡◌, true, false, Err, IsOk, IsTrue, IfOk, length};
+ghost use Rattle.std.specs.Prelude.{◌≡◌, ◌<◌, true, false, All, Err, IsOk, IsTrue, IfOk, length};
 ghost use Rattle.desk_base.specs.Streams.{HasCause};
 ghost use Rattle.law_journal.specs.Disks.{Idles};
 ghost use Rattle.law_journal.specs.Grammar.{is_size, list_of};
@@ -9,10 +9,11 @@ ghost use Rattle.law_journal.specs.Journals.{HasLoadCause, IsListed, read_into, 
 ghost use Rattle.law_keeper.specs.declared.keep_fault.KeepFault.TheVariants as fault;
 ghost use Rattle.law_keeper.specs.JournalKeepers as over;
 ghost use Rattle.law_keeper.specs.Keepers as spec;
+ghost use Rattle.law_keeper.specs.Keepers.{bytes_of};
 
 use crate::{KeepFault, Keeper};
 use desk_base::{LoadFault, count_fault};
-use law_journal::{Disk, Journal, frame};
+use law_journal::{Disk, Journal, frame, frames};
 use std::alloc::Global;
 
 /// Where the first gate of a journal stands. A cursor is the place of a gate, counted from there.
@@ -69,6 +70,26 @@ fn append_to<D: Disk>(
     Ok(gate - FIRST)
 }
 
+// Frames payloads and appends them by one commit, and gives the cursor of the gate behind them.
+fn append_all_to<D: Disk>(
+    alloc: Global,
+    journal: &mut Journal<D>,
+    payloads: &[Vec<u8>],
+) -> Result<u64, KeepFault>
+    requires ready { journal.old.ready ≡ true }
+    requires some { 0 < length payloads.now }
+    requires sizes { All (λ payload. IsTrue (is_size (length payload.items))) payloads.now }
+    ensures appended { over.AddsAll (bytes_of payloads.now) (D.outlook journal.old.disk) (D.outlook journal.new.disk) result }
+    ensures crash { over.LeavesSome (bytes_of payloads.now) (D.outlook journal.old.disk) (D.outlook journal.new.disk) }
+    ensures ready { over.readiness_of true journal.new.ready ≡ spec.after_append result }
+    ensures listed { IsTrue journal.new.ready → IsListed (D.outlook journal.new.disk) journal.new.gate }
+    ensures cause { spec.HasAppendCause (D.faults journal.old.disk) (D.faults journal.new.disk) result }
+{
+    let framed = frames(alloc, payloads)?;
+    let gate = journal.append(&framed)?;
+    Ok(gate - FIRST)
+}
+
 // Counts damage that is found once a keeper has been opened.
 fn count_damage<T>(answer: &Result<T, LoadFault>, opened: bool, damages: &mut u64)
     ensures { over.CountsDamage opened damages.old damages.new answer.now }
@@ -118,6 +139,10 @@ impl<D: Disk> Keeper for JournalKeeper<D> {
 
     fn append(&mut self, alloc: Global, payload: &[u8]) -> Result<u64, KeepFault> {
         append_to(alloc, &mut self.journal, payload)
+    }
+
+    fn append_all(&mut self, alloc: Global, payloads: &[Vec<u8>]) -> Result<u64, KeepFault> {
+        append_all_to(alloc, &mut self.journal, payloads)
     }
 
     fn reopen(&mut self, _alloc: Global) -> Result<(), LoadFault> {

@@ -1,14 +1,14 @@
 //! Keeper: where payloads are kept. A clause sees what is known of it, its holding, whether it is ready, and a count of
 //! faults.
 
-ghost use Rattle.std.specs.Prelude.{◌≡◌, ℕ, length, Err, IfOk, IsTrue, OnErr};
+ghost use Rattle.std.specs.Prelude.{◌≡◌, ◌<◌, ℕ, length, All, Err, IfOk, IsTrue, OnErr};
 ghost use Rattle.law_journal.specs.Grammar.{is_size};
 ghost use Rattle.law_journal.specs.Journals.{MayBeAny, read_into};
 ghost use Rattle.law_keeper.specs.declared.keep_fault.KeepFault.TheVariants as fault;
 ghost use Rattle.law_keeper.specs.declared.readiness.Readiness.{Readiness};
 ghost use Rattle.law_keeper.specs.declared.readiness.Readiness.TheVariants.{Ready};
 ghost use Rattle.law_keeper.specs.Keepers as spec;
-ghost use Rattle.law_keeper.specs.Keepers.{Holding, IsHolding, IsSettled};
+ghost use Rattle.law_keeper.specs.Keepers.{Holding, IsHolding, IsSettled, bytes_of};
 
 use crate::KeepFault;
 use desk_base::LoadFault;
@@ -51,6 +51,25 @@ pub trait Keeper {
         ensures settled { readiness self.new ≡ Ready → IsSettled (holding self.new) }
         ensures ready { readiness self.new ≡ spec.after_append result }
         ensures cause { spec.HasAppendCause (faults self.old) (faults self.new) result };
+
+    /// Adds payloads at the end of the list, one or more, and gives the cursor of the new end. After a failure the keeper
+    /// has to be opened again, and then has some of them, the first ones; where memory is wanting it has some, too.
+    fn append_all(&mut self, alloc: Global, payloads: &[Vec<u8>]) -> Result<u64, KeepFault>
+        requires ready { readiness self.old ≡ Ready }
+        requires some { 0 < length payloads.now }
+        requires sizes { All (λ payload. IsTrue (is_size (length payload.items))) payloads.now }
+        ensures appended { spec.AppendsAll (bytes_of payloads.now) (holding self.old) (holding self.new) result }
+        ensures crash { spec.LeavesFront (bytes_of payloads.now) (holding self.old) (holding self.new) }
+        ensures settled { readiness self.new ≡ Ready → IsSettled (holding self.new) }
+        ensures ready { readiness self.new ≡ spec.after_append result }
+        ensures cause { spec.HasAppendCause (faults self.old) (faults self.new) result }
+    {
+        let mut end = self.append(alloc, payloads[0].as_slice())?;
+        for payload in &payloads[1..] {
+            end = self.append(alloc, payload.as_slice())?;
+        }
+        Ok(end)
+    }
 
     /// Opens the keeper, or opens it again.
     fn reopen(&mut self, alloc: Global) -> Result<(), LoadFault>

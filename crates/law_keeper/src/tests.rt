@@ -1,5 +1,8 @@
 //! A keeper in memory and one over a journal, driven through their bound.
 
+ghost use Rattle.std.specs.Prelude.{◌≡◌, All, IfOk, IsTrue, length};
+ghost use Rattle.law_journal.specs.Grammar.{is_size};
+
 use crate::{JournalKeeper, KeepFault, Keeper, MapKeeper, payloads, settle};
 use desk_base::LoadFault;
 use law_journal::MemoryDisk;
@@ -57,6 +60,51 @@ fn list_is_what_the_journal_has(rt: HostRuntime) -> Result<(), Fail> {
         keeper.disk().bytes(),
         b"AKNLAW01\x01\0\0\0\x02ab\x01\0\0\0\x01c\0".as_slice()
     );
+    Ok(())
+}
+
+// Two payloads, of two bytes and of one.
+fn two_payloads<R: AllocGlobal>(rt: &R) -> Result<Vec<Vec<u8>>, Fail>
+    ensures two { IfOk result (λ all. length all.items ≡ 2) }
+    ensures sizes { IfOk result (λ all. All (λ payload. IsTrue (is_size (length payload.items))) all.items) }
+{
+    let mut all = Vec::new(rt.alloc());
+    all.push(Vec::from_slice(rt.alloc(), b"ab")?)?;
+    all.push(Vec::from_slice(rt.alloc(), b"c")?)?;
+    Ok(all)
+}
+
+#[test]
+fn several_payloads_take_four_calls_of_a_disk(rt: HostRuntime) -> Result<(), Fail> {
+    // Opening an empty file makes six calls, and an append of two payloads four more. The eleventh call fails.
+    let mut keeper = on_disk(&rt, &[11])?;
+    let both = two_payloads(&rt)?;
+    assert_eq!(rt; keeper.reopen(rt.alloc()), Ok(()));
+    assert_eq!(rt; keeper.append_all(rt.alloc(), both.as_slice()), Ok(13));
+    assert_eq!(rt;
+        keeper.disk().bytes(),
+        b"AKNLAW01\x01\0\0\0\x02ab\x01\0\0\0\x01c\0".as_slice()
+    );
+    assert_eq!(rt;
+        keeper.append_all(rt.alloc(), both.as_slice()),
+        Err(KeepFault::Failed)
+    );
+    assert_eq!(rt; settle(rt.alloc(), &mut keeper, 13, b"ab"), Ok(None));
+    Ok(())
+}
+
+#[test]
+fn some_of_several_payloads_may_be_kept(rt: HostRuntime) -> Result<(), Fail> {
+    // A keeper in memory adds them one by one. The third call is the append of the second one.
+    let mut keeper = MapKeeper::new(rt.alloc(), &[3])?;
+    let both = two_payloads(&rt)?;
+    assert_eq!(rt; keeper.reopen(rt.alloc()), Ok(()));
+    assert_eq!(rt;
+        keeper.append_all(rt.alloc(), both.as_slice()),
+        Err(KeepFault::Failed)
+    );
+    assert_eq!(rt; settle(rt.alloc(), &mut keeper, 0, b"ab"), Ok(Some(1)));
+    assert_eq!(rt; keeper.append_all(rt.alloc(), both.as_slice()), Ok(3));
     Ok(())
 }
 

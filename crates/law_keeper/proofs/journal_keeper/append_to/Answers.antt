@@ -1,11 +1,10 @@
-use Rattle.std.proofs.Common.{◌≡◌, List, ℕ, subst, ap, ◌∙◌}
+use Rattle.std.proofs.Common.{[], ◌∷◌, subst, sym}
 use Rattle.std.proofs.lemmas.Result.{err_from_is_err_and}
-use Rattle.law_journal.specs.Grammar.{payload_of, list_of, with_last}
-use Rattle.law_journal.specs.Journals.{IsBeforeOrAfter}
+use Rattle.law_journal.specs.Journals.{AreFrames}
 use Rattle.law_journal.proofs.Resting.{listed}
 use Rattle.law_keeper.specs.JournalKeepers.{holding_of, holding_is}
 use Rattle.law_keeper.proofs.Moments.{rests}
-use Rattle.law_keeper.proofs.OverJournals.{failed, done}
+use Rattle.law_keeper.proofs.OverJournals.{failed, done, leaves_one}
 use Rattle.law_keeper.proofs.journal_keeper.append_to.Goals as goal
 
 pub returns-in_err-framed-clause-listed : goal.returns-in_err-framed-clause-listed
@@ -15,9 +14,17 @@ pub returns-in_err-gate-clause-appended : goal.returns-in_err-gate-clause-append
 returns-in_err-gate-clause-appended g c =
     let o = g.D.Disk.outlook c.args.journal.now.disk in
     let n = g.D.Disk.outlook c.append.new.self.disk in
-    let same : payload_of c.deref.result.now ≡ c.args.payload.now = ap payload_of c.deref.ensures.value ∙ c.in_ok-framed.ensures.payload in
+    let one = c.args.payload.now ∷ [] in
+    let f = subst (AreFrames one) (sym c.deref.ensures.value) c.in_ok-framed.ensures.frames in
     let p = err_from_is_err_and c.from_residual-in_err-gate.result c.from_residual-in_err-gate.ensures.1 in
-    rw (p.1, p.2) (failed o n c.args.payload.now (λ t. (c.append.ensures.any_moment t).tells, c.append.ensures.tells) (λ t. subst (λ (l : List ℕ). IsBeforeOrAfter o.seen l n.seen) same (c.append.ensures.left t)) c.append.ensures.gates)
+    rw (p.1, p.2) (failed o n c.args.payload.now (λ t. (c.append.ensures.any_moment one f t).tells, c.append.ensures.tells) (c.append.ensures.left one f) c.append.ensures.gates)
+
+pub returns-in_err-gate-clause-crash : goal.returns-in_err-gate-clause-crash
+returns-in_err-gate-clause-crash g c =
+    let o = g.D.Disk.outlook c.args.journal.now.disk in
+    let n = g.D.Disk.outlook c.append.new.self.disk in
+    let one = c.args.payload.now ∷ [] in
+    leaves_one o n c.args.payload.now (c.append.ensures.any_moment one (subst (AreFrames one) (sym c.deref.ensures.value) c.in_ok-framed.ensures.frames))
 
 pub overflow_sub-result : goal.overflow_sub-result
 overflow_sub-result g c = c.in_ok-gate.ensures.first
@@ -26,10 +33,18 @@ pub returns-clause-appended : goal.returns-clause-appended
 returns-clause-appended g c =
     let o = g.D.Disk.outlook c.args.journal.now.disk in
     let n = g.D.Disk.outlook c.append.new.self.disk in
-    let same : payload_of c.deref.result.now ≡ c.args.payload.now = ap payload_of c.deref.ensures.value ∙ c.in_ok-framed.ensures.payload in
+    let one = c.args.payload.now ∷ [] in
+    let f = subst (AreFrames one) (sym c.deref.ensures.value) c.in_ok-framed.ensures.frames in
     let j = c.append.new.self in
-    rw c.in_ok-gate.ensures.place (done o n c.args.payload.now j.gate (λ t. (c.append.ensures.any_moment t).tells, c.append.ensures.tells)
-    (λ t. subst (λ (l : List ℕ). list_of n.seen ≡ with_last l (list_of o.seen)) same (c.in_ok-gate.ensures.added t)) c.append.ensures.gates (c.append.ensures.listed c.in_ok-gate.ensures.ready))
+    rw c.in_ok-gate.ensures.place (done o n c.args.payload.now j.gate (λ t. (c.append.ensures.any_moment one f t).tells, c.append.ensures.tells)
+    (c.in_ok-gate.ensures.added one f) c.append.ensures.gates (c.append.ensures.listed c.in_ok-gate.ensures.ready))
+
+pub returns-clause-crash : goal.returns-clause-crash
+returns-clause-crash g c =
+    let o = g.D.Disk.outlook c.args.journal.now.disk in
+    let n = g.D.Disk.outlook c.append.new.self.disk in
+    let one = c.args.payload.now ∷ [] in
+    leaves_one o n c.args.payload.now (c.append.ensures.any_moment one (subst (AreFrames one) (sym c.deref.ensures.value) c.in_ok-framed.ensures.frames))
 
 pub returns-in_err-framed-clause-untouched : goal.returns-in_err-framed-clause-untouched
 returns-in_err-framed-clause-untouched g c = λ memory t.

@@ -1,5 +1,4 @@
 use Rattle.std.proofs.Common.{arith}
-use Rattle.law_journal.specs.Grammar.{payload_of}
 use Rattle.law_journal.proofs.Lists.{kept_gates}
 use Rattle.law_journal.proofs.Resting.{known, has_list, rests_known}
 use Rattle.law_journal.proofs.Windows.{empty_window}
@@ -10,7 +9,7 @@ append_at-requires-clause-rests g c = rests_known (g.D.Disk.outlook c.args.self.
 
 pub returns-in_err-self-clause-gates : goal.returns-in_err-self-clause-gates
 returns-in_err-self-clause-gates g c t =
-    kept_gates (g.D.Disk.outlook c.args.self.now.disk).seen (payload_of c.args.framed.now) (g.D.Disk.outlook c.append_at.new.disk).seen (c.append_at.ensures.left t)
+    kept_gates (g.D.Disk.outlook c.args.self.now.disk).seen c.requires.framed.0 (g.D.Disk.outlook c.append_at.new.disk).seen (c.append_at.ensures.left c.requires.framed.0 c.requires.framed.1 t)
 
 pub invariant_of-self-2 : goal.invariant_of-self-2
 invariant_of-self-2 g c =
@@ -22,4 +21,4 @@ returns-clause-listed g c = λ ready t. has_list (g.D.Disk.outlook c.append_at.n
 
 pub returns-clause-gates : goal.returns-clause-gates
 returns-clause-gates g c t =
-    kept_gates (g.D.Disk.outlook c.args.self.now.disk).seen (payload_of c.args.framed.now) (g.D.Disk.outlook c.append_at.new.disk).seen (c.append_at.ensures.left t)
+    kept_gates (g.D.Disk.outlook c.args.self.now.disk).seen c.requires.framed.0 (g.D.Disk.outlook c.append_at.new.disk).seen (c.append_at.ensures.left c.requires.framed.0 c.requires.framed.1 t)
