@@ -8,7 +8,7 @@ import checks
 from checks import check, over_a_folder, to_a_full_device
 from clients.messages import at_most, bytewise, whole
 from devices.journal_file import CUT, FILES, JOURNAL, called, journal, kept
-from models.followers import LONG, ONE, counted, frame, framed
+from models.followers import LONG, ONE, TOGETHER, acts, counted, frame, framed
 from rows import followers, histories
 
 NONE, FILE = journal(), journal(*ONE)
@@ -163,18 +163,20 @@ def held_file():
 
 
 def held_by_a_follower():
-    """While `follow` waits for frames it holds the file: another `follow` ends with 5, and what came by then is there."""
+    """While `follow` waits for frames it holds the file: another `follow` ends with 5. Of what came by then the first 256 are there, and the others
+    once the input ends."""
+    sent = acts(TOGETHER + 9)
     with checks.folder() as folder:
         child = subprocess.Popen([checks.PROGRAM, "follow"], stdin=subprocess.PIPE, stdout=subprocess.PIPE, stderr=subprocess.DEVNULL, cwd=folder)
         with at_most(60, child):
-            child.stdin.write(frame(1, ONE[0]))
+            child.stdin.write(framed(sent[:-1]))
             child.stdin.flush()
             path = os.path.join(folder, JOURNAL)
-            while not os.path.exists(path) or kept(folder) != journal(ONE[0]):
+            while not os.path.exists(path) or kept(folder) != journal(*sent[:TOGETHER]):
                 if child.poll() is not None:
                     break
             check("a second follow", ended(folder, ["follow"], framed(ONE)), (5, b"", checks.HELD))
-            child.stdin.write(framed(ONE, 1))
+            child.stdin.write(framed(sent, len(sent) - 1))
             child.stdin.close()
             got = child.stdout.read()
-            check("the first follow", (child.wait(), got, kept(folder)), (*counted(3, 3), FILE))
+            check("the first follow", (child.wait(), got, kept(folder)), (*counted(len(sent), len(sent)), journal(*sent)))

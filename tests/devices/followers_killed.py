@@ -1,5 +1,5 @@
-"""`follow` of twenty frames that is killed at each of its calls of the system, or of which one fails: what was added by then is there, with at most
-the payload that came next, and `follow` run again ends with the leader's file."""
+"""`follow` of frames for three commits that is killed at each of its calls of the system, or of which one fails: what was committed by then is
+there, with at most the payloads of the next commit, and `follow` run again ends with the leader's file."""
 import collections
 import concurrent.futures
 import os
@@ -12,17 +12,20 @@ from checks import check
 from clients.messages import at_most
 from devices.crashes import NO_STRACE, OF_A_FILE, OF_STREAMS, calls_of, is_traced
 from devices.journal_file import JOURNAL, called, journal, kept
-from models.followers import LONG, counted, framed
+from models.followers import TOGETHER, acts, counted, framed
 from models.journal_openings import payloads
 
-TWENTY = LONG[:20]
-FRAMES = framed(TWENTY)
-ENDS = [len(framed(TWENTY[:count])) for count in range(len(TWENTY) + 1)]
+# How many payloads there are behind each commit.
+COMMITTED = [TOGETHER, 2 * TOGETHER, 2 * TOGETHER + 20]
+ALL = COMMITTED[-1]
+SENT = acts(ALL)
+FRAMES = framed(SENT)
 EFFECTS = {"is a kill": "signal=KILL:when=%d", "fails with EIO": "error=EIO:when=%d", "fails with EIO from then on": "error=EIO:when=%d+"}
 KILL = "is a kill"
 
-# A call of the run, with how many payloads were synced before it, and how many bytes of the input were read.
-Point = collections.namedtuple("Point", "name number added taken")
+# A call of the run, with how many payloads were synced before it, how many there are once the next commit is, and how many bytes of the input
+# were read.
+Point = collections.namedtuple("Point", "name number added next taken")
 
 
 def traced(folder, output, *words):
@@ -39,13 +42,13 @@ def traced(folder, output, *words):
 
 def points_of(calls):
     """The calls of a run, each with what came before it. A gate is opened by a write of one byte, and counts once it is synced."""
-    added, taken, opens = 0, 0, False
+    coming, added, taken, opens = [*COMMITTED, ALL], 0, 0, False
     for call in calls:
-        yield Point(call.name, call.number, added, taken)
+        yield Point(call.name, call.number, added, coming[0], taken)
         if call.name == "pwrite64":
             opens = call.arguments.rsplit(", ", 2)[-2] == "1"
         elif call.name in ("fsync", "fdatasync") and opens:
-            added, opens = added + 1, False
+            added, opens = coming.pop(0), False
         elif call.name == "read":
             taken += call.result
 
@@ -55,21 +58,21 @@ def recorded():
     with checks.folder() as folder, tempfile.NamedTemporaryFile("r") as output:
         ended = traced(folder, output.name, "-y", "-xx", "-s", "32")
         found = list(points_of(calls_of(output)))
-        check("follow of twenty frames under strace", (ended, kept(folder)), ((*counted(20, 20), b""), journal(*TWENTY)))
-    synced = [point.added for point in found]
-    check("the syncs of twenty payloads, and the bytes read", (max(synced), found[-1].taken, len(found) >= 80), (20, len(FRAMES), True))
+        check("follow of the frames under strace", (ended, kept(folder)), ((*counted(ALL, ALL), b""), journal(*SENT)))
+    synced = sorted({point.added for point in found})
+    check("the syncs of three commits, and the bytes read", (synced, found[-1].taken), ([0, *COMMITTED], len(FRAMES)))
     return found
 
 
 def endings(point, effect):
     """How a run may end on which that call has that effect: a tolerated fault of the journal, or the status of what has failed."""
     if effect == KILL:
-        return [(-signal.SIGKILL, written, b"") for written in (b"", *([counted(20, 20)[1]] if point.name == "write" else []))]
+        return [(-signal.SIGKILL, written, b"") for written in (b"", *([counted(ALL, ALL)[1]] if point.name == "write" else []))]
     if point.name == "read":
         return [(3, b"", checks.SAID[3])]
     if point.name == "write":
         return [(4, b"", said) for said in (checks.SAID[4], b"")]
-    return [(5, b"", checks.SAID[5]), (5, b"", checks.HELD), (*counted(20, 20), b"")]
+    return [(5, b"", checks.SAID[5]), (5, b"", checks.HELD), (*counted(ALL, ALL), b"")]
 
 
 def fault_of(point, effect):
@@ -78,16 +81,16 @@ def fault_of(point, effect):
         ended = traced(folder, "/dev/null", "-e", f"inject={point.name}:" + EFFECTS[effect] % point.number)
         wrong = [] if ended in endings(point, effect) else [("ended", ended)]
         told, left = called(folder, "check"), payloads(kept(folder) or b"")
-        allowed = {point.added, point.added + 1} if ended[0] else {20}
+        allowed = {point.added, point.next} if ended[0] else {ALL}
         if effect != KILL and point.name == "read":
-            allowed = {sum(end <= point.taken for end in ENDS) - 1}
-        if left is None or len(left) not in allowed or left != TWENTY[:len(left)]:
+            allowed = {point.added}
+        if left is None or len(left) not in allowed or left != SENT[:len(left)]:
             wrong.append(("left", left and len(left), "and not", allowed))
         elif told[0] or not told[1].startswith(b"entries %d " % len(left)):
             wrong.append(("check", told))
         else:
             again = traced(folder, "/dev/null")[:2], kept(folder), os.listdir(folder)
-            if again != (counted(20, 20 - len(left), len(left)), journal(*TWENTY), [JOURNAL]):
+            if again != (counted(ALL, ALL - len(left), len(left)), journal(*SENT), [JOURNAL]):
                 wrong.append(("again", again[0], again[2]))
         return wrong
 

@@ -76,6 +76,14 @@ def filed(law, request, seen, **rest):
     return of(entry_bytes.command(8, entry_bytes.work("work"), entry_bytes.u32("seen", seen)), law, request, **rest)
 
 
+def acts(count):
+    """The payloads of a register of so many acts."""
+    return [enacted(f"/akn/gb/act/2010-05-01/{number}", number, number) for number in range(1, count + 1)]
+
+
+# How many frames `follow` gives its register together, at most.
+TOGETHER = 256
+
 # Short registers: an act, a repeal and its correction; another act; and a wide act, a repeal by a provision and its correction to one by none.
 ONE = [enacted(), recorded(), corrected()]
 BOTH = [enacted(limit=8192, format_=2), recorded(names="sec_9", format_=2), corrected()]

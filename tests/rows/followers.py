@@ -5,9 +5,13 @@ A row is (name, the payloads held before, what is sent, (the status and what is 
 """
 from models import entry_bytes
 from models.failing_keepers import CAPITAL, EXAMPLE
-from models.followers import BOTH, LARGEST, ONE, OTHER, corrected, counted, enacted, filed, frame, framed, recorded, refused, withdrawn
+from models.followers import BOTH, LARGEST, ONE, OTHER, TOGETHER
+from models.followers import acts, corrected, counted, enacted, filed, frame, framed, recorded, refused, withdrawn
 
 FIRST = frame(1, ONE[0])
+# More acts than are added together, and fewer, of 128,000 bytes each, that are 2.4 MiB.
+MANY = acts(2 * TOGETHER + 20)
+WIDE = [enacted(f"/akn/gb/act/2010-05-01/{k}", k, k, [entry_bytes.node(str(n), content="a" * 16_000) for n in range(1, 9)]) for k in range(1, 21)]
 
 # Frames of which none is refused.
 TAKEN = [
@@ -26,6 +30,9 @@ TAKEN = [
     ("frames of both formats again", BOTH, framed(BOTH), counted(3, 0, 3), BOTH),
     ("frames of the second format behind those of the first", ONE, frame(4, recorded("sec_1", 4, 4, names="a", format_=2)), counted(4, 1),
      [*ONE, recorded("sec_1", 4, 4, names="a", format_=2)]),
+    ("more frames than are added together", [], framed(MANY), counted(len(MANY), len(MANY)), MANY),
+    ("the last of them alone", MANY[:TOGETHER], framed(MANY), counted(len(MANY), len(MANY) - TOGETHER, TOGETHER), MANY),
+    ("frames of more bytes than are added together", [], framed(WIDE), counted(len(WIDE), len(WIDE)), WIDE),
     ("a payload of the largest length, past a gap", [], frame(2, bytes(LARGEST)) + FIRST, counted(1, 1, 0, 1), ONE[:1]),
 ]
 
@@ -48,7 +55,8 @@ NOT_WHOLE = [
 
 
 def of_no_frames():
-    """Each of them alone, behind frames, and in front of one where it does not take that for its payload."""
+    """Each of them alone, behind frames, and in front of one where it does not take that for its payload; and one behind many frames."""
+    yield "no frame, behind more frames than are added together", [], framed(MANY) + b"\n", refused(1, len(MANY) + 1), MANY
     for name, given in NO_FRAMES:
         yield f"{name}, in front", [], given + FIRST, refused(1, 1), []
     for name, given in NO_FRAMES + NOT_WHOLE:
@@ -78,6 +86,8 @@ CONFLICTS = [
     ("the same repeal by a provision", ONE, frame(2, BOTH[1]), refused(2, 2), ONE),
     ("bytes that are no entry, under a known number", ONE, frame(3, b"\x00"), refused(2, 3), ONE),
     ("a known entry under the number of another", ONE, frame(2, ONE[0]), refused(2, 2), ONE),
+    ("another act, behind more frames than are added together", [], framed(MANY) + frame(TOGETHER, OTHER[0]), refused(2, TOGETHER), MANY),
+    ("another act, of those that are not added yet", [], framed(MANY) + frame(len(MANY), OTHER[0]), refused(2, len(MANY)), MANY),
     ("a frame that was added by the same run", [], FIRST + frame(1, OTHER[0]) + frame(2, ONE[1]), refused(2, 1), ONE[:1]),
 ]
 NOT_ENTRIES = [
@@ -112,6 +122,7 @@ NOT_ACCEPTED = [
 
 def of_payloads():
     """Payloads that are no entries, and entries that may not stand there. Frames stand before them and behind."""
+    yield "a byte behind more frames than are added together", [], framed(MANY) + frame(len(MANY) + 1, b"\x00"), refused(3, len(MANY) + 1), MANY
     for name, payload in NOT_ENTRIES:
         yield name, ONE[:1], FIRST + frame(2, payload) + framed(ONE), refused(3, 2), ONE[:1]
     for name, held, payload, number in NOT_ACCEPTED:

@@ -1,5 +1,5 @@
 -- A follower that holds a front of a register, and is given the rest of it, holds the whole.
-use Rattle.std.proofs.Common.{◌≡◌, ◌∙◌, sym, ap, subst, refl, true, List, [], ◌∷◌, ◌++◌, length, take, drop, ℕ, ◌+◌, ◌-◌, ◌^◌, ◌≤◌, ◌<◌, Ok, Err, Result, arith, append_assoc, length-append, take-append-drop}
+use Rattle.std.proofs.Common.{◌≡◌, ◌∙◌, sym, ap, subst, refl, true, List, [], ◌∷◌, ◌++◌, length, take, drop, ℕ, ◌+◌, ◌-◌, ◌≤◌, Ok, Err, Result, arith, append_assoc, length-append, take-append-drop}
 use Rattle.std.specs.Prelude.{get_or, is_ok}
 use Rattle.std.specs.List.{AllByRecursion}
 use Rattle.std.specs.Str.{bytes_eq}
@@ -8,7 +8,7 @@ use Rattle.law_register.specs.declared.desk.damage.Damage.{Damage}
 use Rattle.law_register.specs.declared.register.entry.Entry.{Entry}
 use Rattle.law_register.proofs.Puts.{bytes_are}
 use Rattle.law_follow.specs.Following.{AreTrusted, CatchesUp, Course, after_one, begun, followed}
-use Rattle.law_follow.specs.Frames.{IsMessage, Message, frame, front_of}
+use Rattle.law_follow.specs.Frames.{Message, frame, front_of}
 use Rattle.law_follow.specs.Messages.{IsSent, StandAt, frames, messages_above, numbered}
 use Rattle.law_follow.specs.Opening.{opened}
 use Rattle.law_follow.specs.Taking.{after_answer, next_answer, old_answer, taken}

@@ -1,8 +1,8 @@
 -- How a follower goes on with one message more.
-use Rattle.std.proofs.Common.{◌≡◌, ◌∙◌, sym, ap, subst, refl, arith, ℕ, ◌+◌, ◌-◌, ◌^◌, Bool, true, false, List, [], ◌∷◌, ◌++◌, length, Option, Some, None, Result, Ok, Err, append_assoc, length-append}
+use Rattle.std.proofs.Common.{◌≡◌, ◌∙◌, sym, ap, subst, refl, arith, ℕ, ◌+◌, ◌-◌, ◌^◌, ◌<◌, ◌≤◌, List, [], ◌∷◌, ◌++◌, length, Option, Some, None, Result, Ok, Err, append_assoc, length-append}
 use Rattle.std.specs.Prelude.{min}
 use Rattle.std.proofs.lemmas.List.{append-nil}
-use Rattle.law_follow.specs.Frames.{Front, Message, front_of, holds}
+use Rattle.law_follow.specs.Frames.{Message, front_of, holds}
 use Rattle.law_follow.specs.Following.{AreTrusted, Course, HasCome, after_one, answer_of, begun, counted, followed, one_more}
 use Rattle.law_follow.specs.Messages.{AreRead, StandAt}
 use Rattle.law_follow.specs.Taking.{after_answer, after_taking, taken}
@@ -63,7 +63,7 @@ front_taking payloads number payload = by (taken payloads number payload)
     by (Ok Known) = front_self payloads
     by (Err refusal) = front_self payloads
 
-front_followed : (c : Course) (ms : List Message) → IsFrontOf c.payloads (followed c ms).payloads
+pub front_followed : (c : Course) (ms : List Message) → IsFrontOf c.payloads (followed c ms).payloads
 front_followed c [] = front_self c.payloads
 front_followed c (m ∷ ms) =
     front_then c.payloads (after_one c m).payloads (followed (after_one c m) ms).payloads
@@ -73,6 +73,13 @@ front_followed c (m ∷ ms) =
 pub has_grown : (input : Option (List ℕ)) (old : List (List ℕ)) (ms : List Message) (rest : Option (List ℕ)) (now : Course) → HasCome input old ms rest now
     → IsFrontOf old now.payloads
 has_grown input old ms rest now come = subst (λ (c : Course). IsFrontOf old c.payloads) come.goes (front_followed (begun old) ms)
+
+-- one that has more than it had was given messages
+pub some_read : (input : Option (List ℕ)) (old : List (List ℕ)) (ms : List Message) (rest : Option (List ℕ)) (now : Course) → HasCome input old ms rest now
+    → length old < length now.payloads → 1 ≤ length ms
+some_read input old [] rest now come more =
+    let same : length old ≡ length now.payloads = ap (λ (c : Course). length c.payloads) come.goes in absurd (omega (arith, same, more))
+some_read input old (m ∷ ms) rest now come more = omega arith
 
 -- a count that stands still at its last value
 again : (n : ℕ) → min (min (n + 1) (2 ^ 64 - 1) + 1) (2 ^ 64 - 1) ≡ min (n + 1 + 1) (2 ^ 64 - 1)

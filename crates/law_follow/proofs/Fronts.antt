@@ -1,6 +1,6 @@
 -- What stands at the front of bytes that are read piece by piece.
-use Rattle.std.proofs.Common.{◌≡◌, ◌∙◌, sym, ap, subst, refl, Bool, false, List, [], ◌∷◌, ◌++◌, length, take, drop, ℕ, zero, suc, ◌+◌, ◌≤◌, ◌<◌, ◌⊎◌, inl, inr, Option, Some, None, Result, Ok, Err, arith, length-append}
-use Rattle.std.specs.Prelude.{◌==◌, if◌then◌else◌}
+use Rattle.std.proofs.Common.{◌≡◌, ◌∙◌, sym, ap, subst, refl, Bool, true, false, List, [], ◌∷◌, ◌++◌, length, take, drop, ℕ, zero, suc, ◌+◌, ◌≤◌, ◌<◌, ◌⊎◌, inl, inr, Option, Some, None, Result, Ok, Err, arith, length-append}
+use Rattle.std.specs.Prelude.{◌==◌, nat_lt, if◌then◌else◌}
 use Rattle.std.proofs.lemmas.Bool.{lt-ltb, ne_eqb}
 use Rattle.std.proofs.lemmas.List.{append-nil, drop_all}
 use Rattle.law_follow.specs.Frames.{breaks, ends, holds, IsPieceOf, Reads, ReadsPayload, TakesFewer, TakesFewerOf, IsOfDevice, frame_size, framed, front_of, head_in, headed, payload_front, size_by}
@@ -24,6 +24,27 @@ front_headed all bytes rest begins most enough some =
 front_ends : (all : List ℕ) → all ≡ [] → front_of all ≡ ends
 unfolding front_of
 front_ends all none = ap (λ (bytes : List ℕ). if length bytes == 0 then ends else headed (head_in (take HEAD_SIZE bytes)) (drop HEAD_SIZE bytes)) none
+
+-- where nothing stands at the front, there are no bytes
+headed_on : (head : Option Head) (bytes : List ℕ) → headed head bytes ≡ ends → ⊥
+headed_on None bytes is = cc is
+headed_on (Some head) bytes is = by (nat_lt (length bytes) head.size) is
+  where
+    by : (t : Bool)
+        → (if t then breaks else holds (record { number = head.number; payload = take head.size bytes }) (drop head.size bytes)) ≡ ends
+        → ⊥
+    by true is = cc is
+    by false is = cc is
+
+pub front_ended : (all : List ℕ) → front_of all ≡ ends → all ≡ []
+unfolding front_of
+front_ended [] is = refl
+front_ended (x ∷ xs) is =
+    let all = x ∷ xs in
+    let more : (length all == 0) ≡ false = ne_eqb (length all) 0 (λ none. omega (arith, none)) in
+    absurd
+    (headed_on (head_in (take HEAD_SIZE all)) (drop HEAD_SIZE all)
+    (ap (λ (t : Bool). if t then ends else headed (head_in (take HEAD_SIZE all)) (drop HEAD_SIZE all)) (sym more) ∙ is))
 
 -- nothing was there
 pub none_read : (left new : Option (List ℕ)) (bytes : List ℕ) → IsPieceOf HEAD_SIZE left new bytes → length bytes ≡ 0 → Reads left new (Ok None)

@@ -13,6 +13,9 @@ mod Committing
 mod Opened
 mod Courses
 mod Handed
+mod Ahead
+mod Giving
+mod Reached
 mod Stops
 mod Written
 mod Catching

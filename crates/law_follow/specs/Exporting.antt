@@ -2,7 +2,6 @@
 use Rattle.std.specs.Prelude.{ℕ, ◌≡◌, true, List, ◌++◌, Option, Some, None, Result, Ok, Err}
 use Rattle.desk_base.specs.Streams.{AppendsFront, risen}
 use Rattle.law_keeper.specs.Keepers.{Holding}
-use Rattle.law_register.specs.declared.desk.open_fault.OpenFault.{OpenFault}
 use Rattle.law_follow.specs.Frames.{Message}
 use Rattle.law_follow.specs.Messages.{frames, messages_above}
 use Rattle.law_follow.specs.Opening.{HasFirstCause, Refuses, opened_of}

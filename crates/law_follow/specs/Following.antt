@@ -1,5 +1,5 @@
 -- A stream of frames that a keeper follows.
-use Rattle.std.specs.Prelude.{ℕ, ◌≡◌, ◌⊎◌, ◌↔◌, ◌+◌, ◌-◌, ◌^◌, true, min, List, [], ◌∷◌, ◌++◌, length, Option, Some, None, Result, Ok, Err}
+use Rattle.std.specs.Prelude.{ℕ, ◌≡◌, ◌≤◌, ◌⊎◌, ◌↔◌, ◌+◌, ◌-◌, ◌^◌, Bool, true, false, min, List, [], ◌∷◌, length, take, Option, Some, None, Result, Ok, Err, IsTrue}
 use Rattle.desk_base.specs.Streams.{risen}
 use Rattle.law_journal.specs.Grammar.{Listing}
 use Rattle.law_keeper.specs.Keepers.{Holding, Keeps, LeavesOldOrSame}
@@ -7,12 +7,10 @@ use Rattle.law_register.specs.declared.desk.open_fault.OpenFault.{OpenFault}
 use Rattle.law_follow.specs.Frames.{Message, Reads, message_of}
 use Rattle.law_follow.specs.Messages.{AreRead}
 use Rattle.law_follow.specs.Opening.{HasFirstCause, Refuses, opened_of}
-use Rattle.law_follow.specs.Replicas.{Standing, Stands, payloads_of, pending_of}
 use Rattle.law_follow.specs.Taking.{LeavesLists, after_taking, taken}
 use Rattle.law_follow.specs.Worlds.{IsFrontOf, RefusesNothing, is_register}
 use Rattle.law_follow.specs.declared.frame.Frame.{Frame}
 use Rattle.law_follow.specs.declared.frame.FrameFault.TheVariants as frame_fault
-use Rattle.law_follow.specs.declared.replica.Replica.{Replica}
 use Rattle.law_follow.specs.declared.taken.Taken.{Taken}
 use Rattle.law_follow.specs.declared.taken.Taken.TheVariants.{Added, Known}
 use Rattle.law_follow.specs.declared.taken.TakeFault.{TakeFault}
@@ -20,7 +18,6 @@ use Rattle.law_follow.specs.declared.taken.TakeFault.TheVariants as take_fault
 use Rattle.law_follow.specs.declared.followed.Followed.{Followed}
 use Rattle.law_follow.specs.declared.followed.FollowFault.{FollowFault}
 use Rattle.law_follow.specs.declared.followed.FollowFault.TheVariants as fault
-use Rattle.law_follow.specs.declared.followed.Refusal.{Refusal}
 use Rattle.law_follow.specs.declared.followed.Refusal.TheVariants as refusal
 use Rattle.law_follow.specs.declared.followed.Tally.{Tally}
 
@@ -81,47 +78,45 @@ pub record HasCome (input : Option (List ℕ)) (old : List (List ℕ)) (messages
   pub goes : followed (begun old) messages ≡ now
 
 -- behind these messages, with that rest of its input, a follower stops; so much is left then
-module _ (messages : List Message) (tally : Tally) (rest left : Option (List ℕ)) (new : Standing) where
+module _ (messages : List Message) (tally : Tally) (rest left : Option (List ℕ)) (new : List (List ℕ)) where
   -- the frame of a message that stands there was read, and the follower's answer is this
   pub record IsAsked (given : Result Taken TakeFault) (m : Message) : Type 0 where
     pub read : AreRead rest (m ∷ []) left
-    pub answered : taken new.payloads m.number m.payload ≡ given
+    pub answered : taken new m.number m.payload ≡ given
 
   -- the input has ended
   pub record HasEnded (done : Followed) : Type 0 where
     pub ended : Reads rest left (Ok None)
-    pub length_is : done.length ≡ length new.payloads
+    pub length_is : done.length ≡ length new
     pub tally_is : done.tally ≡ tally
-    pub settled : new.pending ≡ None
 
   -- what stands there is no frame, or not there whole
   pub record IsBroken (place : ℕ) : Type 0 where
     pub broken : Reads rest left (Err frame_fault.BadFrame)
     pub place_is : place ≡ one_more (length messages)
-    pub settled : new.pending ≡ None
 
   -- the message that stands there is refused
   pub record IsRefused (number : ℕ) (given : TakeFault) : Type 0 where
     pub message : Message
     pub asked : IsAsked (Err given) message
     pub number_is : number ≡ message.number
-    pub settled : new.pending ≡ None
-
-  -- the payload of the message that stands there may be added, and it is not known whether the keeper has it
-  pub record IsLeftPending : Type 0 where
-    pub message : Message
-    pub asked : IsAsked (Ok Added) message
-    pub pending : new.pending ≡ Some message.payload
 
   -- the frame that stands there could not be read
   pub record IsUnread : Type 0 where
     pub failed : Reads rest left (Err frame_fault.ReadFault)
-    pub settled : new.pending ≡ None
 
-  -- there was not enough memory to read it, or to take its message
+  -- nothing was read behind them, or the frame of one more message, or what is no frame
+  abbrev pub HasRead : Type 0
+  HasRead = (left ≡ rest) ⊎ (((m : Message) × AreRead rest (m ∷ []) left) ⊎ Reads rest left (Err frame_fault.BadFrame))
+
+  -- some were given to the keeper together, and it is not known how many of those it has
+  pub record IsLeftSome : Type 0 where
+    pub some : 1 ≤ length messages
+    pub behind : HasRead
+
+  -- there was not enough memory to read the frame that stands there, to take its message, or to give some to the keeper
   pub record IsWanting : Type 0 where
-    pub wanting : Reads rest left (Err frame_fault.Memory) ⊎ ((m : Message) × AreRead rest (m ∷ []) left)
-    pub settled : new.pending ≡ None
+    pub wanting : Reads rest left (Err frame_fault.Memory) ⊎ HasRead
 
   abbrev pub StopsAt : Result Followed FollowFault → Type 0
   StopsAt (Ok done) = HasEnded done
@@ -131,22 +126,34 @@ module _ (messages : List Message) (tally : Tally) (rest left : Option (List ℕ
   StopsAt (Err (fault.Refused (refusal.BadEntry number broken))) = IsRefused number (take_fault.BadEntry broken)
   StopsAt (Err (fault.Refused (refusal.NotAccepted number rule))) = IsRefused number (take_fault.NotAccepted rule)
   StopsAt (Err fault.ReadFault) = IsUnread
-  StopsAt (Err fault.KeeperFault) = IsLeftPending
+  StopsAt (Err fault.KeeperFault) = IsLeftSome
   StopsAt (Err fault.Memory) = IsWanting
 
--- a follower that had these payloads follows its input, and stops
-pub record HasFollowed (input : Option (List ℕ)) (old : List (List ℕ)) (left : Option (List ℕ)) (new : Standing)
+-- a follower that had these payloads follows its input, and stops: it has these then, whatever its keeper has
+pub record HasFollowed (input : Option (List ℕ)) (old : List (List ℕ)) (left : Option (List ℕ)) (new : List (List ℕ))
     (result : Result Followed FollowFault) : Type 0 where
   pub messages : List Message
   pub tally : Tally
   pub rest : Option (List ℕ)
-  pub come : HasCome input old messages rest (record { payloads = new.payloads; tally = tally })
+  pub come : HasCome input old messages rest (record { payloads = new; tally = tally })
   pub stops : StopsAt messages tally rest left new result
 
--- all payloads of a follower, with the one that is pending behind them
-abbrev pub all_of : List (List ℕ) → Option (List ℕ) → List (List ℕ)
-all_of payloads None = payloads
-all_of payloads (Some payload) = payloads ++ payload ∷ []
+-- what was read is taken before this is told: the stream was followed to its end, or a frame is refused
+abbrev pub is_whole : Result Followed FollowFault → Bool
+is_whole (Ok done) = true
+is_whole (Err (fault.Open why)) = false
+is_whole (Err (fault.Refused why)) = true
+is_whole (Err fault.ReadFault) = false
+is_whole (Err fault.KeeperFault) = false
+is_whole (Err fault.Memory) = false
+
+-- a list is a register, and what the fold makes of some of these messages, the first ones; of all of them, where that is so
+pub record HasTaken (old : List (List ℕ)) (messages : List Message) (result : Result Followed FollowFault) (list : Listing)
+    : Type 0 where
+  pub took : ℕ
+  pub is : list ≡ Ok (followed (begun old) (take took messages)).payloads
+  pub whole : IsTrue (is_whole result) → length messages ≤ took
+  pub legal : is_register (followed (begun old) (take took messages)).payloads ≡ true
 
 -- a list between two: it begins with the one, and the other begins with it
 pub record IsBetween (old new : List (List ℕ)) (list : Listing) : Type 0 where
@@ -155,27 +162,28 @@ pub record IsBetween (old new : List (List ℕ)) (list : Listing) : Type 0 where
   pub begins : IsFrontOf old payloads
   pub within : IsFrontOf payloads new
 
-abbrev pub IsBetweenThese : Replica → Replica → Listing → Type 0
-IsBetweenThese old new list = IsBetween (payloads_of old) (all_of (payloads_of new) (pending_of new.pending)) list
+-- the same of a stream that was followed: where what was read was taken, the list is the one with all of it
+abbrev pub IsKept : Result Followed FollowFault → List (List ℕ) → List (List ℕ) → Listing → Type 0
+IsKept result old new list = IsBetween old new list × (IsTrue (is_whole result) → list ≡ Ok new)
 
 -- a list that a crash could leave before, or one between
 abbrev pub IsOldOrBetween : Holding → List (List ℕ) → List (List ℕ) → Listing → Type 0
 IsOldOrBetween h old new list = h.may_leave list ⊎ IsBetween old new list
 
 -- the same over a keeper, before and after. Where it tells its list, that was the register with which the follower began, and
--- is what it has now, with the payload that is pending or without it; and where it tells that, a crash at any moment since the
--- beginning leaves a list that it could leave before, or one between
+-- is what the fold makes of the first of the messages that were read; and where it tells that, a crash at any moment since the
+-- beginning leaves a list that it could leave before, or one between that register and what all of them make of it
 pub record FollowsOver (input left : Option (List ℕ)) (before after : Holding) (result : Result Followed FollowFault)
     : Type 0 where
   pub old : List (List ℕ)
-  pub new : Standing
+  pub new : List (List ℕ)
   pub found : before.tells → before.list ≡ Ok old
   pub legal : is_register old ≡ true
   pub went : HasFollowed input old left new result
   pub tells : before.tells ↔ after.tells
-  pub kept : after.tells → Stands new.payloads new.pending after.list
-  pub legal_still : is_register new.payloads ≡ true
-  pub crash : LeavesLists (IsOldOrBetween before old (all_of new.payloads new.pending)) before after
+  pub kept : after.tells → HasTaken old went.messages result after.list
+  pub legal_still : is_register new ≡ true
+  pub crash : LeavesLists (IsOldOrBetween before old new) before after
 
 -- a keeper that is not opened keeps its list
 pub record IsUnopened (why : OpenFault) (before after : Holding) : Type 0 where
@@ -218,6 +226,14 @@ HasKeeperCause h before now (Err fault.ReadFault) = now ≡ before
 HasKeeperCause h before now (Err fault.KeeperFault) = now ≡ risen before
 HasKeeperCause h before now (Err fault.Memory) = now ≡ before
 
+-- a fault of the keeper, or of the memory that it wanted
+abbrev pub IsOfKeeper : FollowFault → Type 0
+IsOfKeeper (fault.Open why) = ⊥
+IsOfKeeper (fault.Refused why) = ⊥
+IsOfKeeper fault.ReadFault = ⊥
+IsOfKeeper fault.KeeperFault = Unit {0}
+IsOfKeeper fault.Memory = Unit {0}
+
 -- the frame that was read at a place of a stream, or why none was
 abbrev pub ReadsAt : ℕ → Option (List ℕ) → Option (List ℕ) → Result (Option Frame) FollowFault → Type 0
 ReadsAt place rest left (Ok None) = Reads rest left (Ok None)
@@ -241,32 +257,19 @@ answer_to number (Err (take_fault.NotAccepted rule)) = Err (fault.Refused (refus
 answer_to number (Err take_fault.KeeperFault) = Err fault.KeeperFault
 answer_to number (Err take_fault.Memory) = Err fault.Memory
 
--- a follower of which nothing is pending is given a message
-module _ (m : Message) (old : List (List ℕ)) (new : Standing) where
+-- a follower of which nothing is pending is given a message, and its keeper is not asked
+module _ (m : Message) (old new : List (List ℕ)) where
   -- it is not refused
   pub record IsTrusted (answer : Option Taken) : Type 0 where
     pub trusted : RefusesNothing (taken old m.number m.payload)
     pub answered : answer_of (taken old m.number m.payload) ≡ answer
-    pub payloads : new.payloads ≡ after_taking old m.number m.payload
-    pub settled : new.pending ≡ None
+    pub payloads : new ≡ after_taking old m.number m.payload
 
   -- it is refused
   pub record IsDenied (number : ℕ) (given : TakeFault) : Type 0 where
     pub answered : taken old m.number m.payload ≡ Err given
-    pub payloads : new.payloads ≡ old
+    pub payloads : new ≡ old
     pub number_is : number ≡ m.number
-    pub settled : new.pending ≡ None
-
-  -- its payload is pending
-  pub record IsKept : Type 0 where
-    pub answered : taken old m.number m.payload ≡ Ok Added
-    pub payloads : new.payloads ≡ old
-    pub pending : new.pending ≡ Some m.payload
-
-  -- nothing has come of it
-  pub record IsSpared : Type 0 where
-    pub payloads : new.payloads ≡ old
-    pub settled : new.pending ≡ None
 
   abbrev pub TakesMessage : Result (Option Taken) FollowFault → Type 0
   TakesMessage (Ok answer) = IsTrusted answer
@@ -276,5 +279,5 @@ module _ (m : Message) (old : List (List ℕ)) (new : Standing) where
   TakesMessage (Err (fault.Refused (refusal.BadEntry number broken))) = IsDenied number (take_fault.BadEntry broken)
   TakesMessage (Err (fault.Refused (refusal.NotAccepted number rule))) = IsDenied number (take_fault.NotAccepted rule)
   TakesMessage (Err fault.ReadFault) = ⊥
-  TakesMessage (Err fault.KeeperFault) = IsKept
-  TakesMessage (Err fault.Memory) = IsSpared
+  TakesMessage (Err fault.KeeperFault) = ⊥
+  TakesMessage (Err fault.Memory) = new ≡ old

@@ -6,6 +6,7 @@ pub mod Replicas
 pub mod Taking
 pub mod Followers
 pub mod Worlds
+pub mod Batches
 pub mod Messages
 pub mod Exporting
 pub mod Following

@@ -1,6 +1,10 @@
 //! Followed: what comes of a stream that is followed, and why it was not followed to its end.
 
+ghost use Rattle.std.specs.Prelude.{◌≡◌};
+ghost use Rattle.law_follow.specs.Faults.{keep_stop};
+
 use entry_codec::CodecFault;
+use law_keeper::KeepFault;
 use law_register::OpenFault;
 
 /// How the frames of a stream were answered. A count stands still at its last value.
@@ -57,12 +61,23 @@ pub enum Refusal {
 pub enum FollowFault {
     /// The keeper was not opened, and nothing was read.
     Open(OpenFault),
-    /// A frame is refused, and nothing behind it was read.
+    /// A frame is refused, and nothing behind it was read. Those before it are taken.
     Refused(Refusal),
-    /// The source failed. The count of its faults rose.
+    /// The source failed. The count of its faults rose. The last of the frames before may not be taken.
     ReadFault,
-    /// The keeper failed, and its count of faults rose. Its list may have the payload of the last frame, or not.
+    /// The keeper failed, and its count of faults rose. The last of the frames that were read may not be taken.
     KeeperFault,
-    /// There was not enough memory.
+    /// There was not enough memory. The last of the frames that were read may not be taken.
     Memory,
+}
+
+impl From<KeepFault> for FollowFault {
+    ghost from_gives = { λ given e. e ≡ keep_stop given };
+
+    fn from(given: KeepFault) -> Self {
+        match given {
+            KeepFault::Failed => FollowFault::KeeperFault,
+            KeepFault::Memory => FollowFault::Memory,
+        }
+    }
 }

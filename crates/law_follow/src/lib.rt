@@ -2,11 +2,13 @@
 //! what it is sent.
 #![tactic(auto)]
 
+mod batch;
 mod exporting;
 mod followed;
 mod follower;
 mod following;
 mod frame;
+mod gathering;
 mod judging;
 pub mod laws;
 mod opening;

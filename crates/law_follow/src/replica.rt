@@ -3,7 +3,9 @@
 
 ghost use Rattle.std.specs.Prelude.{◌≡◌, ◌≤◌, ◌∷◌, ◌++◌, [], None, OnOk};
 ghost use Rattle.law_follow.specs.Replicas.{IsPendingOn, IsRight, payloads_of, pending_of};
-ghost use Rattle.law_follow.specs.Taking.{resolved, resolved_end};
+ghost use Rattle.law_follow.specs.Taking.{Fits, resolved, resolved_end};
+ghost use Rattle.law_register.specs.Desk.States.{MayFollow};
+ghost use Rattle.entry_codec.specs.Entries.{spelling};
 
 use crate::judging::last_source;
 use desk_base::Memory;
@@ -45,6 +47,22 @@ impl Replica {
         self.register.reserve(entry)
     }
 
+    // An entry that may stand behind the others stands there, for which there is room.
+    pub(crate) fn push(&mut self, entry: Entry)
+        requires right { IsRight self.old }
+        requires settled { self.old.pending ≡ None }
+        requires follows { MayFollow self.old.register.entries entry }
+        requires room { 1 ≤ self.old.register.spare }
+        requires fits { Fits self.old.register.entries entry (spelling entry) }
+        ensures payloads { payloads_of self.new ≡ payloads_of self.old ++ spelling entry ∷ [] }
+        ensures end { self.new.end ≡ self.old.end }
+        ensures pending { self.new.pending ≡ None }
+        ensures right { IsRight self.new }
+    {
+        self.register.push(entry);
+        self.like = last_source(&self.register, self.like);
+    }
+
     // A payload that the keeper has stands behind the others, up to this cursor.
     pub(crate) fn commit(&mut self, pending: Pending, end: u64)
         requires right { IsRight self.old }
@@ -56,8 +74,7 @@ impl Replica {
         ensures right { IsRight self.new }
     {
         let Pending { entry, payload: _ } = pending;
-        self.register.push(entry);
-        self.like = last_source(&self.register, self.like);
+        self.push(entry);
         self.end = end;
     }
 

@@ -138,8 +138,8 @@ fn is_same(alloc: Global, register: &Register, index: usize, payload: &[u8]) -> 
     Ok(bytes.as_slice() == payload)
 }
 
-// Compares a payload with the one that stands at its number.
-fn recognize(
+/// Compares a payload with the one that stands at its number.
+pub(crate) fn recognize(
     alloc: Global,
     replica: &Replica,
     number: u64,
@@ -221,8 +221,8 @@ fn add_entry<K: Keeper>(
     }
 }
 
-// A payload that is pending has a size that a keeper takes.
-fn pending_has_size(register: &Register, pending: &Pending)
+/// A payload that is pending has a size that a keeper takes.
+pub(crate) fn pending_has_size(register: &Register, pending: &Pending)
     requires { IsPendingOn register.now pending.now }
     ensures { IsTrue (is_size (length pending.now.payload.items)) }
 {

@@ -83,7 +83,7 @@ module _ {S W K : Type 0} (left : S → Option (List ℕ)) (read_faults : S → 
   TellsFollowed (Err stops.Memory) status = EndsWith written write_faults sink sink_new status 7
 
   -- the register that is kept followed what the source had left: what is kept is what the fold of the step makes of the frames that
-  -- were taken, after a fault of the keeper with the payload of the last one or without it
+  -- were read, of the first of them where a device failed or memory was wanting
   pub record IsFollowed (status : ℕ) : Type 0 where
     pub ended : Result Followed FollowFault
     pub followed : FollowsOver (left source) (left source_new) (holding keeper) (holding keeper_new) ended

@@ -1,5 +1,5 @@
 -- One payload after another is written; the first that is not leaves those before it written whole.
-use Rattle.std.proofs.Common.{rules, ◌≡◌, ◌∙◌, sym, ap, subst, arith, ℕ, ◌+◌, ◌<◌, ◌≤◌, List, [], length, get_or, Option, Some, Ok, Err}
+use Rattle.std.proofs.Common.{rules, subst, arith, ℕ, ◌+◌, ◌<◌, List, [], length, get_or, Ok, Err}
 use Rattle.std.proofs.lemmas.List.{length-map}
 use Rattle.std.proofs.lemmas.Result.{err_from_is_err_and}
 use Rattle.desk_base.specs.Streams.{Appended}

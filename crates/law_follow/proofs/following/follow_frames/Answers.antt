@@ -1,96 +1,96 @@
--- Each message is given to a follower of which nothing is pending, until one is refused or the input ends.
-use Rattle.std.proofs.Common.{rules, ◌≡◌, ◌∙◌, sym, ap, subst, refl, ℕ, List, Option, Some, Ok, Err}
-use Rattle.std.proofs.lemmas.Result.{err_from_is_err_and}
-use Rattle.law_follow.specs.Following.{ReadsAt}
-use Rattle.law_follow.specs.Frames.{Message, message_of}
-use Rattle.law_follow.specs.Replicas.{payloads_of, standing_of}
-use Rattle.law_follow.specs.declared.frame.Frame.{Frame}
-use Rattle.law_follow.proofs.Courses.{front_self, front_then, gone_more, gone_none}
-use Rattle.law_follow.proofs.Handed.{none_given}
-use Rattle.law_follow.proofs.Stops.{leaves_more, leaves_none, length_of, stops_ended, stops_unread, stops_untaken, trusted_front, untaken_front}
+-- What the batch has is given to the keeper once all was read, or a frame is refused.
+use Rattle.std.proofs.Common.{◌≡◌, ◌∙◌, sym, subst, true, false, Err, ℕ, List}
+use Rattle.law_follow.specs.Following.{HasFollowed, IsBetween}
+use Rattle.law_follow.specs.Replicas.{payloads_of}
+use Rattle.law_follow.specs.declared.followed.Followed.{Followed}
+use Rattle.law_follow.proofs.Ahead.{all_held, more_held}
+use Rattle.law_follow.proofs.Giving.{between_given, between_held, leaves_given}
+use Rattle.law_follow.proofs.Stops.{late_keeper, late_source, no_whole, stops_late, ungiven_cause, ungiven_source, whole_cause}
 use Rattle.law_follow.proofs.following.follow_frames.Goals as goal
 
-pub frames-init : goal.frames-init
-frames-init g c =
-    let h = g.K.Keeper.holding c.args.keeper.now in
-    record {
-      gone = gone_none (g.S.Source.left c.args.source.now) (payloads_of c.args.replica.now);
-      grown = front_self (payloads_of c.args.replica.now);
-      settled = search rules;
-      right = search rules;
-      held = search rules;
-      tells = (λ told. told, λ told. told);
-      crash = leaves_none h (g.K.Keeper.readiness c.args.keeper.now) c.args.replica.now (g.met.K.Keeper.is_holding c.args.keeper.now)
-          c.requires.settled c.requires.held;
-      source_count = search rules;
-      keeper_count = search rules;
-    }
+pub returns-then-not-is_whole-clause-kept : goal.returns-then-not-is_whole-clause-kept
+returns-then-not-is_whole-clause-kept g c = λ told. (
+  c.judge_frames-went.ensures.kept told,
+  λ whole. absurd (let no : false ≡ true = sym c.if-not-is_whole.true ∙ c.is_whole.ensures ∙ whole in cc no),
+)
 
-pub frames-preserved : goal.frames-preserved
-frames-preserved g c =
+pub returns-in-Ok-clause-follows : goal.returns-in-Ok-clause-follows
+returns-in-Ok-clause-follows g c =
     let left = g.S.Source.left in
+    subst
+    (λ (ps : List (List ℕ)). HasFollowed (left c.args.source.now) (payloads_of c.args.replica.now) (left c.judge_frames-went.new.source) ps c.judge_frames-went.result)
+    (sym c.commit.ensures.payloads) c.judge_frames-went.ensures.follows
+
+pub returns-in-Ok-clause-kept : goal.returns-in-Ok-clause-kept
+returns-in-Ok-clause-kept g c = λ told.
+    let h = g.K.Keeper.holding c.commit.new.keeper in
+    let r = g.K.Keeper.readiness c.commit.new.keeper in
+    let first = payloads_of c.args.replica.now in
+    let held = c.in-Ok.ensures.held first (c.judge_frames-went.ensures.held (sym c.is_whole.ensures ∙ c.if-not-is_whole.false)) in (
+      between_held first h r c.commit.new.replica c.commit.new.batch held told,
+      λ whole. all_held first h r c.commit.new.replica c.commit.new.batch held c.in-Ok.ensures.whole told,
+    )
+
+pub returns-in-Ok-clause-crash : goal.returns-in-Ok-clause-crash
+returns-in-Ok-clause-crash g c =
     let holding = g.K.Keeper.holding in
-    let m : Message = message_of c.in-Some.frame in
-    let old = payloads_of c.args.replica.now in
-    let read = subst (λ (o : Option Frame). ReadsAt c.frames.place (left c.frames.source) (left c.next_frame.new.source) (Ok o)) c.in-Some.is
-    c.in_ok-frame.ensures.read in
-    let trusted = c.in_ok-answer.ensures.takes in
-    let grows = trusted_front m (payloads_of c.frames.replica) (standing_of c.take_frame.new.replica) c.in_ok-answer.answer trusted in
-    record {
-      gone = gone_more (left c.args.source.now) old (left c.frames.source) (left c.next_frame.new.source)
-          (payloads_of c.frames.replica) (payloads_of c.take_frame.new.replica) c.frames.tally c.counted-tally.result c.frames.place c.saturating_add-place.result
-          m c.in_ok-answer.answer c.frames.invariant.gone read trusted.trusted trusted.answered trusted.payloads c.counted-tally.ensures c.saturating_add-place.ensures;
-      grown = front_then old (payloads_of c.frames.replica) (payloads_of c.take_frame.new.replica) c.frames.invariant.grown grows;
-      settled = c.in_ok-answer.ensures.settled;
-      right = search rules;
-      held = search rules;
-      tells = (
-        λ told. c.in_ok-answer.ensures.tells.0 (c.frames.invariant.tells.0 told),
-        λ told. c.frames.invariant.tells.1 (c.in_ok-answer.ensures.tells.1 told),
-      );
-      crash = leaves_more (holding c.args.keeper.now) (holding c.frames.keeper) (holding c.take_frame.new.keeper)
-          c.args.replica.now c.frames.replica c.take_frame.new.replica c.frames.invariant.grown grows
-          c.frames.invariant.crash c.frames.invariant.settled c.in_ok-answer.ensures.crash;
-      source_count = search rules;
-      keeper_count = search rules;
-    }
+    leaves_given (payloads_of c.args.replica.now) (holding c.judge_frames-went.new.keeper) (g.K.Keeper.readiness c.judge_frames-went.new.keeper)
+    c.judge_frames-went.new.replica c.judge_frames-went.new.batch (c.judge_frames-went.ensures.held (sym c.is_whole.ensures ∙ c.if-not-is_whole.false))
+    (holding c.args.keeper.now) (holding c.commit.new.keeper) c.commit.new.replica c.commit.ensures.payloads c.judge_frames-went.ensures.crash
+    c.commit.ensures.tells.0 c.commit.ensures.crash
 
-pub returns-in_err-frame-clause-follows : goal.returns-in_err-frame-clause-follows
-returns-in_err-frame-clause-follows g c =
-    let left = g.S.Source.left in
-    let p = err_from_is_err_and c.from_residual.result c.from_residual.ensures.1 in
-    rw (p.1, p.2)
-    (stops_unread (left c.args.source.now) (left c.frames.source) (left c.next_frame.new.source) (payloads_of c.args.replica.now)
-    (standing_of c.frames.replica) c.frames.tally c.frames.place c.frames.invariant.gone
-    (none_given c.frames.replica.pending c.frames.invariant.settled) c.in_err-frame.field-0.0 c.in_err-frame.ensures.read)
-
-pub returns-in_err-answer-clause-follows : goal.returns-in_err-answer-clause-follows
-returns-in_err-answer-clause-follows g c =
-    let left = g.S.Source.left in
-    let m : Message = message_of c.in-Some.frame in
-    let read = subst (λ (o : Option Frame). ReadsAt c.frames.place (left c.frames.source) (left c.next_frame.new.source) (Ok o)) c.in-Some.is
-    c.in_ok-frame.ensures.read in
-    let p = err_from_is_err_and c.from_residual-in_err-answer.result c.from_residual-in_err-answer.ensures.1 in
-    rw (p.1, p.2)
-    (stops_untaken (left c.args.source.now) (left c.frames.source) (left c.next_frame.new.source) (payloads_of c.args.replica.now)
-    (payloads_of c.frames.replica) (standing_of c.take_frame.new.replica) c.frames.tally c.frames.place m c.frames.invariant.gone read
-    c.in_err-answer.field-0.0 c.in_err-answer.ensures.takes)
-
-pub returns-in_err-answer-clause-crash : goal.returns-in_err-answer-clause-crash
-returns-in_err-answer-clause-crash g c =
-    let holding = g.K.Keeper.holding in
-    let m : Message = message_of c.in-Some.frame in
-    leaves_more (holding c.args.keeper.now) (holding c.frames.keeper) (holding c.take_frame.new.keeper)
-    c.args.replica.now c.frames.replica c.take_frame.new.replica c.frames.invariant.grown
-    (untaken_front m (payloads_of c.frames.replica) (standing_of c.take_frame.new.replica) c.in_err-answer.field-0.0 c.in_err-answer.ensures.takes)
-    c.frames.invariant.crash c.frames.invariant.settled c.in_err-answer.ensures.crash
+pub returns-in-Ok-clause-keeper_cause : goal.returns-in-Ok-clause-keeper_cause
+returns-in-Ok-clause-keeper_cause g c =
+    let faults = g.K.Keeper.faults in
+    whole_cause (g.K.Keeper.holding c.args.keeper.now) (faults c.args.keeper.now) (faults c.judge_frames-went.new.keeper) (faults c.commit.new.keeper)
+    c.judge_frames-went.result c.in-Ok.ensures.cause c.judge_frames-went.ensures.keeper_cause
 
 pub returns-clause-follows : goal.returns-clause-follows
 returns-clause-follows g c =
     let left = g.S.Source.left in
-    let read = subst (λ (o : Option Frame). ReadsAt c.frames.place (left c.frames.source) (left c.next_frame.new.source) (Ok o)) c.in_default.is
-    c.in_ok-frame.ensures.read in
-    stops_ended (left c.args.source.now) (left c.frames.source) (left c.next_frame.new.source) (payloads_of c.args.replica.now)
-    (standing_of c.frames.replica) c.frames.tally c.frames.place c.frames.invariant.gone
-    (none_given c.frames.replica.pending c.frames.invariant.settled)
-    (record { length = c.len-length.result; tally = c.frames.tally }) read (c.len-length.ensures ∙ length_of c.frames.replica) refl
+    let first = payloads_of c.args.replica.now in
+    let old = payloads_of c.judge_frames-went.new.replica in
+    let whole : _ ≡ true = sym c.is_whole.ensures ∙ c.if-not-is_whole.false in
+    subst (λ (ps : List (List ℕ)). HasFollowed (left c.args.source.now) first (left c.judge_frames-went.new.source) ps (Err c.in-Err.fault))
+    (sym c.commit.ensures.payloads)
+    (stops_late (left c.args.source.now) (left c.judge_frames-went.new.source) first old
+    (more_held first (g.K.Keeper.holding c.judge_frames-went.new.keeper) (g.K.Keeper.readiness c.judge_frames-went.new.keeper)
+    c.judge_frames-went.new.replica c.judge_frames-went.new.batch (c.judge_frames-went.ensures.held whole) c.in-Err.ensures.some)
+    c.in-Err.fault c.in-Err.ensures.fault c.judge_frames-went.result whole c.judge_frames-went.ensures.follows)
+
+pub returns-clause-kept : goal.returns-clause-kept
+returns-clause-kept g c = λ told.
+    let first = payloads_of c.args.replica.now in
+    let list = (g.K.Keeper.holding c.commit.new.keeper).list in
+    let was = c.commit.ensures.tells.1 told in (
+      subst (λ (ps : List (List ℕ)). IsBetween first ps list) (sym c.commit.ensures.payloads)
+          (between_given first (g.K.Keeper.holding c.judge_frames-went.new.keeper) (g.K.Keeper.readiness c.judge_frames-went.new.keeper)
+          c.judge_frames-went.new.replica c.judge_frames-went.new.batch
+          (c.judge_frames-went.ensures.held (sym c.is_whole.ensures ∙ c.if-not-is_whole.false)) was list (c.commit.ensures.list was)),
+      λ whole. absurd (no_whole c.in-Err.fault c.in-Err.ensures.fault whole),
+    )
+
+pub returns-clause-crash : goal.returns-clause-crash
+returns-clause-crash g c =
+    let holding = g.K.Keeper.holding in
+    leaves_given (payloads_of c.args.replica.now) (holding c.judge_frames-went.new.keeper) (g.K.Keeper.readiness c.judge_frames-went.new.keeper)
+    c.judge_frames-went.new.replica c.judge_frames-went.new.batch (c.judge_frames-went.ensures.held (sym c.is_whole.ensures ∙ c.if-not-is_whole.false))
+    (holding c.args.keeper.now) (holding c.commit.new.keeper) c.commit.new.replica c.commit.ensures.payloads c.judge_frames-went.ensures.crash
+    c.commit.ensures.tells.0 c.commit.ensures.crash
+
+pub returns-clause-source_cause : goal.returns-clause-source_cause
+returns-clause-source_cause g c =
+    let faults = g.S.Source.faults in
+    ungiven_source Followed (faults c.args.source.now) (faults c.judge_frames-went.new.source) c.in-Err.fault c.in-Err.ensures.fault
+    (late_source (faults c.args.source.now) (faults c.judge_frames-went.new.source) c.judge_frames-went.result
+    (sym c.is_whole.ensures ∙ c.if-not-is_whole.false) c.judge_frames-went.ensures.source_cause)
+
+pub returns-clause-keeper_cause : goal.returns-clause-keeper_cause
+returns-clause-keeper_cause g c =
+    let faults = g.K.Keeper.faults in
+    let holding = g.K.Keeper.holding in
+    ungiven_cause Followed (holding c.args.keeper.now) (holding c.judge_frames-went.new.keeper) (faults c.args.keeper.now) (faults c.judge_frames-went.new.keeper)
+    (faults c.commit.new.keeper) c.in-Err.fault c.in-Err.ensures.fault
+    (late_keeper (holding c.args.keeper.now) (faults c.args.keeper.now) (faults c.judge_frames-went.new.keeper) c.judge_frames-went.result
+    (sym c.is_whole.ensures ∙ c.if-not-is_whole.false) c.judge_frames-went.ensures.keeper_cause)
+    c.in-Err.ensures.cause

@@ -1,11 +1,15 @@
-use Rattle.law_follow.proofs.Committing.{committed_right, spelled_last, spelled_more}
+use Rattle.std.proofs.Common.{◌∙◌, sym, ap, subst, ℕ, List, [], ◌∷◌, ◌++◌}
+use Rattle.law_follow.specs.Replicas.{payloads_of}
+use Rattle.law_follow.specs.Taking.{Fits}
 use Rattle.law_follow.proofs.replica.Replica.commit.Goals as goal
+
+pub push-requires-clause-fits : goal.push-requires-clause-fits
+push-requires-clause-fits c =
+    subst (λ (l : List ℕ). Fits c.args.self.now.register.entries c.args.pending.entry l) (sym c.requires.follows.bytes) c.requires.follows.fits
 
 pub returns-clause-payloads : goal.returns-clause-payloads
 returns-clause-payloads c =
-    spelled_more c.args.self.now.register.entries c.args.pending c.push.new.self.entries c.push.ensures
-    (spelled_last c.args.self.now c.args.pending c.requires.follows)
+    c.push.ensures.payloads ∙ ap (λ (l : List ℕ). payloads_of c.args.self.now ++ l ∷ []) c.requires.follows.bytes
 
 pub returns-clause-right : goal.returns-clause-right
-returns-clause-right c =
-    committed_right c.args.self.now _ c.args.pending c.requires.right c.requires.follows c.push.ensures c.requires.settled
+returns-clause-right c = record { opens = c.push.ensures.right.opens; pending = c.push.ensures.right.pending }
