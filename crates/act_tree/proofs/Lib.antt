@@ -70,3 +70,6 @@ pub mod LevelsVisited
 pub mod Pieces
 pub mod OwnArenas
 pub mod OwnIndexes
+pub mod LowTexts
+pub mod LowNodes
+pub mod LowSpecs

@@ -1,10 +1,10 @@
 -- The pieces of a list: what stands at a place of one, and which of them a written value leaves.
-use Rattle.std.proofs.Common.{◌≡◌, ◌∙◌, sym, ap, refl, subst, ℕ, zero, suc, ◌+◌, ◌-◌, ◌*◌, ◌/◌, min, ◌%◌, ◌<◌, ◌≤◌, ◌==◌, Bool, true, false, true≢false, List, [], ◌∷◌, ◌++◌, length, get_or, set, take, drop, replicate, inl, inr, arith, suc-mul, div-lt_iff_lt-mul, le-div_iff_mul-le, add-mul, one-mul, take-add}
+use Rattle.std.proofs.Common.{◌≡◌, ◌∙◌, sym, ap, refl, subst, ℕ, zero, suc, ◌+◌, ◌-◌, ◌*◌, ◌/◌, min, ◌%◌, ◌<◌, ◌≤◌, Bool, true, false, true≢false, List, [], ◌∷◌, ◌++◌, length, get_or, set, take, drop, replicate, inl, inr, arith, suc-mul, div-lt_iff_lt-mul, le-div_iff_mul-le, add-mul, one-mul, take-add}
 use Rattle.std.specs.List.{refill}
 use Rattle.std.proofs.lemmas.Bool.{cases_lt, cases_eq}
 use Rattle.std.proofs.lemmas.Grind.{div_ceil_times}
 use Rattle.std.proofs.lemmas.Nat.{div-add-mod', mod_below, mul-le}
-use Rattle.std.proofs.lemmas.List.{length-set, length-take, length-drop, length_push, get_or-take, get_or-drop, get_or-set_same, get_or-set_other, get_or_append_left, get_or_push, get_or_past, get_or_default, drop-set-lt, drop-set-add, take-set-le, drop_all, drop-append-le, take-append-le, take_all, take_at, take_more, append-nil, length-replicate, get_or-replicate}
+use Rattle.std.proofs.lemmas.List.{length-set, length-take, length-drop, length_push, get_or-take, get_or-drop, get_or-set_same, get_or-set_other, get_or_append_left, get_or_push, get_or_past, get_or_default, set-get_or, drop-set-lt, drop-set-add, take-set-le, drop_all, drop-append-le, take-append-le, take_all, take_at, take_more, append-nil, length-replicate, get_or-replicate}
 use Rattle.std.proofs.lemmas.List.Concat.{flat_map-append}
 use lib.Seq.{take-set-lt}
 use Rattle.act_tree.specs.KeptLists.{ListValue, IsList, IsNoted, AreFresh, ArePieces, AreBlocks, joined_pieces, piece, values_in, room_in}
@@ -612,12 +612,17 @@ module _ {T : Type 0} (size : ℕ) (blocks : List (List (List T))) (v : List (Li
   pub blocks_now : (now : List (List T)) (new : List (List (List T))) → ArePieces size now new → (joined_pieces new ≡ now) × AreBlocks size new
   blocks_now now new made = (joined_are size now new made, subst (λ (ps : List (List T)). ArePieces size ps new) (sym (joined_are size now new made)) made)
 
-  pub blocks_set : (i : ℕ) (x : List T) (b p made : List (List T)) (new : List (List (List T))) → i < length v → b ≡ get_or blocks (i / size) b → p ≡ b → made ≡ set p (i % size) x → new ≡ set blocks (i / size) made
+  -- blocks of which one was written as it was
+  pub blocks_same : (k : ℕ) (b made : List (List T)) (new : List (List (List T))) → b ≡ get_or blocks k b → made ≡ b → new ≡ set blocks k made → (joined_pieces new ≡ v) × AreBlocks size new
+  blocks_same k b made new read same written =
+      subst (λ (bs : List (List (List T))). (joined_pieces bs ≡ v) × AreBlocks size bs) (sym (written ∙ ap (set blocks k) (same ∙ read) ∙ set-get_or blocks k b)) (is, are)
+
+  pub blocks_set : (i : ℕ) (x : List T) (b made : List (List T)) (new : List (List (List T))) → i < length v → b ≡ get_or blocks (i / size) b → made ≡ set b (i % size) x → new ≡ set blocks (i / size) made
       → (joined_pieces new ≡ set v i x) × AreBlocks size new
-  blocks_set i x b p made new low read same is written =
+  blocks_set i x b made new low read is written =
       blocks_now (set v i x) new (
       subst (λ (bs : List (List (List T))). ArePieces size (set v i x) bs) (sym written)
-      (pieces_set size v blocks i x made blocks_seen low (is ∙ ap (λ (q : List (List T)). set q (i % size) x) (block_read i low b p read same)))
+      (pieces_set size v blocks i x made blocks_seen low (is ∙ ap (λ (q : List (List T)). set q (i % size) x) (block_read i low b b read refl)))
       )
 
   -- how many pieces the last block has
@@ -626,10 +631,10 @@ module _ {T : Type 0} (size : ℕ) (blocks : List (List (List T))) (v : List (Li
       ap (λ (q : List (List T)). length q) (same ∙ read ∙ get_or_default blocks n b [] (omega (arith, last)) ∙ blocks_seen.here n (omega (arith, last))) ∙ length-take size (drop (n * size) v)
       ∙ ap (min size) (length-drop (n * size) v)
 
-  pub blocks_more : (n : ℕ) (x : List T) (b p made : List (List T)) (new : List (List (List T))) → length blocks ≡ n + 1 → length v < length blocks * size → b ≡ get_or blocks n b → p ≡ b → made ≡ p ++ x ∷ [] → new ≡ set blocks n made
+  pub blocks_more : (n : ℕ) (x : List T) (b made : List (List T)) (new : List (List (List T))) → length blocks ≡ n + 1 → length v < length blocks * size → b ≡ get_or blocks n b → made ≡ b ++ x ∷ [] → new ≡ set blocks n made
       → (joined_pieces new ≡ v ++ x ∷ []) × AreBlocks size new
-  blocks_more n x b p made new last room read same is written =
-      let here : made ≡ get_or blocks n [] ++ x ∷ [] = is ∙ ap (λ (q : List (List T)). q ++ x ∷ []) (same ∙ read ∙ get_or_default blocks n b [] (omega (arith, last))) in
+  blocks_more n x b made new last room read is written =
+      let here : made ≡ get_or blocks n [] ++ x ∷ [] = is ∙ ap (λ (q : List (List T)). q ++ x ∷ []) (read ∙ get_or_default blocks n b [] (omega (arith, last))) in
       blocks_now (v ++ x ∷ []) new (subst (λ (bs : List (List (List T))). ArePieces size (v ++ x ∷ []) bs) (sym written) (pieces_more size v blocks n x made blocks_seen last room here))
 
   pub blocks_next : (x : List T) (made ps none : List (List T)) (new : List (List (List T))) → length v ≡ length blocks * size → made ≡ ps → ps ≡ none ++ x ∷ [] → none ≡ [] → new ≡ blocks ++ made ∷ []

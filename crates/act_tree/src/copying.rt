@@ -1,11 +1,13 @@
 //! Copying and keeping: the slots as they lie, and the indexes with them. Where most of the slots are of what was taken off,
 //! the text is laid down anew, so that a copy of a copy does not hold that for ever.
 
-ghost use Rattle.std.specs.Prelude.{◌≡◌, true, IfOk};
+ghost use Rattle.std.specs.Prelude.{◌≡◌, ◌≤◌, true, IfOk};
 ghost use Rattle.act_tree.specs.Arena.{IsWhole, below_in, branches_below};
+ghost use Rattle.act_tree.specs.Branches.{heights};
 ghost use Rattle.act_tree.specs.Planted.{IsLaid};
-ghost use Rattle.act_tree.specs.Seen.{tree_view, has_node, branch_at};
+ghost use Rattle.act_tree.specs.Seen.{tree_view, has_node, branch_at, below_at};
 ghost use Rattle.act_tree.specs.Slots.{at, number, size, IsOwn};
+ghost use Rattle.act_tree.specs.declared.limits.TheConstants.{MAX_DEPTH};
 ghost use Rattle.eid_paths.specs.Nums.{is_num};
 
 use crate::arena::{Arena, Slot};
@@ -81,12 +83,13 @@ impl Arena {
     }
 }
 
-// Lays down a node of a tree in another arena, right above itself there, and all that stands beneath it. It takes as
-// much stack as the tree is deep.
+// Lays down a node of a tree in another arena, right above itself there, and all that stands beneath it, each child by a
+// call of its own.
 #[tactic(auto, using(crate::proofs::OwnArenas::laid_own, crate::proofs::OwnArenas::all_laid_own))]
 fn lay_again(alloc: Global, arena: &mut Arena, tree: &Tree, node: NodeId) -> Result<NodeId, Memory>
     requires node { has_node tree.now node ≡ true }
     requires own { IsOwn arena.old }
+    requires depth { heights (below_at tree.now node) ≤ MAX_DEPTH }
     ensures { IfOk result (λ id. IsLaid arena.old arena.new id (branch_at tree.now node)) }
 {
     let mut slot = tree.slot(node).copy(alloc)?;

@@ -1,10 +1,12 @@
 //! The eIds of provisions that stand in an arena.
 
-ghost use Rattle.std.specs.Prelude.{◌≡◌, true, Some, IfOk};
+ghost use Rattle.std.specs.Prelude.{◌≡◌, ◌≤◌, true, Some, IfOk};
 ghost use Rattle.act_tree.specs.Arena.{climbs};
+ghost use Rattle.act_tree.specs.Depths.{steps_up};
 ghost use Rattle.act_tree.specs.Eids as spec;
 ghost use Rattle.act_tree.specs.EidsOfNodes as up;
 ghost use Rattle.act_tree.specs.Slots.{at, size};
+ghost use Rattle.act_tree.specs.declared.limits.TheConstants.{MAX_DEPTH};
 
 use crate::arena::{Arena, Slot};
 use crate::{NodeId, eid_below};
@@ -33,7 +35,7 @@ fn eid_under(
     }
 }
 
-// The eId of a number whose way up is shorter than so many steps. `None`: it is the root's.
+// The eId of a number whose way up is shorter than so many steps. `None`: it is the root's. Each call goes one number up.
 fn eid_up(
     alloc: Global,
     arena: &Arena,
@@ -41,7 +43,8 @@ fn eid_up(
     id: NodeId,
     steps: usize,
 ) -> Result<Option<Text>, Memory>
-    requires { climbs steps (at arena.now) id ≡ true }
+    requires climbs { climbs steps (at arena.now) id ≡ true }
+    requires depth { steps_up steps (at arena.now) id ≤ MAX_DEPTH }
     ensures { IfOk result (λ eid. eid ≡ up.eid_up steps numbering (at arena.now) id) }
 {
     if id.place() == 0 {
@@ -62,6 +65,7 @@ pub fn eid_of_number(
 ) -> Result<Text, Memory>
     requires climbs { climbs (size arena.now) (at arena.now) id ≡ true }
     requires provision { id ≡ 0 → ⊥ }
+    requires depth { steps_up (size arena.now) (at arena.now) id ≤ MAX_DEPTH }
     ensures { IfOk result (λ eid. Some eid ≡ up.eid_up (size arena.now) numbering (at arena.now) id) }
 {
     let slot = &arena.slots[id.place()];

@@ -8,7 +8,7 @@ ghost use Rattle.std.specs.Borrow.{sem};
 ghost use Rattle.std.specs.Slice.{IsItemAt};
 ghost use Rattle.act_tree.specs.KeptLists.{piece, IsNoted, AreFresh, ArePieces};
 
-use crate::copied::Copied;
+use crate::copied::{Copied, copies};
 use crate::piece::Piece;
 use crate::piece_list::PieceList;
 use desk_base::Memory;
@@ -77,11 +77,7 @@ fn piece_of<T: Copied>(
 {
     let rest = &items[place * size..];
     let part = &rest[..size.min(rest.len())];
-    let mut copy = Vec::with_capacity(alloc, part.len())?;
-    for item in part {
-        copy.push(item.copied(alloc)?)?;
-    }
-    Piece::new(alloc, copy)
+    Piece::new(alloc, copies(alloc, part, 0)?)
 }
 
 // Makes a piece anew that is there.
@@ -392,11 +388,11 @@ impl<T: Copied, const SIZE: usize> KeptList<T, SIZE> {
     fn values(&self, alloc: Global) -> Result<Vec<T>, Memory>
         ensures { IfOk result (λ v. v.items ≡ self.now.items) }
     {
-        let mut own = Vec::with_capacity(alloc, self.len())?;
-        for place in 0..self.len() {
-            own.push(self[place].copied(alloc)?)?;
+        if self.is_own {
+            copies(alloc, &self.own, 0)
+        } else {
+            self.pieces.values(alloc, self.count)
         }
-        Ok(own)
     }
 }
 

@@ -18,10 +18,11 @@ ghost use Rattle.eid_paths.specs.declared.element.Element.{Element};
 
 use crate::{NodeId, Nodes, Refs, Tree};
 
-/// The limits that act and edit have to keep, in numbers: how deep a text is and how many provisions it has, the bytes of a
-/// heading, a content or a text of an edit, the bytes of a wId, and the refs of a node.
+/// The limits that act and edit have to keep, in numbers: how deep a text is, how deep what is brought may nest before it is
+/// judged, how many provisions a text has, the bytes of a heading, a content or a text of an edit, the bytes of a wId, and the refs of a node.
 pub fn limits_in_numbers()
     ensures depth { limit.MAX_DEPTH ≡ 12 }
+    ensures nested { limit.MAX_NESTED ≡ 64 }
     ensures nodes { limit.MAX_NODES ≡ 4096 }
     ensures wide_nodes { limit.MAX_WIDE_NODES ≡ 8192 }
     ensures text_bytes { limit.MAX_TEXT_BYTES ≡ 16384 }

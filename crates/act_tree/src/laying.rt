@@ -1,8 +1,8 @@
 //! Laying down: the nodes that an act brings become provisions, whose wIds are the eIds that they have there.
 
-ghost use Rattle.std.specs.Prelude.{◌≡◌, true, false, [], ◌∷◌, IfOk, OnErr, option_map};
+ghost use Rattle.std.specs.Prelude.{◌≡◌, ◌≤◌, true, false, [], ◌∷◌, IfOk, OnErr, option_map};
 ghost use Rattle.act_tree.specs.Arena.{below_in, branches_below, root_provision, IsWhole};
-ghost use Rattle.act_tree.specs.Branches.{branch, branches_of};
+ghost use Rattle.act_tree.specs.Branches.{branch, branches_of, heights};
 ghost use Rattle.act_tree.specs.Changes.{root_wid};
 ghost use Rattle.act_tree.specs.Eids as spec;
 ghost use Rattle.act_tree.specs.Eids.{all_enacted};
@@ -10,6 +10,7 @@ ghost use Rattle.act_tree.specs.Planted.{HasGrown, IsLaid, AreLaid};
 ghost use Rattle.act_tree.specs.Slots.{at, number, provision_of, size, IsOwn};
 ghost use Rattle.act_tree.specs.Specs.{own_of};
 ghost use Rattle.act_tree.specs.Wids.{wids, all_wids, is_among, one_twice};
+ghost use Rattle.act_tree.specs.declared.limits.TheConstants.{MAX_NESTED};
 ghost use Rattle.eid_paths.specs.Nums.{is_num};
 
 use crate::arena::{Arena, Slot};
@@ -100,7 +101,7 @@ pub fn lay(
 /// is `None`. `Err`: there was not enough memory; some of them
 /// may have been laid down behind what the arena had.
 #[cycle(laying)]
-#[tactic(auto, using(crate::proofs::OwnArenas::laid_own, crate::proofs::OwnArenas::all_laid_own))]
+#[tactic(auto, using(crate::proofs::OwnArenas::laid_own, crate::proofs::OwnArenas::all_laid_own, crate::proofs::LowSpecs::heights_listed))]
 pub fn lay_all(
     alloc: Global,
     arena: &mut Arena,
@@ -109,6 +110,7 @@ pub fn lay_all(
     nodes: &Nodes,
 ) -> Result<Vec<NodeId>, Memory>
     requires { IsOwn arena.old }
+    ensures depth { heights (branches_of nodes.now) ≤ MAX_NESTED }
     ensures laid { IfOk result (λ ids. AreLaid arena.old arena.new ids.items
         (all_enacted numbering (option_map (λ s. s.now) wid.entry) (branches_of nodes.now))) }
     ensures kept { OnErr result (HasGrown arena.old arena.new

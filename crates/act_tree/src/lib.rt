@@ -42,8 +42,8 @@ pub use build_fault::{BuildFail, BuildFault};
 pub use cause::Cause;
 pub use eid::eid_below;
 pub use limits::{
-    MAX_DEPTH, MAX_NODES, MAX_REFS, MAX_TEXT_BYTES, MAX_WID_BYTES, MAX_WIDE_NODES, NodeLimit,
-    is_wid,
+    MAX_DEPTH, MAX_NESTED, MAX_NODES, MAX_REFS, MAX_TEXT_BYTES, MAX_WID_BYTES, MAX_WIDE_NODES,
+    NodeLimit, is_wid,
 };
 pub use node_id::NodeId;
 pub use node_spec::{NodeSpec, Nodes};

@@ -1,7 +1,7 @@
 //! Limits of a text, and of what an act or an edit brings. `laws::limits_in_numbers` pins them.
 
-ghost use Rattle.std.specs.Prelude.{◌≡◌};
-ghost use Rattle.act_tree.specs.Branches.{branches_of};
+ghost use Rattle.std.specs.Prelude.{◌≡◌, ◌≤◌};
+ghost use Rattle.act_tree.specs.Branches.{branches_of, heights};
 ghost use Rattle.act_tree.specs.Limits as spec;
 ghost use Rattle.act_tree.specs.NodeLimits.{most_nodes};
 ghost use Rattle.act_tree.specs.Specs.{spec_view};
@@ -10,6 +10,9 @@ use crate::{NodeSpec, Nodes};
 
 /// The most levels of a text; a child of the root has depth 1.
 pub const MAX_DEPTH: u32 = 12;
+
+/// The most levels of nodes that an act or an edit brings, before it is judged whether they make a text.
+pub const MAX_NESTED: u32 = 64;
 
 /// The most provisions of a plain act, and of what an edit brings.
 pub const MAX_NODES: u32 = 4_096;
@@ -67,8 +70,10 @@ impl NodeSpec {
 impl Nodes {
     /// Whether none of these nodes has more refs than a node may have, nor any beneath them.
     #[cycle(refs)]
+    #[tactic(auto, using(crate::proofs::LowSpecs::heights_listed))]
     pub fn have_few_refs(&self) -> bool
-        ensures { result ≡ spec.have_few_refs (branches_of self.now) }
+        ensures depth { heights (branches_of self.now) ≤ MAX_NESTED }
+        ensures few { result ≡ spec.have_few_refs (branches_of self.now) }
     {
         for node in &self.items {
             if !node.has_few_refs() {

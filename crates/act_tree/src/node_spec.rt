@@ -1,7 +1,9 @@
 //! Nodes as an act or a payload brings them: a clause sees them as a list of nested branches.
 
-ghost use Rattle.std.specs.Prelude.{◌≡◌, [], ◌++◌, ◌∷◌, OnOk, OnErr};
+ghost use Rattle.std.specs.Prelude.{◌≡◌, ◌≤◌, [], ◌++◌, ◌∷◌, OnOk, OnErr};
+ghost use Rattle.act_tree.specs.Branches.{height};
 ghost use Rattle.act_tree.specs.Specs.{spec_view};
+ghost use Rattle.act_tree.specs.declared.limits.TheConstants.{MAX_NESTED};
 
 use crate::Refs;
 use desk_base::{Memory, Text};
@@ -27,7 +29,7 @@ pub struct NodeSpec {
     pub children: Nodes,
 }
 
-/// Nodes side by side, in order.
+/// Nodes side by side, in order. They nest at most `MAX_NESTED` levels, at each level of a nest: so deep goes each walk over them.
 #[derive(Debug, Drop)]
 #[cycle(nodes)]
 pub struct Nodes {
@@ -36,8 +38,9 @@ pub struct Nodes {
 }
 
 impl Model for Nodes {
-    ghost use Rattle.std.specs.Prelude.{List};
+    ghost use Rattle.std.specs.Prelude.{◌≤◌, List};
     ghost use Rattle.act_tree.specs.Branches.{Branch, tallest};
+    ghost use Rattle.act_tree.specs.declared.limits.TheConstants.{MAX_NESTED};
     ghost use Rattle.act_tree.specs.Provisions.{Own};
     ghost use Rattle.act_tree.specs.OwnCode.{own_code};
     ghost use Rattle.act_tree.specs.Codes.{branches_code};
@@ -49,6 +52,8 @@ impl Model for Nodes {
     ghost use Rattle.act_tree.specs.Specs.{specs_view};
 
     ghost view = { λ a. specs_view a.items.items };
+
+    ghost invariant = { λ a. tallest (specs_view a.items.items) ≤ MAX_NESTED };
 
     ghost size = { tallest };
 
@@ -70,6 +75,7 @@ impl Nodes {
 
     /// Adds a node behind the others.
     pub fn push(&mut self, node: NodeSpec) -> Result<(), Memory>
+        requires depth { height (spec_view node) ≤ MAX_NESTED }
         ensures ok { OnOk result (self.new ≡ self.old ++ spec_view node ∷ []) }
         ensures err { OnErr result (self.new ≡ self.old) }
     {

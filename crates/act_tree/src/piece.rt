@@ -1,13 +1,14 @@
 //! A piece of a list, which lists share: a clause sees it as the list of its values.
 
-ghost use Rattle.std.specs.Prelude.{◌≡◌, IfOk};
+ghost use Rattle.std.specs.Prelude.{◌≡◌, ◌<◌, [], ◌∷◌, ◌++◌, length, slice_set, IfOk, OnOk, OnErr};
 
+use crate::copied::{Copied, copies};
 use desk_base::Memory;
 use std::alloc::Global;
 use std::marker::Model;
 use std::sync::Arc;
 
-/// Values in order, which are shared and never changed.
+/// Values in order, which are shared. A piece that is shared is never changed: another one is made in its place.
 #[derive(Debug, Drop)]
 pub struct Piece<T> {
     items: Arc<Vec<T>>,
@@ -51,5 +52,40 @@ impl<T: Drop> Piece<T> {
         Ok(Piece {
             items: self.items.clone()?,
         })
+    }
+}
+
+impl<T: Copied> Piece<T> {
+    /// Puts another value in the place of one. `Err`: there was not enough memory, and nothing has changed.
+    pub fn set(&mut self, alloc: Global, place: usize, value: T) -> Result<(), Memory>
+        requires { place < length self.old }
+        ensures ok { OnOk result (self.new ≡ slice_set self.old place value) }
+        ensures err { OnErr result (self.new ≡ self.old) }
+    {
+        match Arc::get_mut(&mut self.items) {
+            Some(items) => items[place] = value,
+            None => {
+                let mut items = copies(alloc, self.as_slice(), 0)?;
+                items[place] = value;
+                self.items = Arc::new(alloc, items)?;
+            }
+        }
+        Ok(())
+    }
+
+    /// Adds a value behind the others. `Err`: there was not enough memory, and nothing has changed.
+    pub fn push(&mut self, alloc: Global, value: T) -> Result<(), Memory>
+        ensures ok { OnOk result (self.new ≡ self.old ++ value ∷ []) }
+        ensures err { OnErr result (self.new ≡ self.old) }
+    {
+        match Arc::get_mut(&mut self.items) {
+            Some(items) => items.push(value)?,
+            None => {
+                let mut items = copies(alloc, self.as_slice(), 1)?;
+                items.push(value)?;
+                self.items = Arc::new(alloc, items)?;
+            }
+        }
+        Ok(())
     }
 }

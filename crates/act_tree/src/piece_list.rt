@@ -2,7 +2,9 @@
 //! block, and one in which a piece became another a block more. A clause sees the list of the pieces.
 
 ghost use Rattle.std.specs.Prelude.{◌≡◌, ◌<◌, [], ◌∷◌, ◌++◌, ◌%◌, true, false, length, slice_index_or, slice_set, IfOk, OnOk, OnErr};
+ghost use Rattle.act_tree.specs.KeptLists.{joined_pieces};
 
+use crate::copied::{Copied, copies};
 use crate::piece::Piece;
 use desk_base::Memory;
 use std::alloc::Global;
@@ -11,6 +13,30 @@ use std::ops::Index;
 
 // How many pieces a block has; the last one may have fewer.
 const BLOCK: usize = 16;
+
+// Adds copies of the values of these pieces behind others.
+fn add_pieces<T: Copied>(alloc: Global, pieces: &[Piece<T>], all: &mut Vec<T>) -> Result<(), Memory>
+    ensures { OnOk result (all.new.items ≡ all.old.items ++ joined_pieces pieces.now) }
+{
+    for piece in pieces {
+        T::add_copies(alloc, piece.as_slice(), all)?;
+    }
+    Ok(())
+}
+
+// Adds copies of the values of the pieces of these blocks behind others.
+fn add_blocks<T: Copied>(
+    alloc: Global,
+    blocks: &[Piece<Piece<T>>],
+    all: &mut Vec<T>,
+) -> Result<(), Memory>
+    ensures { OnOk result (all.new.items ≡ all.old.items ++ joined_pieces (joined_pieces blocks.now)) }
+{
+    for block in blocks {
+        add_pieces(alloc, block.as_slice(), all)?;
+    }
+    Ok(())
+}
 
 /// Pieces in order, in blocks that are shared.
 #[derive(Debug, Drop)]
@@ -30,48 +56,6 @@ impl<T> Model for PieceList<T> {
     ghost view = { λ p. joined_pieces p.blocks.items };
 
     ghost invariant = { λ p. AreBlocks 16 p.blocks.items };
-}
-
-// The same pieces, shared, with room for one more.
-fn share<T: Drop>(alloc: Global, pieces: &[Piece<T>]) -> Result<Vec<Piece<T>>, Memory>
-    ensures { IfOk result (λ v. v.items ≡ pieces.now) }
-{
-    let mut shared = Vec::with_capacity(alloc, pieces.len())?;
-    for piece in pieces {
-        shared.push(piece.copy()?)?;
-    }
-    Ok(shared)
-}
-
-// The pieces of a block with another one in the place of one of them, as a block.
-fn with_other<T: Drop>(
-    alloc: Global,
-    block: &[Piece<T>],
-    place: usize,
-    piece: Piece<T>,
-) -> Result<Piece<Piece<T>>, Memory>
-    requires { place < length block.now }
-    ensures { IfOk result (λ p. p ≡ slice_set block.now place piece) }
-{
-    let mut pieces = share(alloc, block)?;
-    pieces[place] = piece;
-    Piece::new(alloc, pieces)
-}
-
-// The pieces of a block and another one behind them, as a block.
-fn with_next<T: Drop>(
-    alloc: Global,
-    block: &[Piece<T>],
-    piece: Piece<T>,
-) -> Result<Piece<Piece<T>>, Memory>
-    ensures { IfOk result (λ p. p ≡ block.now ++ piece ∷ []) }
-{
-    let mut pieces = Vec::with_capacity(alloc, block.len().saturating_add(1))?;
-    for piece in block {
-        pieces.push(piece.copy()?)?;
-    }
-    pieces.push(piece)?;
-    Piece::new(alloc, pieces)
 }
 
 impl<T> PieceList<T> {
@@ -109,7 +93,7 @@ impl<T: Drop> PieceList<T> {
     pub fn share(&self, alloc: Global) -> Result<Self, Memory>
         ensures { IfOk result (λ list. list ≡ self.now) }
     {
-        let blocks = share(alloc, &self.blocks)?;
+        let blocks = copies(alloc, &self.blocks, 0)?;
         Ok(PieceList { blocks })
     }
 
@@ -120,9 +104,7 @@ impl<T: Drop> PieceList<T> {
         ensures ok { OnOk result (self.new ≡ slice_set self.old place piece) }
         ensures err { OnErr result (self.new ≡ self.old) }
     {
-        let block = place / BLOCK;
-        let made = with_other(alloc, self.blocks[block].as_slice(), place % BLOCK, piece)?;
-        self.blocks[block] = made;
+        self.blocks[place / BLOCK].set(alloc, place % BLOCK, piece)?;
         Ok(())
     }
 
@@ -132,7 +114,7 @@ impl<T: Drop> PieceList<T> {
         ensures ok { OnOk result (self.new ≡ self.old ++ piece ∷ []) }
         ensures err { OnErr result (self.new ≡ self.old) }
     {
-        let mut pieces = Vec::with_capacity(alloc, 1)?;
+        let mut pieces = Vec::with_capacity(alloc, BLOCK)?;
         pieces.push(piece)?;
         let made = Piece::new(alloc, pieces)?;
         self.blocks.push(made)?;
@@ -148,9 +130,19 @@ impl<T: Drop> PieceList<T> {
             return self.begin(alloc, piece);
         }
         let last = self.blocks.len() - 1;
-        let made = with_next(alloc, self.blocks[last].as_slice(), piece)?;
-        self.blocks[last] = made;
+        self.blocks[last].push(alloc, piece)?;
         Ok(())
+    }
+}
+
+impl<T: Copied> PieceList<T> {
+    /// Copies of the values of all pieces, of which there are so many.
+    pub fn values(&self, alloc: Global, count: usize) -> Result<Vec<T>, Memory>
+        ensures { IfOk result (λ v. v.items ≡ joined_pieces self.now) }
+    {
+        let mut all = Vec::with_capacity(alloc, count)?;
+        add_blocks(alloc, &self.blocks, &mut all)?;
+        Ok(all)
     }
 }
 

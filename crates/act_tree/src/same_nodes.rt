@@ -1,9 +1,11 @@
 //! Equal nodes: those that say the same of themselves, with equal nodes beneath them.
 
-ghost use Rattle.std.specs.Prelude.{◌≡◌};
+ghost use Rattle.std.specs.Prelude.{◌≡◌, ◌≤◌};
 ghost use Rattle.std.specs.Cmp.{decided, partial_equiv_from_equiv};
+ghost use Rattle.act_tree.specs.Branches.{branches_of, heights};
 ghost use Rattle.act_tree.specs.SameNodes as spec;
 ghost use Rattle.act_tree.specs.Specs.{own_of, spec_view};
+ghost use Rattle.act_tree.specs.declared.limits.TheConstants.{MAX_NESTED};
 
 use crate::{NodeSpec, Nodes};
 
@@ -25,8 +27,10 @@ fn is_same_node(a: &NodeSpec, b: &NodeSpec) -> bool
 }
 
 #[cycle(same)]
+#[tactic(auto, using(crate::proofs::LowSpecs::heights_listed))]
 fn are_same_nodes(a: &Nodes, b: &Nodes) -> bool
-    ensures { result ≡ spec.same_nodes a.now b.now }
+    ensures depth { heights (branches_of a.now) ≤ MAX_NESTED }
+    ensures same { result ≡ spec.same_nodes a.now b.now }
 {
     if a.items.len() != b.items.len() {
         return false;

@@ -1,10 +1,11 @@
 //! Surveying: the nodes that an act or a payload brings, before a tree is built of them.
 
-ghost use Rattle.std.specs.Prelude.{◌≡◌, None, IfOk, OnOk, IfErr, option_map};
-ghost use Rattle.act_tree.specs.Branches.{branches_of};
+ghost use Rattle.std.specs.Prelude.{◌≡◌, ◌≤◌, None, IfOk, OnOk, IfErr, option_map};
+ghost use Rattle.act_tree.specs.Branches.{branches_of, heights};
 ghost use Rattle.act_tree.specs.Faults.{first_fault, FailsBy};
 ghost use Rattle.act_tree.specs.declared.limits.NodeLimit.TheVariants.{Plain};
 ghost use Rattle.act_tree.specs.Surveys.{seen, all_surveyed};
+ghost use Rattle.act_tree.specs.declared.limits.TheConstants.{MAX_NESTED};
 
 use crate::survey::Survey;
 use crate::{BuildFail, BuildFault, NodeLimit, Nodes, eid_below};
@@ -18,6 +19,7 @@ pub const NONE_THROUGHOUT: Numbering = Numbering {
 };
 
 // Surveys nodes below the one of the eId `above`, or right below the root where that is `None`, under so many levels.
+#[tactic(auto, using(crate::proofs::LowSpecs::heights_listed))]
 fn survey(
     alloc: Global,
     survey_so_far: &mut Survey,
@@ -26,7 +28,8 @@ fn survey(
     levels: u32,
     nodes: &Nodes,
 ) -> Result<(), Memory>
-    ensures { let eid = option_map (λ s. s.now) above.entry in OnOk result (seen survey_so_far.new
+    ensures depth { heights (branches_of nodes.now) ≤ MAX_NESTED }
+    ensures seen { let eid = option_map (λ s. s.now) above.entry in OnOk result (seen survey_so_far.new
         ≡ all_surveyed numbering eid levels (branches_of nodes.now) (seen survey_so_far.old)) }
 {
     let depth = levels.saturating_add(1);

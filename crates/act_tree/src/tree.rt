@@ -1,10 +1,12 @@
 //! Tree: the text of an act. A clause sees one as its numbering, its limit, its provisions and the number of its changes.
 
-ghost use Rattle.std.specs.Prelude.{◌≡◌, None, Some, if◌then◌else◌};
+ghost use Rattle.std.specs.Prelude.{◌≡◌, ◌≤◌, None, Some, if◌then◌else◌};
 ghost use Rattle.act_tree.specs.Arena.{IsWhole, below_in, branches_below};
+ghost use Rattle.act_tree.specs.Branches.{heights};
 ghost use Rattle.act_tree.specs.Single.{IsWhole-prop};
 ghost use Rattle.act_tree.specs.EidsOfWids.{level_of_own};
 ghost use Rattle.act_tree.specs.Slots.{at, number, provision_of, size, IsOwn};
+ghost use Rattle.act_tree.specs.declared.limits.TheConstants.{MAX_DEPTH};
 
 use crate::arena::{Arena, Slot};
 use crate::copying::arena_of_text;
@@ -23,7 +25,7 @@ use eid_paths::{Eid, Element, Level, Num, Numbering, parse_eid};
 use std::alloc::Global;
 use std::sync::ledger::Ledger;
 
-/// The text of an act: a root, and the provisions below it.
+/// The text of an act: a root, and the provisions below it, at most `MAX_DEPTH` levels of them. So deep goes each walk over them.
 #[derive(Debug, Drop)]
 pub struct Tree {
     numbering: Numbering,
@@ -33,6 +35,7 @@ pub struct Tree {
     seen: usize,
     arena: Arena,
     ghost whole: { IsWhole (at arena) (number arena) (size arena) } by { IsWhole-prop (at arena) (number arena) (size arena) },
+    ghost low: { heights (branches_below (size arena) (at arena) (below_in (at arena 0))) ≤ MAX_DEPTH },
 }
 
 /// What a node of a tree says.
@@ -97,7 +100,8 @@ impl Tree {
     ghost use Rattle.std.specs.List.{All};
     ghost use Rattle.eid_paths.specs.Nums.{is_num};
     ghost use Rattle.std.specs.Str.{bytes_eq};
-    ghost use Rattle.act_tree.specs.Branches.{Branches, branches_of, counts};
+    ghost use Rattle.act_tree.specs.Branches.{Branches, branches_of, counts, heights};
+    ghost use Rattle.act_tree.specs.declared.limits.TheConstants.{MAX_DEPTH};
     ghost use Rattle.act_tree.specs.Provisions.{Provision};
     ghost use Rattle.act_tree.specs.Faults.{first_fault, first_cause, all_owns, FailsBy};
     ghost use Rattle.act_tree.specs.Slots.{provision_of};
@@ -148,7 +152,8 @@ impl Tree {
         numbering: Numbering,
         limit: NodeLimit,
     ) -> Result<Tree, Memory>
-        requires { one_twice (all_wids (all_enacted numbering None (branches_of body.now))) ≡ false }
+        requires differ { one_twice (all_wids (all_enacted numbering None (branches_of body.now))) ≡ false }
+        requires depth { heights (branches_of body.now) ≤ MAX_DEPTH }
         ensures own { IfOk result (λ t. is_own t ≡ true) }
         ensures tree { IfOk result (λ t. tree_view t
             ≡ unchanged numbering limit (all_enacted numbering None (branches_of body.now))) }
@@ -384,6 +389,7 @@ impl Tree {
         ensures numbers { result.now ≡ children_at self.now id }
         ensures nodes { All (λ child. has_node self.now child ≡ true) result.now }
         ensures branches { branches_of (map (branch_at self.now) result.now) ≡ below_at self.now id }
+        ensures depth { heights (branches_of (map (branch_at self.now) result.now)) ≤ MAX_DEPTH }
     {
         self.arena.slots[id.place()].below.as_slice()
     }
@@ -458,7 +464,7 @@ impl Tree {
     }
 
     /// How many provisions stand on the way from the root down to a node, itself included: as many steps.
-    #[tactic(auto, using(crate::proofs::HowDeep::depth_is), unfolding(crate::specs::Seen::has_node))]
+    #[tactic(auto, using(crate::proofs::HowDeep::depth_is, crate::proofs::LowNodes::steps_low), unfolding(crate::specs::Seen::has_node))]
     pub fn depth(&self, id: NodeId) -> u32
         requires { has_node self.now id ≡ true }
         ensures { result ≡ depth_of (provision_at self.now id).wid (tree_view self.now).body }
@@ -556,8 +562,8 @@ impl Tree {
     }
 
     /// Puts nodes in the place of a node and of all that stands beneath it; of the root, in the place of what stands
-    /// beneath it. They get the wIds of the modification `by`. `Err`: there was not enough memory, and the tree is as
-    /// it was.
+    /// beneath it. They get the wIds of the modification `by`, and the text that comes of it is no deeper than a text may be.
+    /// `Err`: there was not enough memory, and the tree is as it was.
     pub fn replace<L: Ledger>(
         &mut self,
         alloc: Global,
@@ -570,6 +576,7 @@ impl Tree {
         requires node { has_node self.old id ≡ true }
         requires payload { first_fault NONE_THROUGHOUT Plain (branches_of nodes.now) ≡ None }
         requires fresh { has_brought by (tree_view self.old).body ≡ false }
+        requires depth { heights (substituted_at self.old id (brought by (branches_of nodes.now))) ≤ MAX_DEPTH }
         ensures own { is_own self.new ≡ true }
         ensures tree { OnOk result (tree_view self.new
             ≡ once_changed self.old (substituted_at self.old id (brought by (branches_of nodes.now)))) }
@@ -587,8 +594,8 @@ impl Tree {
         Ok(())
     }
 
-    /// Puts nodes among the children of a node, behind the first so many. They get the wIds of the modification `by`.
-    /// `Err`: there was not enough memory, and the tree is as it was.
+    /// Puts nodes among the children of a node, behind the first so many. They get the wIds of the modification `by`, and the
+    /// text that comes of it is no deeper than a text may be. `Err`: there was not enough memory, and the tree is as it was.
     pub fn graft<L: Ledger>(
         &mut self,
         alloc: Global,
@@ -603,6 +610,7 @@ impl Tree {
         requires place { place ≤ length (children_at self.old parent) }
         requires payload { first_fault NONE_THROUGHOUT Plain (branches_of nodes.now) ≡ None }
         requires fresh { has_brought by (tree_view self.old).body ≡ false }
+        requires depth { heights (grafted_at self.old parent place (brought by (branches_of nodes.now))) ≤ MAX_DEPTH }
         ensures own { is_own self.new ≡ true }
         ensures tree { OnOk result (tree_view self.new
             ≡ once_changed self.old (grafted_at self.old parent place (brought by (branches_of nodes.now)))) }
@@ -806,6 +814,7 @@ impl Tree {
         requires place { place ≤ length (children_at self.old parent) }
         requires payload { first_fault NONE_THROUGHOUT Plain (branches_of nodes.now) ≡ None }
         requires fresh { has_brought by (tree_view self.old).body ≡ false }
+        requires depth { heights (grafted_at self.old parent place (brought by (branches_of nodes.now))) ≤ MAX_DEPTH }
         ensures own { is_own self.new ≡ true }
         ensures tree { OnOk result (tree_view self.new
             ≡ with_body self.old (grafted_at self.old parent place (brought by (branches_of nodes.now)))) }
@@ -850,6 +859,7 @@ impl Tree {
         requires provision { id ≡ 0 → ⊥ }
         requires payload { first_fault NONE_THROUGHOUT Plain (branches_of nodes.now) ≡ None }
         requires fresh { has_brought by (tree_view self.old).body ≡ false }
+        requires depth { heights (substituted_at self.old id (brought by (branches_of nodes.now))) ≤ MAX_DEPTH }
         ensures own { is_own self.new ≡ true }
         ensures tree { OnOk result (tree_view self.new
             ≡ with_body self.old (substituted_at self.old id (brought by (branches_of nodes.now)))) }
@@ -867,6 +877,7 @@ impl Tree {
         requires own { is_own self.old ≡ true }
         requires payload { first_fault NONE_THROUGHOUT Plain (branches_of nodes.now) ≡ None }
         requires fresh { has_brought by (tree_view self.old).body ≡ false }
+        requires depth { heights (substituted_at self.old 0 (brought by (branches_of nodes.now))) ≤ MAX_DEPTH }
         ensures own { is_own self.new ≡ true }
         ensures tree { OnOk result (tree_view self.new
             ≡ with_body self.old (substituted_at self.old 0 (brought by (branches_of nodes.now)))) }

@@ -2,6 +2,7 @@ pub mod Forms
 pub mod Tokens
 pub mod Widths
 pub mod Values
+pub mod Nesting
 pub mod Parts
 pub mod Placing
 pub mod Places

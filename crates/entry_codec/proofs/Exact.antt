@@ -144,10 +144,10 @@ pub tested_exact : {V : Type 0} (rule : V → Bool) (f : Field V) → IsExact f 
 tested_exact rule f exact = record { takes = tested_takes rule f exact; again = tested_again rule f exact }
 
 -- a field, and one that depends on it
-abbrev paired : {A B : Type 0} → A → B × List ℕ → Read (A × B)
+abbrev pub paired : {A B : Type 0} → A → B × List ℕ → Read (A × B)
 paired a b = Ok ((a, b.0), b.1)
 
-abbrev then_next : {A B : Type 0} → (A → Field B) → A × List ℕ → Read (A × B)
+abbrev pub then_next : {A B : Type 0} → (A → Field B) → A × List ℕ → Read (A × B)
 then_next next a = (next a.0).read a.1 >>= paired a.0
 
 abbrev given_spell : {A B : Type 0} → Field A → (A → Field B) → A × B → List ℕ
@@ -191,7 +191,7 @@ pub record IsMade {A V : Type 0} (rule : V → Bool) (make : A → V) (parts : V
   pub ruled : (a : A) → f.fits a ≡ true → rule (make a) ≡ true
   pub whole : (v : V) (a : A) → rule v ≡ true → parts v ≡ Some a → make a ≡ v
 
-abbrev makes : {A V : Type 0} → (A → V) → A × List ℕ → Read V
+abbrev pub makes : {A V : Type 0} → (A → V) → A × List ℕ → Read V
 makes make a = Ok (make a.0, a.1)
 
 abbrev made_fits : {A V : Type 0} → (V → Bool) → (V → Option A) → Field A → V → Bool
@@ -365,10 +365,10 @@ record EachTaken {V : Type 0} (f : Field V) (n : ℕ) (bytes : List ℕ) (vs : L
   all : list_all f.fits vs ≡ true
   count : length vs ≡ n
 
-abbrev consed : {V : Type 0} → V → List V × List ℕ → Read (List V)
+abbrev pub consed : {V : Type 0} → V → List V × List ℕ → Read (List V)
 consed v vs = Ok (v ∷ vs.0, vs.1)
 
-abbrev then_each : {V : Type 0} → Field V → ℕ → V × List ℕ → Read (List V)
+abbrev pub then_each : {V : Type 0} → Field V → ℕ → V × List ℕ → Read (List V)
 then_each f n v = each_read f.read n v.1 >>= consed v.0
 
 each_takes : {V : Type 0} (f : Field V) → IsExact f → (n : ℕ) (bytes : List ℕ) (vs : List V) (rest : List ℕ) → AreBytes bytes

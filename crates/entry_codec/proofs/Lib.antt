@@ -11,3 +11,4 @@ pub mod Rules
 pub mod TypedParts
 pub mod KeptRules
 pub mod EachEntry
+pub mod LowNodes

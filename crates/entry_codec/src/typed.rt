@@ -1,11 +1,12 @@
 //! What the types of the parts of an entry promise. Each function looks at the parts and does nothing: it is called for its
 //! clause, by laws, and no program calls a law.
 
-ghost use Rattle.std.specs.Prelude.{◌≡◌, All, IfSome, length, nat_lt, true};
+ghost use Rattle.std.specs.Prelude.{◌≡◌, ◌≤◌, All, IfSome, length, nat_lt, true};
 ghost use Rattle.std.specs.List.{list_all};
 ghost use Rattle.desk_base.specs.Days.{IsDay};
-ghost use Rattle.act_tree.specs.Branches.{branches_of};
+ghost use Rattle.act_tree.specs.Branches.{branches_of, heights};
 ghost use Rattle.act_tree.specs.Specs.{own_of, spec_view};
+ghost use Rattle.act_tree.specs.declared.limits.TheConstants.{MAX_NESTED};
 ghost use Rattle.entry_codec.specs.Typed as spec;
 
 use act_tree::{NodeSpec, Nodes};
@@ -170,8 +171,10 @@ fn node_is_typed(node: &NodeSpec)
 }
 
 #[cycle(typed)]
+#[tactic(auto, using(act_tree::proofs::LowSpecs::heights_listed))]
 fn nodes_are_typed(nodes: &Nodes)
-    ensures { spec.AreNodes (branches_of nodes.now) }
+    ensures depth { heights (branches_of nodes.now) ≤ MAX_NESTED }
+    ensures typed { spec.AreNodes (branches_of nodes.now) }
 {
     for one in &nodes.items {
         node_is_typed(one);

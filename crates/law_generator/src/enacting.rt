@@ -1,6 +1,7 @@
 //! Enacting: the act of the generated register, 64 sections of one sentence each.
 
 ghost use Rattle.std.specs.Prelude.{◌≡◌, ◌≤◌, IfOk};
+ghost use Rattle.act_tree.specs.Branches.{height};
 ghost use Rattle.act_tree.specs.Specs.{spec_view};
 ghost use Rattle.law_generator.specs.Acts as spec;
 
@@ -22,10 +23,11 @@ fn sentence(alloc: Global, number: u64) -> Result<Text, Memory>
     Text::from_string(format!(in alloc; "Text {number}.")?)
 }
 
-// A section.
+// A section, with nothing beneath it.
 fn section(alloc: Global, number: u64) -> Result<NodeSpec, Memory>
     requires { number ≤ 64 }
-    ensures { IfOk result (λ node. spec_view node ≡ spec.section number) }
+    ensures node { IfOk result (λ node. spec_view node ≡ spec.section number) }
+    ensures depth { IfOk result (λ node. height (spec_view node) ≡ 1) }
 {
     let num = section_num(alloc, number)?;
     let heading = Text::copy_of(alloc, "")?;

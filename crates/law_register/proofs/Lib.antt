@@ -39,3 +39,4 @@ pub mod WhenEnacted
 pub mod ShownAlike
 pub mod BareActs
 pub mod Renewing
+pub mod LowAnswers

@@ -3,10 +3,11 @@
 ghost use Rattle.std.specs.Prelude.{◌≡◌, ◌+◌, ◌≤◌, ◌++◌, true, IfOk, OnOk, filter, length, map, not};
 ghost use Rattle.std.specs.List.{All};
 ghost use Rattle.std.specs.Option.{option_or};
-ghost use Rattle.act_tree.specs.Branches.{branches_of};
+ghost use Rattle.act_tree.specs.Branches.{branches_of, heights};
 ghost use Rattle.act_tree.specs.Changes.{is_in};
 ghost use Rattle.act_tree.specs.Seen.{tree_view, has_node, branch_at};
 ghost use Rattle.act_tree.specs.Wids.{all_wids};
+ghost use Rattle.act_tree.specs.declared.limits.TheConstants.{MAX_DEPTH};
 ghost use Rattle.law_register.specs.Answer.Soundness.{IsSound};
 ghost use Rattle.law_reports.specs.Correspondences as spec;
 ghost use Rattle.law_reports.specs.Tables.{IsOpen, Tells, row, rows_text, written};
@@ -19,9 +20,10 @@ use law_register::{AskFault, Known, QueryRule, Reading, Register, Replayer, know
 use std::alloc::Global;
 use std::sync::ledger::Ledger;
 
-// Adds the wIds of nodes and of all beneath them. It takes as much stack as the tree is deep.
+// Adds the wIds of nodes and of all beneath them, those right below each by a call of its own.
 fn add_wids(tree: &Tree, ids: &[NodeId], wids: &mut Vec<Text>) -> Result<(), Memory>
-    requires { All (λ id. has_node tree.now id ≡ true) ids.now }
+    requires nodes { All (λ id. has_node tree.now id ≡ true) ids.now }
+    requires depth { heights (branches_of (map (branch_at tree.now) ids.now)) ≤ MAX_DEPTH }
     ensures { OnOk result
         (wids.new.items ≡ wids.old.items ++ all_wids (branches_of (map (branch_at tree.now) ids.now))) }
 {

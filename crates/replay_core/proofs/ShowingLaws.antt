@@ -1,9 +1,9 @@
 -- Showing provisions side by side is showing each, with its flag and its eId.
-use Rattle.std.proofs.Common.{◌≡◌, ◌∙◌, sym, ℕ, ◌+◌, ◌<◌, Bool, List, [], ◌∷◌, ◌++◌, Option, Some, map, take, length, get_or, refl, ap}
+use Rattle.std.proofs.Common.{◌≡◌, ◌∙◌, sym, ℕ, ◌+◌, ◌<◌, Bool, List, [], ◌∷◌, ◌++◌, Option, Some, map, take, length, get_or, refl, ap, arith}
 use Rattle.std.proofs.lemmas.List.{map_push, take_more}
 use Rattle.eid_paths.specs.declared.numbering.Numbering.{Numbering}
 use Rattle.act_tree.specs.declared.tree.Tree.{Tree}
-use Rattle.act_tree.specs.Branches.{Branch, Branches, branch, branches_of, more_branches}
+use Rattle.act_tree.specs.Branches.{Branch, Branches, branch, branches_of, no_branches, more_branches, height, heights}
 use Rattle.act_tree.specs.Eids.{eid_below}
 use Rattle.act_tree.specs.Provisions.{Provision}
 use Rattle.act_tree.specs.Seen.{provision_at, branch_at, below_at}
@@ -20,6 +20,16 @@ module _ (known : Known) (reading : Reading) (day : ℕ) where
   branches_of-shown numbering flag above [] = refl
   branches_of-shown numbering flag above (b ∷ bs) =
       ap (more_branches (shown known reading day numbering flag above b)) (branches_of-shown numbering flag above bs)
+
+  -- what is shown nests as deep as the text
+  mutual
+    height_shown : (numbering : Numbering) (flag : Bool) (above : Option (List ℕ)) (b : Branch Provision) → height (shown known reading day numbering flag above b) ≡ height b
+    height_shown numbering flag above (branch p below) =
+        omega (arith, heights_shown numbering (flag_below known reading day flag p.wid) (Some (eid_below numbering above p.own.element p.own.num)) below)
+
+    pub heights_shown : (numbering : Numbering) (flag : Bool) (above : Option (List ℕ)) (bs : Branches Provision) → heights (all_shown known reading day numbering flag above bs) ≡ heights bs
+    heights_shown numbering flag above no_branches = refl
+    heights_shown numbering flag above (more_branches b bs) = omega (arith, height_shown numbering flag above b, heights_shown numbering flag above bs)
 
   -- a node is shown: with its flag and its eId, and those beneath it below these
   pub shown_one : (t : Tree) (n : Numbering) (flag bears : Bool) (above : Option (List ℕ)) (id : ℕ) (eid name : List ℕ) (node : Branch Shown) (below : Branches Shown) (kids : Branches Provision)

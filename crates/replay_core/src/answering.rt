@@ -1,11 +1,12 @@
 //! Answers: the text of an act on a day, or the first rule that a question breaks.
 
-ghost use Rattle.std.specs.Prelude.{◌≡◌, ◌∷◌, [], true, false, None, Some, IfOk, map};
+ghost use Rattle.std.specs.Prelude.{◌≡◌, ◌≤◌, ◌∷◌, [], true, false, None, Some, IfOk, map};
 ghost use Rattle.std.specs.List.{All};
-ghost use Rattle.act_tree.specs.Branches.{branches_of, listed};
+ghost use Rattle.act_tree.specs.Branches.{branches_of, height, heights, listed};
 ghost use Rattle.act_tree.specs.Faults.{eids_of};
 ghost use Rattle.act_tree.specs.Seen.{tree_view, has_node, provision_at, branch_at};
 ghost use Rattle.act_tree.specs.Wids.{one_twice};
+ghost use Rattle.act_tree.specs.declared.limits.TheConstants.{MAX_DEPTH};
 ghost use Rattle.law_register.specs.Answer.Answers as spec;
 ghost use Rattle.law_register.specs.Answer.Answers.{Answers, portion_among};
 ghost use Rattle.law_register.specs.Answer.ShownNodes.{shown_view};
@@ -26,6 +27,7 @@ use std::alloc::Global;
 fn top(tree: &Tree) -> &[NodeId]
     ensures nodes { All (λ id. has_node tree.now id ≡ true) result.now }
     ensures branches { branches_of (map (branch_at tree.now) result.now) ≡ (tree_view tree.now).body }
+    ensures depth { heights (branches_of (map (branch_at tree.now) result.now)) ≤ MAX_DEPTH }
 {
     tree.children(tree.root())
 }
@@ -40,6 +42,7 @@ fn whole(alloc: Global, on: &OnDay<'_>, tree: &Tree, flag: bool) -> Result<Answe
 
 // One provision alone.
 fn alone(alloc: Global, node: AnswerNode) -> Result<AnswerNodes, Memory>
+    requires depth { height (shown_view node) ≤ MAX_DEPTH }
     ensures { IfOk result (λ nodes. nodes ≡ shown_view node ∷ []) }
 {
     let mut nodes = AnswerNodes::new(alloc);
@@ -162,6 +165,7 @@ pub fn answer(
 }
 
 /// Whether a node of a tree bears on a day.
+#[tactic(auto, using(act_tree::proofs::LowNodes::deep_low))]
 pub fn flag_at(
     alloc: Global,
     known: &Known,

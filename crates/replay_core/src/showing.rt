@@ -1,12 +1,14 @@
 //! Showing: the provisions of a tree become those of an answer, each with its eId and its flag.
 
-ghost use Rattle.std.specs.Prelude.{◌≡◌, true, false, Some, IfOk, map, option_map};
+ghost use Rattle.std.specs.Prelude.{◌≡◌, ◌≤◌, true, false, Some, IfOk, IfSome, map, option_map};
 ghost use Rattle.std.specs.List.{All};
-ghost use Rattle.act_tree.specs.Branches.{branch, branches_of};
+ghost use Rattle.act_tree.specs.Branches.{branch, branches_of, height, heights};
+ghost use Rattle.act_tree.specs.Depths.{depth_of};
 ghost use Rattle.act_tree.specs.Eids as spec;
 ghost use Rattle.act_tree.specs.Faults.{eids_of};
 ghost use Rattle.act_tree.specs.Seen.{tree_view, has_node, provision_at, branch_at};
 ghost use Rattle.act_tree.specs.Wids.{one_twice};
+ghost use Rattle.act_tree.specs.declared.limits.TheConstants.{MAX_DEPTH};
 ghost use Rattle.law_register.specs.Answer.Answers.{shown_as, all_shown, portion_among, shown_tree};
 ghost use Rattle.law_register.specs.Answer.Flags as flags;
 ghost use Rattle.law_register.specs.Answer.Flags.{flag_below};
@@ -74,7 +76,7 @@ fn flag_of(on: &OnDay<'_>, tree: &Tree, above: bool, id: NodeId) -> Result<bool,
 }
 
 /// The provisions of an answer that these nodes become, below the one of the eId `above`, or right below the root where
-/// that is `None`, and below the flag. It takes as much stack as the tree is deep.
+/// that is `None`, and below the flag, those right below each node by a call of its own.
 pub fn show_all(
     alloc: Global,
     on: &OnDay<'_>,
@@ -83,7 +85,8 @@ pub fn show_all(
     above: Option<&str>,
     ids: &[NodeId],
 ) -> Result<AnswerNodes, Memory>
-    requires { All (λ id. has_node tree.now id ≡ true) ids.now }
+    requires nodes { All (λ id. has_node tree.now id ≡ true) ids.now }
+    requires depth { heights (branches_of (map (branch_at tree.now) ids.now)) ≤ MAX_DEPTH }
     ensures { IfOk result (λ shown. branches_of shown
         ≡ all_shown on.now.known.now on.now.reading on.now.day (tree_view tree.now).numbering flag
         (option_map (λ s. s.now) above.entry)
@@ -101,10 +104,11 @@ pub fn show_all(
 }
 
 /// The flag of a node, below a root of the flag: it is that of the nearest marked provision on the way up, and nothing
-/// else is looked at. It takes as much stack as that way is long.
+/// else is looked at. Each call goes one provision up.
 pub fn flag_of_node(on: &OnDay<'_>, tree: &Tree, flag: bool, node: NodeId) -> Result<bool, Memory>
     requires node { has_node tree.now node ≡ true }
     requires flag { flag ≡ flags.root_flag on.now.known.now on.now.reading on.now.day }
+    requires depth { depth_of (provision_at tree.now node).wid (tree_view tree.now).body ≤ MAX_DEPTH }
     ensures { IfOk result (λ found. flags.flag on.now.known.now on.now.reading on.now.day (tree_view tree.now).body
         (provision_at tree.now node).wid ≡ Some found) }
 {
@@ -123,6 +127,7 @@ pub fn flag_of_node(on: &OnDay<'_>, tree: &Tree, flag: bool, node: NodeId) -> Re
 
 /// The provision of an eId with all beneath it, below a root of the flag, in a tree in which no two have one eId. It is
 /// found as `Tree::find_eid` finds it, and only the way up from it is read for its flag.
+#[tactic(auto, using(act_tree::proofs::LowNodes::deep_low))]
 pub fn portion_of(
     alloc: Global,
     on: &OnDay<'_>,
@@ -132,7 +137,8 @@ pub fn portion_of(
 ) -> Result<Option<AnswerNode>, Memory>
     requires once { one_twice (eids_of (tree_view tree.now)) ≡ false }
     requires flag { flag ≡ flags.root_flag on.now.known.now on.now.reading on.now.day }
-    ensures { IfOk result (λ found. option_map shown_view found ≡ portion_among eid.now
+    ensures depth { IfOk result (λ found. IfSome found (λ node. height (shown_view node) ≤ MAX_DEPTH)) }
+    ensures portion { IfOk result (λ found. option_map shown_view found ≡ portion_among eid.now
         (shown_tree on.now.known.now on.now.reading on.now.day flag (tree_view tree.now))) }
 {
     let Some(id) = tree.find_eid(eid) else {

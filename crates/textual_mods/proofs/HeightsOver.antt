@@ -21,9 +21,9 @@ use Rattle.act_tree.proofs.StayingNodes.{leads_node}
 use Rattle.act_tree.proofs.Texts.{same_text, equal_text}
 use Rattle.textual_mods.specs.Insertions.{heights_over, height_with}
 use Rattle.textual_mods.specs.Substitutions.{goes, left, wid_of, text_left}
-use Rattle.textual_mods.proofs.InsertedTrees.{heights_owns, root_says}
+use Rattle.textual_mods.proofs.InsertedTrees.{root_says}
 use Rattle.textual_mods.proofs.LeftNodes.{left_none, left_more}
-use Rattle.textual_mods.proofs.Limits.{IsPlaced, is_placed}
+use Rattle.textual_mods.proofs.Limits.{IsPlaced, is_placed, heights_owns}
 use Rattle.textual_mods.proofs.Substituted.{clean_left}
 use Rattle.act_tree.specs.declared.limits.NodeLimit.TheVariants.{Plain}
 

@@ -37,7 +37,7 @@ use Rattle.textual_mods.specs.Edits.{unless_for, within_limits}
 use Rattle.textual_mods.specs.Insertions.{one_among, begins_again, all_begun_among, goes_on_again, on_among, heights_over, is_root, taken_among, fault_among, insertion_fault, have_nums}
 use Rattle.textual_mods.proofs.InsertionLimits.{after, clashes, twice_or, for_one, begun_put, counts_put, heights_put, unlike_put, short_put, begun_after, counts_after, heights_after, short_after, alike_after, of_one}
 use Rattle.textual_mods.proofs.JoinLimits.{times, times-append, few_once, once_few, one_if, or_none}
-use Rattle.textual_mods.proofs.Limits.{is_placed, is_short, fault_by, faultless}
+use Rattle.textual_mods.proofs.Limits.{is_placed, is_short, fault_by, faultless, heights_owns}
 use Rattle.textual_mods.proofs.OnePlace.{held_found}
 use Rattle.textual_mods.proofs.Starting.{owns_again}
 use Rattle.act_tree.proofs.WidsDiffer.{wids_differ}
@@ -45,10 +45,6 @@ use Rattle.act_tree.specs.declared.limits.TheConstants.{MAX_DEPTH}
 use Rattle.act_tree.specs.declared.limits.NodeLimit.{NodeLimit}
 use Rattle.act_tree.specs.declared.limits.NodeLimit.TheVariants.{Plain}
 use Rattle.act_tree.specs.NodeLimits.{most_nodes}
-
-pub heights_owns : (bs : Branches Provision) → heights (all_owns bs) ≡ heights bs
-heights_owns no_branches = refl
-heights_owns (more_branches (branch p below) bs) = omega (arith, heights_owns below, heights_owns bs)
 
 pub counts_owns : (bs : Branches Provision) → counts (all_owns bs) ≡ counts bs
 counts_owns no_branches = refl

@@ -1,17 +1,18 @@
 -- A text that keeps the limits, told limit by limit.
-use Rattle.std.proofs.Common.{◌≡◌, ◌∙◌, ap, refl, ℕ, ◌≤◌, Bool, true, false, cond, nat_lt, Option, Some, None, ◌⊎◌, inl, inr}
+use Rattle.std.proofs.Common.{◌≡◌, ◌∙◌, ap, refl, ℕ, ◌≤◌, Bool, true, false, cond, nat_lt, Option, Some, None, ◌⊎◌, inl, inr, arith}
 use Rattle.std.specs.Prelude.{option_map, Result, Ok, Err, OnOk, OnErr}
 use Rattle.std.proofs.lemmas.Bool.{cases_lt, lt-ltb, le-ltb}
 use Rattle.eid_paths.specs.declared.numbering.Numbering.{Numbering}
 use Rattle.act_tree.specs.declared.build_fault.BuildFault.{BuildFault}
 use Rattle.act_tree.specs.declared.build_fault.BuildFault.TheVariants.{EidTwice, TooDeep, TooManyNodes, TextTooLong}
-use Rattle.act_tree.specs.Branches.{Branches, heights, counts}
+use Rattle.act_tree.specs.Branches.{Branches, branch, no_branches, more_branches, heights, counts}
 use Rattle.act_tree.specs.Provisions.{Own, Provision}
 use Rattle.act_tree.specs.Faults.{all_eids, all_owns, have_long, first_fault, first_cause, fault_cause}
 use Rattle.act_tree.specs.Trees.{TreeValue}
 use Rattle.act_tree.specs.Wids.{one_twice}
 use Rattle.act_tree.specs.declared.cause.Cause.{Cause}
 use Rattle.desk_base.specs.declared.memory.Memory.{Memory}
+use Rattle.act_tree.proofs.LowTexts.{faultless_low}
 use Rattle.textual_mods.specs.Edits.{unless_for, within_limits, tree_after}
 use Rattle.textual_mods.specs.declared.outcome.Outcome.{Outcome}
 use Rattle.act_tree.specs.declared.limits.TheConstants.{MAX_DEPTH}
@@ -47,6 +48,10 @@ is_placed n limit bs none =
 pub is_short : (n : Numbering) (limit : NodeLimit) (bs : Branches Own) → first_fault n limit bs ≡ None → have_long bs ≡ false
 is_short n limit bs none = (tests (one_twice (all_eids n None bs)) (nat_lt MAX_DEPTH (heights bs)) (nat_lt (most_nodes limit) (counts bs)) (have_long bs) none).3
 
+pub heights_owns : (bs : Branches Provision) → heights (all_owns bs) ≡ heights bs
+heights_owns no_branches = refl
+heights_owns (more_branches (branch p below) bs) = omega (arith, heights_owns below, heights_owns bs)
+
 -- of a text that is placed only the length of a heading or content is left to ask
 pub fault_of_length : (n : Numbering) (limit : NodeLimit) (bs : Branches Own) (long : Bool) → IsPlaced n limit bs → have_long bs ≡ long → first_fault n limit bs ≡ cond long (Some TextTooLong) None
 fault_of_length n limit bs long placed is =
@@ -75,3 +80,11 @@ fits_after t (Ok body) none = by_cause (first_cause (record t { body = body })) 
 pub either_way : (r : Result Outcome Memory) (A B : Type 0) → OnOk r A → OnErr r B → A ⊎ B
 either_way (Ok o) A B ok err = inl ok
 either_way (Err e) A B ok err = inr err
+
+-- a text that is within the limits is no deeper than a text may be
+pub within_low : (t : TreeValue) (body : Branches Provision) → within_limits t (Ok body) ≡ Ok body → heights body ≤ MAX_DEPTH
+within_low t body is = by (first_cause (record t { body = body })) refl is
+  where
+    by : (cause : Option Cause) → first_cause (record t { body = body }) ≡ cause → unless_for cause body ≡ Ok body → heights body ≤ MAX_DEPTH
+    by None clean one = omega (arith, faultless_low t.numbering t.limit (all_owns body) (faultless (record t { body = body }) clean), heights_owns body)
+    by (Some cause) held one = absurd cc

@@ -1,11 +1,12 @@
 //! What an insertion brings: how high and how many its nodes are, and whether their levels are taken.
 
-ghost use Rattle.std.specs.Prelude.{◌≡◌, ◌-◌, ◌^◌, min, true, false, IfSome};
+ghost use Rattle.std.specs.Prelude.{◌≡◌, ◌≤◌, ◌-◌, ◌^◌, min, true, false, IfSome};
 ghost use Rattle.act_tree.specs.Branches.{branches_of, count, counts, height, heights};
 ghost use Rattle.act_tree.specs.EidLevels.{all_beginning, levels_on};
 ghost use Rattle.act_tree.specs.Faults.{all_owns};
 ghost use Rattle.act_tree.specs.Seen.{tree_view, has_node};
 ghost use Rattle.act_tree.specs.Specs.{own_of, spec_view};
+ghost use Rattle.act_tree.specs.declared.limits.TheConstants.{MAX_NESTED};
 ghost use Rattle.eid_paths.specs.Nums.{is_num};
 ghost use Rattle.textual_mods.specs.Insertions.{all_begun_among, begun_among, have_nums, on_among};
 ghost use Rattle.textual_mods.specs.Substitutions.{left_below, text_left};
@@ -25,8 +26,10 @@ fn num_is_kept(node: &NodeSpec)
 
 /// The nums of nodes, and of all beneath them, keep the rule of nums: each num carries it.
 #[cycle(nums)]
+#[tactic(auto, using(act_tree::proofs::LowSpecs::heights_listed))]
 pub fn nums_are_kept(nodes: &Nodes)
-    ensures { have_nums (branches_of nodes.now) ≡ true }
+    ensures depth { heights (branches_of nodes.now) ≤ MAX_NESTED }
+    ensures nums { have_nums (branches_of nodes.now) ≡ true }
 {
     for node in &nodes.items {
         num_is_kept(node);
@@ -43,8 +46,10 @@ fn height_of(node: &NodeSpec) -> u32
 
 /// How many nodes the tallest of some nests, itself included. The number stands still at 2^32 - 1.
 #[cycle(heights)]
+#[tactic(auto, using(act_tree::proofs::LowSpecs::heights_listed))]
 pub fn height_of_all(nodes: &Nodes) -> u32
-    ensures { result ≡ min (heights (branches_of nodes.now)) (2 ^ 32 - 1) }
+    ensures depth { heights (branches_of nodes.now) ≤ MAX_NESTED }
+    ensures height { result ≡ min (heights (branches_of nodes.now)) (2 ^ 32 - 1) }
 {
     let mut tallest: u32 = 0;
     for node in &nodes.items {
@@ -63,8 +68,10 @@ fn count_of(node: &NodeSpec) -> u32
 
 /// How many nodes these are, with all beneath them. The number stands still at 2^32 - 1.
 #[cycle(counts)]
+#[tactic(auto, using(act_tree::proofs::LowSpecs::heights_listed))]
 pub fn count_of_all(nodes: &Nodes) -> u32
-    ensures { result ≡ min (counts (branches_of nodes.now)) (2 ^ 32 - 1) }
+    ensures depth { heights (branches_of nodes.now) ≤ MAX_NESTED }
+    ensures count { result ≡ min (counts (branches_of nodes.now)) (2 ^ 32 - 1) }
 {
     let mut total: u32 = 0;
     for node in &nodes.items {
@@ -91,9 +98,11 @@ fn begins_again(tree: &Tree, gone: &Option<NodeId>, top: bool, node: &NodeSpec) 
 /// Whether one of these nodes, or of those beneath them, begins an eId by a level by which one that is left of the tree
 /// begins one; `top` says that they come to stand right below the root.
 #[cycle(begins)]
+#[tactic(auto, using(act_tree::proofs::LowSpecs::heights_listed))]
 pub fn begin_again(tree: &Tree, gone: &Option<NodeId>, top: bool, nodes: &Nodes) -> bool
     requires { IfSome gone.now (λ other. has_node tree.now other ≡ true) }
-    ensures { let n = (tree_view tree.now).numbering in result
+    ensures depth { heights (branches_of nodes.now) ≤ MAX_NESTED }
+    ensures again { let n = (tree_view tree.now).numbering in result
         ≡ all_begun_among (all_beginning n true (all_owns (text_left tree.now gone.now))) n top (branches_of nodes.now) }
 {
     for node in &nodes.items {

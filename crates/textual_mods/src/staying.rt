@@ -1,15 +1,16 @@
 //! What is left of a tree where a node goes, or none: its levels and its number of nodes. Nothing is taken
 //! away for it, and no eId is spelled.
 
-ghost use Rattle.std.specs.Prelude.{◌≡◌, ◌+◌, ◌-◌, ◌^◌, ◌&&◌, map, min, not, nat_lt, true, IfSome, if◌then◌else◌};
+ghost use Rattle.std.specs.Prelude.{◌≡◌, ◌≤◌, ◌+◌, ◌-◌, ◌^◌, ◌&&◌, map, min, not, nat_lt, true, IfSome, if◌then◌else◌};
 ghost use Rattle.std.specs.List.{All};
 ghost use Rattle.std.specs.Str.{bytes_eq};
-ghost use Rattle.act_tree.specs.Branches.{branches_of, counts, no_branches};
+ghost use Rattle.act_tree.specs.Branches.{branches_of, counts, heights, no_branches};
 ghost use Rattle.act_tree.specs.EidLevels.{all_beginning, levels_on, own_level};
 ghost use Rattle.act_tree.specs.Faults.{all_owns};
 ghost use Rattle.act_tree.specs.NodeLimits.{most_nodes};
 ghost use Rattle.act_tree.specs.Seen.{tree_view, has_node, provision_at, branch_at, below_at};
 ghost use Rattle.act_tree.specs.Wids.{is_among};
+ghost use Rattle.act_tree.specs.declared.limits.TheConstants.{MAX_DEPTH};
 ghost use Rattle.eid_paths.specs.Elements.{is_throughout};
 ghost use Rattle.eid_paths.specs.Levels.{level_text};
 ghost use Rattle.textual_mods.specs.Substitutions.{goes, left, left_below, text_left, wid_of};
@@ -36,6 +37,7 @@ fn children_left<'a>(tree: &'a Tree, gone: &Option<NodeId>, id: NodeId) -> &'a [
     requires gone { IfSome gone.now (λ other. has_node tree.now other ≡ true) }
     requires node { has_node tree.now id ≡ true }
     ensures nodes { All (λ child. has_node tree.now child ≡ true) result.now }
+    ensures depth { heights (branches_of (map (branch_at tree.now) result.now)) ≤ MAX_DEPTH }
     ensures branches { branches_of (map (branch_at tree.now) result.now)
         ≡ (if goes (wid_of tree.now gone.now) (provision_at tree.now id).wid then no_branches else below_at tree.now id) }
 {
@@ -133,6 +135,7 @@ fn own_count(tree: &Tree, gone: &Option<NodeId>, id: NodeId) -> u32
 fn count_of_left(tree: &Tree, gone: &Option<NodeId>, ids: &[NodeId]) -> u32
     requires gone { IfSome gone.now (λ other. has_node tree.now other ≡ true) }
     requires ids { All (λ id. has_node tree.now id ≡ true) ids.now }
+    requires depth { heights (branches_of (map (branch_at tree.now) ids.now)) ≤ MAX_DEPTH }
     ensures { result ≡ min (counts (left (wid_of tree.now gone.now) (branches_of (map (branch_at tree.now) ids.now))))
         (2 ^ 32 - 1) }
 {

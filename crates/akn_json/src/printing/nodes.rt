@@ -1,9 +1,11 @@
 //! The nodes that a modification brings, nested. Every key stands, whatever its value.
 
-ghost use Rattle.std.specs.Prelude.{◌≡◌, ◌++◌, OnOk};
+ghost use Rattle.std.specs.Prelude.{◌≡◌, ◌≤◌, ◌++◌, OnOk};
 ghost use Rattle.json.specs.Tree.{json_tokens};
 ghost use Rattle.serde_json.specs.Written.{outline};
+ghost use Rattle.act_tree.specs.Branches.{branches_of, heights};
 ghost use Rattle.act_tree.specs.Specs.{spec_view};
+ghost use Rattle.act_tree.specs.declared.limits.TheConstants.{MAX_NESTED};
 ghost use Rattle.akn_json.specs.Printing.Nodes.{brought_data, payload_data};
 
 use super::lists::put_texts;
@@ -34,12 +36,15 @@ fn put_node(out: &mut Writer, node: &NodeSpec) -> Result<(), Memory>
 
 /// Nodes side by side, each with all beneath it.
 #[cycle(brought)]
+#[tactic(auto, using(act_tree::proofs::LowSpecs::heights_listed))]
 pub fn put_nodes(out: &mut Writer, nodes: &Nodes) -> Result<(), Memory>
+    ensures depth { heights (branches_of nodes.now) ≤ MAX_NESTED }
     ensures tokens { OnOk result (out.new.tokens ≡ out.old.tokens ++ json_tokens (outline (payload_data nodes.now))) }
     ensures before { OnOk result (out.new.before ≡ out.old.before) }
 {
+    let items = &nodes.items;
     out.begin_array()?;
-    for node in &nodes.items {
+    for node in items {
         put_node(out, node)?;
     }
     out.end_array()?;

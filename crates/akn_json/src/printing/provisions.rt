@@ -1,10 +1,11 @@
 //! The provisions of an answer, nested.
 
-ghost use Rattle.std.specs.Prelude.{◌≡◌, ◌++◌, OnOk};
+ghost use Rattle.std.specs.Prelude.{◌≡◌, ◌≤◌, ◌++◌, OnOk};
 ghost use Rattle.json.specs.Tree.{json_tokens, items_tokens, members_tokens};
 ghost use Rattle.serde_json.specs.Data.{array};
 ghost use Rattle.serde_json.specs.Written.{outline, items_outline, members_outline};
-ghost use Rattle.act_tree.specs.Branches.{branches_of};
+ghost use Rattle.act_tree.specs.Branches.{branches_of, heights};
+ghost use Rattle.act_tree.specs.declared.limits.TheConstants.{MAX_DEPTH};
 ghost use Rattle.akn_json.specs.Printing.Answers.{node_data, nodes_data, wid_data};
 ghost use Rattle.law_register.specs.Answer.ShownNodes.{shown_view};
 
@@ -50,14 +51,18 @@ fn put_node(out: &mut Writer, node: &AnswerNode) -> Result<(), Memory>
     Ok(())
 }
 
+/// Provisions side by side, each with all beneath it.
 #[cycle(provision)]
+#[tactic(auto, using(act_tree::proofs::LowSpecs::heights_listed))]
 pub fn put_nodes(out: &mut Writer, nodes: &AnswerNodes) -> Result<(), Memory>
+    ensures depth { heights (branches_of nodes.now) ≤ MAX_DEPTH }
     ensures tokens { OnOk result (out.new.tokens
         ≡ out.old.tokens ++ json_tokens (outline (array (nodes_data (branches_of nodes.now))))) }
     ensures before { OnOk result (out.new.before ≡ out.old.before) }
 {
+    let items = &nodes.items;
     out.begin_array()?;
-    for node in &nodes.items {
+    for node in items {
         put_node(out, node)?;
     }
     out.end_array()?;
@@ -85,7 +90,10 @@ fn room_of_node(node: &AnswerNode) -> usize {
 
 /// About as many bytes as the provisions take in the text, so that it can be written without being moved.
 #[cycle(room)]
-pub fn room_of(nodes: &AnswerNodes) -> usize {
+#[tactic(auto, using(act_tree::proofs::LowSpecs::heights_listed))]
+pub fn room_of(nodes: &AnswerNodes) -> usize
+    ensures depth { heights (branches_of nodes.now) ≤ MAX_DEPTH }
+{
     let mut room: usize = 0;
     for node in &nodes.items {
         room = room.saturating_add(room_of_node(node));

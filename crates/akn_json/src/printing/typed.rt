@@ -4,7 +4,9 @@
 ghost use Rattle.std.specs.Prelude.{◌≡◌, ◌≤◌, true, All, IfSome};
 ghost use Rattle.desk_base.specs.Days.{IsDay};
 ghost use Rattle.eid_paths.specs.Nums.{is_num};
+ghost use Rattle.act_tree.specs.Branches.{branches_of, heights};
 ghost use Rattle.act_tree.specs.Specs.{own_of, spec_view};
+ghost use Rattle.act_tree.specs.declared.limits.TheConstants.{MAX_NESTED};
 ghost use Rattle.akn_json.specs.Printing.Bearings.{date_of_force};
 ghost use Rattle.akn_json.specs.Printing.Typed as spec;
 
@@ -119,8 +121,10 @@ fn node_is_typed(node: &NodeSpec)
 }
 
 #[cycle(typed)]
+#[tactic(auto, using(act_tree::proofs::LowSpecs::heights_listed))]
 fn nodes_are_typed(nodes: &Nodes)
-    ensures { spec.IsTypedPayload nodes.now }
+    ensures depth { heights (branches_of nodes.now) ≤ MAX_NESTED }
+    ensures typed { spec.IsTypedPayload nodes.now }
 {
     for one in &nodes.items {
         node_is_typed(one);

@@ -1,11 +1,12 @@
 //! An answer as a value of serde_json, built part by part: the plain program beside the one that
 //! prints token by token.
 
-ghost use Rattle.std.specs.Prelude.{◌≡◌, OnOk, IfOk, codes, if◌then◌else◌};
+ghost use Rattle.std.specs.Prelude.{◌≡◌, ◌≤◌, OnOk, IfOk, codes, if◌then◌else◌};
 ghost use Rattle.std.specs.Str.{bytes_eq};
 ghost use Rattle.serde_json.specs.Data.{array, string, put as with_member};
 ghost use Rattle.serde_json.specs.View.{view, members_view};
-ghost use Rattle.act_tree.specs.Branches.{branches_of};
+ghost use Rattle.act_tree.specs.Branches.{branches_of, heights};
+ghost use Rattle.act_tree.specs.declared.limits.TheConstants.{MAX_DEPTH};
 ghost use Rattle.law_register.specs.Answer.ShownNodes.{shown_view};
 ghost use Rattle.akn_json.specs.Printing.Answers as spec;
 
@@ -100,8 +101,10 @@ fn node_value(alloc: Global, node: &AnswerNode) -> Result<Value, Memory>
 }
 
 #[cycle(value)]
+#[tactic(auto, using(act_tree::proofs::LowSpecs::heights_listed))]
 fn nodes_value(alloc: Global, nodes: &AnswerNodes) -> Result<Value, Memory>
-    ensures { IfOk result (λ v. view v ≡ array (spec.nodes_data (branches_of nodes.now))) }
+    ensures depth { heights (branches_of nodes.now) ≤ MAX_DEPTH }
+    ensures value { IfOk result (λ v. view v ≡ array (spec.nodes_data (branches_of nodes.now))) }
 {
     let mut list = Vec::new(alloc);
     for node in &nodes.items {

@@ -1,11 +1,13 @@
 //! The form of an act: its work, its day, its language, its numbering, how many nodes it may have, its force, and the nodes of
 //! its body.
 
-ghost use Rattle.std.specs.Prelude.{◌≡◌};
+ghost use Rattle.std.specs.Prelude.{◌≡◌, ◌≤◌};
 ghost use Rattle.std.specs.List.{list_all};
 ghost use Rattle.std.specs.Char.{is_ascii_lowercase};
 ghost use Rattle.act_tree.specs.declared.limits.NodeLimit.TheVariants.{Plain};
 ghost use Rattle.eid_paths.specs.declared.numbering.TheConstants.Numbering.{DEFAULT};
+ghost use Rattle.serde_json.specs.Data.{depth};
+ghost use Rattle.serde_json.specs.Read.{max_depth};
 ghost use Rattle.akn_json.specs.Reading.Reads.{Gives};
 ghost use Rattle.akn_json.specs.Reading.Fields.{each, optional_in};
 ghost use Rattle.akn_json.specs.Reading.Nodes.{element_in};
@@ -115,6 +117,7 @@ fn node_limit(value: &Value) -> Result<NodeLimit, ReadFail>
 // An act as it was enacted.
 #[tactic(auto, unfolding(crate::specs::Reading::Acts::act_in))]
 pub(super) fn act(alloc: Global, value: &Value) -> Result<Act, ReadFail>
+    requires depth { depth (seen value.now) ≤ max_depth }
     ensures { Gives (λ a. a) result (spec.act_in (seen value.now)) }
 {
     members(value, &ACT)?;

@@ -1,8 +1,7 @@
 //! The JSON value that bytes are.
 
 ghost use Rattle.std.specs.Prelude.{◌≡◌, ◌≤◌, IfOk, length};
-ghost use Rattle.json.specs.Tree.{depth};
-ghost use Rattle.json.specs.Value.{value_view};
+ghost use Rattle.serde_json.specs.Data.{depth};
 ghost use Rattle.serde_json.specs.Read.{max_depth, read};
 ghost use Rattle.akn_json.specs.Reading.Bytes as spec;
 ghost use Rattle.akn_json.specs.Reading.Reads.{Gives, broken, or_fault};
@@ -25,7 +24,7 @@ const MAX_DEPTH: usize = 127;
 // The value that a text is. Texts without an escape are borrowed from it, and the others from the scratch.
 fn read<'a>(alloc: Global, text: &'a str, scratch: &'a mut Scratch) -> Result<Value<'a>, ReadFail>
     ensures value { Gives seen result (or_fault (broken NotJson) (read text.now)) }
-    ensures nests { IfOk result (λ v. depth (value_view v) ≤ max_depth) }
+    ensures nests { IfOk result (λ v. depth (seen v) ≤ max_depth) }
     ensures lists { IfOk result (λ v. width (seen v) ≤ length text.now) }
 {
     let mut reader = Reader::new(text, scratch)?;
@@ -49,7 +48,7 @@ fn json_value<'a>(
     scratch: &'a mut Scratch,
 ) -> Result<Value<'a>, ReadFail>
     ensures value { Gives seen result (or_fault (broken NotJson) (spec.json_of bytes.now)) }
-    ensures nests { IfOk result (λ v. depth (value_view v) ≤ max_depth) }
+    ensures nests { IfOk result (λ v. depth (seen v) ≤ max_depth) }
     ensures lists { IfOk result (λ v. width (seen v) ≤ length bytes.now) }
 {
     match simdutf8::compat::from_utf8(bytes) {
@@ -65,7 +64,7 @@ pub(super) fn value_of<'a>(
     scratch: &'a mut Scratch,
 ) -> Result<Value<'a>, ReadFail>
     ensures value { Gives seen result (spec.value_of bytes.now) }
-    ensures nests { IfOk result (λ v. depth (value_view v) ≤ max_depth) }
+    ensures nests { IfOk result (λ v. depth (seen v) ≤ max_depth) }
     ensures lists { IfOk result (λ v. width (seen v) ≤ spec.most_bytes) }
 {
     if bytes.len() > MAX_DOSSIER_BYTES {

@@ -1,6 +1,8 @@
 //! The form of commands: who asks, under which number, and for what.
 
 ghost use Rattle.std.specs.Prelude.{◌≡◌, ◌≤◌};
+ghost use Rattle.serde_json.specs.Data.{depth};
+ghost use Rattle.serde_json.specs.Read.{max_depth};
 ghost use Rattle.akn_json.specs.Reading.Reads.{Gives};
 ghost use Rattle.akn_json.specs.Reading.Widths.{width};
 ghost use Rattle.akn_json.specs.Reading.Bytes.{most_bytes};
@@ -74,6 +76,7 @@ fn asked_id(value: &Value) -> Result<Id, ReadFail>
 // The one modification that a command brings. A fault within it has the place 1.
 #[tactic(auto, unfolding(crate::specs::Reading::Commands::body_in))]
 fn body(alloc: Global, value: &Value) -> Result<Modification, ReadFail>
+    requires depth { depth (seen value.now) ≤ max_depth }
     ensures { Gives (λ m. m) result (spec.body_in (seen value.now)) }
 {
     modification_at(alloc, 1, field(value, Key::Modification)?)
@@ -89,6 +92,7 @@ fn count(value: &Value, key: Key) -> Result<u32, ReadFail>
 
 #[tactic(auto, unfolding(crate::specs::Reading::Commands::enact_in))]
 fn enact(alloc: Global, value: &Value) -> Result<Command, ReadFail>
+    requires depth { depth (seen value.now) ≤ max_depth }
     ensures { Gives (λ c. c) result (spec.enact_in (seen value.now)) }
 {
     let act = act(alloc, field(value, Key::Act)?)?;
@@ -97,7 +101,8 @@ fn enact(alloc: Global, value: &Value) -> Result<Command, ReadFail>
 
 #[tactic(auto, unfolding(crate::specs::Reading::Commands::record_in))]
 fn record(alloc: Global, value: &Value) -> Result<Command, ReadFail>
-    requires { width (seen value.now) ≤ most_bytes }
+    requires lists { width (seen value.now) ≤ most_bytes }
+    requires depth { depth (seen value.now) ≤ max_depth }
     ensures { Gives (λ c. c) result (spec.record_in (seen value.now)) }
 {
     let work = asked_work(alloc, value)?;
@@ -107,6 +112,7 @@ fn record(alloc: Global, value: &Value) -> Result<Command, ReadFail>
 
 #[tactic(auto, unfolding(crate::specs::Reading::Commands::correct_in))]
 fn correct(alloc: Global, value: &Value) -> Result<Command, ReadFail>
+    requires depth { depth (seen value.now) ≤ max_depth }
     ensures { Gives (λ c. c) result (spec.correct_in (seen value.now)) }
 {
     let id = asked_id(value)?;
@@ -116,6 +122,7 @@ fn correct(alloc: Global, value: &Value) -> Result<Command, ReadFail>
 
 #[tactic(auto, unfolding(crate::specs::Reading::Commands::draft_add_in))]
 fn draft_add(alloc: Global, value: &Value) -> Result<Command, ReadFail>
+    requires depth { depth (seen value.now) ≤ max_depth }
     ensures { Gives (λ c. c) result (spec.draft_add_in (seen value.now)) }
 {
     let work = asked_work(alloc, value)?;
@@ -134,7 +141,8 @@ fn file(alloc: Global, value: &Value) -> Result<Command, ReadFail>
 
 #[tactic(auto, unfolding(crate::specs::Reading::Commands::withdraw_in, crate::specs::Reading::Commands::restore_in, crate::specs::Reading::Commands::draft_drop_in))]
 fn command(alloc: Global, kind: CommandKind, value: &Value) -> Result<Command, ReadFail>
-    requires { width (seen value.now) ≤ most_bytes }
+    requires lists { width (seen value.now) ≤ most_bytes }
+    requires depth { depth (seen value.now) ≤ max_depth }
     ensures { Gives (λ c. c) result (spec.command_in kind (seen value.now)) }
 {
     match kind {
@@ -158,7 +166,8 @@ fn command(alloc: Global, kind: CommandKind, value: &Value) -> Result<Command, R
 /// A command with its drafter and its number. The word for its kind is judged before its keys.
 #[tactic(auto, unfolding(crate::specs::Reading::Commands::asked_in))]
 pub(super) fn asked(alloc: Global, value: &Value) -> Result<Asked, ReadFail>
-    requires { width (seen value.now) ≤ most_bytes }
+    requires lists { width (seen value.now) ≤ most_bytes }
+    requires depth { depth (seen value.now) ≤ max_depth }
     ensures { Gives (λ a. a) result (spec.asked_in (seen value.now)) }
 {
     let kind = command_kind(value)?;

@@ -2,6 +2,8 @@
 
 ghost use Rattle.std.specs.Prelude.{◌≡◌, ◌≤◌, length};
 ghost use Rattle.json.specs.Value.{members_view};
+ghost use Rattle.serde_json.specs.Data.{depth, items_depth};
+ghost use Rattle.serde_json.specs.Read.{max_depth};
 ghost use Rattle.akn_json.specs.Reading.Reads.{Gives, inside};
 ghost use Rattle.akn_json.specs.Reading.Widths.{width};
 ghost use Rattle.akn_json.specs.Reading.Bytes.{most_bytes};
@@ -36,6 +38,7 @@ use std::alloc::Global;
 // The form is chosen before the keys are judged, and the values are read in the order of its table.
 #[tactic(auto, unfolding(crate::specs::Reading::Modifications::textual_in))]
 fn textual(alloc: Global, value: &Value) -> Result<Modification, ReadFail>
+    requires depth { depth (seen value.now) ≤ max_depth }
     ensures { Gives (λ m. m) result (spec.textual_in (seen value.now)) }
 {
     let form = EditForm::of(kind(value)?, value)?;
@@ -98,6 +101,7 @@ fn bearing(alloc: Global, value: &Value) -> Result<Modification, ReadFail>
 // A modification, named by its one key.
 #[tactic(auto, unfolding(crate::specs::Reading::Modifications::modification_in))]
 fn modification(alloc: Global, value: &Value) -> Result<Modification, ReadFail>
+    requires depth { depth (seen value.now) ≤ max_depth }
     ensures { Gives (λ m. m) result (spec.modification_in (seen value.now)) }
 {
     members(value, &MODIFICATION)?;
@@ -114,6 +118,7 @@ pub(super) fn modification_at(
     place: u32,
     value: &Value,
 ) -> Result<Modification, ReadFail>
+    requires depth { depth (seen value.now) ≤ max_depth }
     ensures { Gives (λ m. m) result (inside place (spec.modification_in (seen value.now))) }
 {
     match modification(alloc, value) {
@@ -128,7 +133,8 @@ pub(super) fn modification_at(
 
 // Each of these modifications, in order, with places from 1.
 fn each_modification(alloc: Global, values: &[Value]) -> Result<Mods, ReadFail>
-    requires { length values.now ≤ most_bytes }
+    requires lists { length values.now ≤ most_bytes }
+    requires depth { items_depth (items_seen values.now) ≤ max_depth }
     ensures { Gives (λ m. m) result (spec.each_from 1 (items_seen values.now)) }
 {
     let mut mods = Mods::new(alloc);
@@ -140,7 +146,8 @@ fn each_modification(alloc: Global, values: &[Value]) -> Result<Mods, ReadFail>
 
 #[tactic(auto, unfolding(crate::specs::Reading::Modifications::mods_in))]
 pub(super) fn mods(alloc: Global, value: &Value) -> Result<Mods, ReadFail>
-    requires { width (seen value.now) ≤ most_bytes }
+    requires lists { width (seen value.now) ≤ most_bytes }
+    requires depth { depth (seen value.now) ≤ max_depth }
     ensures { Gives (λ m. m) result (spec.mods_in (seen value.now)) }
 {
     each_modification(alloc, items(value)?)

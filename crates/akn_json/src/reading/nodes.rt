@@ -1,6 +1,8 @@
 //! The form of nodes: each says something of itself, and has the nodes beneath it as its children.
 
-ghost use Rattle.std.specs.Prelude.{◌≡◌, []};
+ghost use Rattle.std.specs.Prelude.{◌≡◌, ◌≤◌, []};
+ghost use Rattle.serde_json.specs.Data.{depth, items_depth};
+ghost use Rattle.serde_json.specs.Read.{max_depth};
 ghost use Rattle.act_tree.specs.Specs.{own_of, spec_view};
 ghost use Rattle.akn_json.specs.Reading.Reads.{Gives};
 ghost use Rattle.akn_json.specs.Reading.Fields.{each, read_or, text_in};
@@ -91,9 +93,10 @@ fn own(alloc: Global, parts: Parts) -> Result<NodeSpec, ReadFail>
     })
 }
 
-// A node, with all beneath it.
+// A node, with all beneath it: the nodes beneath it are a list, of which each is read by a call of its own.
 #[cycle(node)]
 fn node(alloc: Global, value: &Value) -> Result<NodeSpec, ReadFail>
+    requires depth { depth (seen value.now) ≤ max_depth }
     ensures { Gives spec_view result (spec.node_in (seen value.now)) }
 {
     let parts = parts_of(value)?;
@@ -112,6 +115,7 @@ fn node(alloc: Global, value: &Value) -> Result<NodeSpec, ReadFail>
 
 #[cycle(node)]
 pub(super) fn nodes(alloc: Global, value: &Value) -> Result<Nodes, ReadFail>
+    requires depth { depth (seen value.now) ≤ max_depth }
     ensures { Gives (λ n. n) result (spec.nodes_in (seen value.now)) }
 {
     match value {
@@ -122,6 +126,7 @@ pub(super) fn nodes(alloc: Global, value: &Value) -> Result<Nodes, ReadFail>
 
 #[cycle(node)]
 fn each_node(alloc: Global, values: &Vec<Value>) -> Result<Nodes, ReadFail>
+    requires depth { items_depth (items_seen values.now.items) ≤ max_depth }
     ensures { Gives (λ n. n) result (spec.each_node (items_seen values.now.items)) }
 {
     let mut nodes = Nodes::new(alloc);

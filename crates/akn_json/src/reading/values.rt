@@ -1,8 +1,10 @@
 //! JSON values that borrow their texts: their parts, and what they are beside the values that serde_json reads.
 
-ghost use Rattle.std.specs.Prelude.{◌≡◌, option_map};
+ghost use Rattle.std.specs.Prelude.{◌≡◌, ◌≤◌, ◌<◌, option_map};
+ghost use Rattle.json.specs.Tree.{depth, items_depth, members_depth};
 ghost use Rattle.json.specs.Value.{value_view, items_view, members_view};
 ghost use Rattle.serde_json.specs.Find.{get, as_array, as_object, as_str};
+ghost use Rattle.serde_json.specs.Read.{max_depth};
 ghost use Rattle.akn_json.specs.Reading.Keys.{key_name};
 ghost use Rattle.akn_json.specs.Reading.Values.{seen, items_seen, members_seen, is_in_range, are_items_in_range, are_members_in_range};
 
@@ -13,9 +15,10 @@ use json::Value;
 /// The members of an object, in the order of its text.
 pub(super) type Members<'a> = Vec<(&'a str, Value<'a>)>;
 
-/// Whether each number of a value is in range.
+/// Whether each number of a value is in range. Each list and each object is gone over by a call of its own.
 #[cycle(range)]
 pub(super) fn is_in_range(value: &Value) -> bool
+    requires depth { depth (value_view value.now) ≤ max_depth }
     ensures { result ≡ is_in_range (value_view value.now) }
 {
     match value {
@@ -28,6 +31,7 @@ pub(super) fn is_in_range(value: &Value) -> bool
 
 #[cycle(range)]
 fn are_items_in_range(items: &Vec<Value>) -> bool
+    requires depth { items_depth (items_view items.now.items) < max_depth }
     ensures { result ≡ are_items_in_range (items_view items.now.items) }
 {
     for item in items {
@@ -40,6 +44,7 @@ fn are_items_in_range(items: &Vec<Value>) -> bool
 
 #[cycle(range)]
 fn are_members_in_range(members: &Members) -> bool
+    requires depth { members_depth (members_view members.now.items) < max_depth }
     ensures { result ≡ are_members_in_range (members_view members.now.items) }
 {
     for member in members {

@@ -1,7 +1,8 @@
-//! Nodes, which nest at most 12 deep.
+//! Nodes, which nest at most 12 deep, each level by a call of its own with one level less.
 
-ghost use Rattle.std.specs.Prelude.{◌≡◌};
+ghost use Rattle.std.specs.Prelude.{◌≡◌, ◌≤◌, ◌<◌};
 ghost use Rattle.act_tree.specs.Specs.{own_of, spec_view};
+ghost use Rattle.act_tree.specs.declared.limits.TheConstants.{MAX_DEPTH};
 ghost use Rattle.entry_codec.specs.Reads.{Reads};
 ghost use Rattle.entry_codec.specs.Fields.{each};
 ghost use Rattle.entry_codec.specs.Nodes as spec;
@@ -59,6 +60,7 @@ impl<'a> Reader<'a> {
     // A node, beneath which nodes nest so deep at most.
     #[cycle(nodes)]
     fn node(&mut self, alloc: Global, depth: u8) -> Result<NodeSpec, Stop>
+        requires depth { depth < MAX_DEPTH }
         ensures { Reads spec_view result self.new.left.now ((spec.node depth).read self.old.left.now) }
     {
         let mut node = self.own(alloc)?;
@@ -68,6 +70,7 @@ impl<'a> Reader<'a> {
 
     #[cycle(nodes)]
     fn each_node(&mut self, alloc: Global, depth: u8, count: u16) -> Result<Nodes, Stop>
+        requires depth { depth < MAX_DEPTH }
         ensures { Reads (λ n. n) result self.new.left.now ((each (spec.node depth) count).read self.old.left.now) }
     {
         let mut nodes = Nodes::new(alloc);
@@ -80,6 +83,7 @@ impl<'a> Reader<'a> {
     // Nodes that nest so deep at most.
     #[cycle(nodes)]
     fn nodes(&mut self, alloc: Global, depth: u8) -> Result<Nodes, Stop>
+        requires depth { depth ≤ MAX_DEPTH }
         ensures { Reads (λ n. n) result self.new.left.now ((spec.nodes depth).read self.old.left.now) }
     {
         if depth == 0 {

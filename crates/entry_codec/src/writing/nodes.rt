@@ -1,8 +1,9 @@
-//! Nodes, which nest at most 12 deep.
+//! Nodes, which nest at most 12 deep, each level by a call of its own with one level less.
 
-ghost use Rattle.std.specs.Prelude.{◌≡◌, ◌++◌, map, OnOk, All};
+ghost use Rattle.std.specs.Prelude.{◌≡◌, ◌≤◌, ◌<◌, ◌++◌, map, OnOk, All};
 ghost use Rattle.std.specs.List.{flat_map};
 ghost use Rattle.act_tree.specs.Specs.{own_of, spec_view, specs_view};
+ghost use Rattle.act_tree.specs.declared.limits.TheConstants.{MAX_DEPTH};
 ghost use Rattle.entry_codec.specs.Nodes as spec;
 ghost use Rattle.entry_codec.specs.Typed as typed;
 
@@ -28,6 +29,7 @@ fn put_own(out: &mut Vec<u8>, node: &NodeSpec) -> Result<(), Memory>
 // A node, beneath which nodes nest so deep at most.
 #[cycle(putting)]
 fn put_node(out: &mut Vec<u8>, depth: u8, node: &NodeSpec) -> Result<(), Memory>
+    requires depth { depth < MAX_DEPTH }
     ensures bytes { OnOk result (out.new.items ≡ out.old.items ++ (spec.node depth).spell (spec_view node.now)) }
     ensures typed { OnOk result (typed.IsNodeTo depth (spec_view node.now)) }
 {
@@ -38,6 +40,7 @@ fn put_node(out: &mut Vec<u8>, depth: u8, node: &NodeSpec) -> Result<(), Memory>
 
 #[cycle(putting)]
 fn put_each_node(out: &mut Vec<u8>, depth: u8, nodes: &[NodeSpec]) -> Result<(), Memory>
+    requires depth { depth < MAX_DEPTH }
     ensures bytes { OnOk result (out.new.items ≡ out.old.items ++ flat_map (spec.node depth).spell (specs_view nodes.now)) }
     ensures typed { OnOk result (All (λ n. typed.IsNodeTo depth (spec_view n)) nodes.now) }
 {
@@ -50,6 +53,7 @@ fn put_each_node(out: &mut Vec<u8>, depth: u8, nodes: &[NodeSpec]) -> Result<(),
 // Nodes that nest so deep at most. No others have an entry that can be spelled.
 #[cycle(putting)]
 fn put_nodes(out: &mut Vec<u8>, depth: u8, nodes: &Nodes) -> Result<(), Memory>
+    requires depth { depth ≤ MAX_DEPTH }
     ensures bytes { OnOk result (out.new.items ≡ out.old.items ++ (spec.nodes depth).spell nodes.now) }
     ensures typed { OnOk result (typed.AreNodesTo depth nodes.now) }
 {

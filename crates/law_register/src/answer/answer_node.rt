@@ -1,6 +1,8 @@
 //! The provisions of an answer: a clause sees them as a list of nested branches.
 
-ghost use Rattle.std.specs.Prelude.{◌≡◌, [], ◌++◌, ◌∷◌, OnOk, OnErr};
+ghost use Rattle.std.specs.Prelude.{◌≡◌, ◌≤◌, [], ◌++◌, ◌∷◌, OnOk, OnErr};
+ghost use Rattle.act_tree.specs.Branches.{height};
+ghost use Rattle.act_tree.specs.declared.limits.TheConstants.{MAX_DEPTH};
 ghost use Rattle.law_register.specs.Answer.ShownNodes.{shown_view};
 
 use act_tree::Refs;
@@ -33,7 +35,7 @@ pub struct AnswerNode {
     pub children: AnswerNodes,
 }
 
-/// Provisions of an answer side by side, in order.
+/// Provisions of an answer side by side, in order. They nest no deeper than a text: so deep goes each walk over them.
 #[derive(Debug, Drop)]
 #[cycle(nodes)]
 pub struct AnswerNodes {
@@ -42,9 +44,10 @@ pub struct AnswerNodes {
 }
 
 impl Model for AnswerNodes {
-    ghost use Rattle.std.specs.Prelude.{List};
+    ghost use Rattle.std.specs.Prelude.{◌≤◌, List};
     ghost use Rattle.act_tree.specs.Branches.{Branch, tallest};
     ghost use Rattle.act_tree.specs.Codes.{branches_code};
+    ghost use Rattle.act_tree.specs.declared.limits.TheConstants.{MAX_DEPTH};
     ghost use Rattle.law_register.specs.Answer.Shown.{Shown, shown_code};
 
     ghost Value = { List (Branch Shown) };
@@ -54,6 +57,8 @@ impl Model for AnswerNodes {
     ghost use Rattle.law_register.specs.Answer.ShownNodes.{shown_list};
 
     ghost view = { λ a. shown_list a.items.items };
+
+    ghost invariant = { λ a. tallest (shown_list a.items.items) ≤ MAX_DEPTH };
 
     ghost size = { tallest };
 
@@ -75,6 +80,7 @@ impl AnswerNodes {
 
     /// Adds a provision behind the others.
     pub fn push(&mut self, node: AnswerNode) -> Result<(), Memory>
+        requires depth { height (shown_view node) ≤ MAX_DEPTH }
         ensures ok { OnOk result (self.new ≡ self.old ++ shown_view node ∷ []) }
         ensures err { OnErr result (self.new ≡ self.old) }
     {

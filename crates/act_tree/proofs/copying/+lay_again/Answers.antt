@@ -1,11 +1,12 @@
-use Rattle.std.proofs.Common.{rules, ◌∙◌, sym, ap, subst, ℕ, ◌+◌, ◌<◌, List, length, map, take}
+use Rattle.std.proofs.Common.{rules, ◌≡◌, ◌∙◌, sym, true, ap, subst, ℕ, ◌+◌, ◌<◌, List, length, map, take}
 use Rattle.std.proofs.lemmas.List.{take_all}
 use Rattle.act_tree.specs.Branches.{Branch, branch, branches_of}
 use Rattle.act_tree.specs.Planted.{IsLaid, AreLaid}
-use Rattle.act_tree.specs.Seen.{branch_at, below_at}
+use Rattle.act_tree.specs.Seen.{has_node, branch_at, below_at}
 use Rattle.act_tree.specs.Slots.{provision_of}
 use Rattle.act_tree.proofs.CopiedTrees.{child_lower, child_laid}
 use Rattle.act_tree.proofs.Growing.{can_hold, all_laid, laid_node}
+use Rattle.act_tree.proofs.LowNodes.{below_low}
 use Rattle.act_tree.proofs.Walking.{branch_is}
 use Rattle.act_tree.proofs.copying.+lay_again.Goals as goal
 
@@ -13,7 +14,8 @@ pub lay_again-requires : goal.lay_again-requires
 lay_again-requires t c =
     let within : c.loop-child.child-index < length c.children-children.result.now = search rules in
     let lower = child_lower c.args.tree.now c.children-children.result.now c.loop-child.child-index c.child-item.result c.args.node within c.child-item.is c.children-children.ensures.branches in
-    (search (rules, lower), (search rules, c.loop-child.invariant.grown.own c.in_ok-id.ensures.added.own))
+    let node : has_node c.args.tree.now c.child-item.result ≡ true = search rules in
+    (search (rules, lower), (node, (c.loop-child.invariant.grown.own c.in_ok-id.ensures.added.own, below_low c.args.tree.now c.child-item.result node)))
 
 pub loop-child-preserved : goal.loop-child-preserved
 loop-child-preserved t c =

@@ -1,5 +1,9 @@
 use Rattle.act_tree.proofs.CopiedTrees.{text_laid}
+use Rattle.act_tree.proofs.LowNodes.{below_low}
 use Rattle.act_tree.proofs.copying.arena_of_text.Goals as goal
+
+pub lay_again-requires-clause-depth : goal.lay_again-requires-clause-depth
+lay_again-requires-clause-depth c = below_low c.args.tree.now c.root-root.result c.root-root.ensures.node
 
 pub returns-clause-whole : goal.returns-clause-whole
 returns-clause-whole c =

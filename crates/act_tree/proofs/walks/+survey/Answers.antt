@@ -12,7 +12,7 @@ pub survey-requires : goal.survey-requires
 survey-requires t c =
     let within : c.loop-id.id-index < length c.args.ids.now = search rules in
     let lower = children_lower c.args.tree.now c.args.ids.now c.children-children.result.now c.loop-id.id-index c.id-item.result within c.id-item.is c.children-children.ensures.branches in
-    (search (rules, lower), c.children-children.ensures.nodes)
+    (search (rules, lower), (c.children-children.ensures.nodes, c.children-children.ensures.depth))
 
 pub loop-id-preserved : goal.loop-id-preserved
 loop-id-preserved t c =

@@ -1,6 +1,8 @@
 //! The forms of textual modifications: each has its keys and its values.
 
-ghost use Rattle.std.specs.Prelude.{◌≡◌};
+ghost use Rattle.std.specs.Prelude.{◌≡◌, ◌≤◌};
+ghost use Rattle.serde_json.specs.Data.{depth};
+ghost use Rattle.serde_json.specs.Read.{max_depth};
 ghost use Rattle.akn_json.specs.Reading.Reads.{Gives};
 ghost use Rattle.akn_json.specs.Reading.Modifications.EditKinds as spec;
 ghost use Rattle.akn_json.specs.Reading.Modifications.Edits.{edit_in, keys_in};
@@ -124,6 +126,7 @@ impl EditForm {
 
     /// The edit that the values of an object say.
     pub(super) fn edit(self, alloc: Global, value: &Value) -> Result<TextualMod, ReadFail>
+        requires depth { depth (seen value.now) ≤ max_depth }
         ensures { Gives (λ e. e) result (edit_in self (seen value.now)) }
     {
         match self {

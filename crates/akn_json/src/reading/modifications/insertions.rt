@@ -1,6 +1,8 @@
 //! The forms of insertions.
 
-ghost use Rattle.std.specs.Prelude.{◌≡◌};
+ghost use Rattle.std.specs.Prelude.{◌≡◌, ◌≤◌};
+ghost use Rattle.serde_json.specs.Data.{depth};
+ghost use Rattle.serde_json.specs.Read.{max_depth};
 ghost use Rattle.akn_json.specs.Reading.Reads.{Gives};
 ghost use Rattle.akn_json.specs.Reading.Modifications.Insertions as spec;
 ghost use Rattle.akn_json.specs.Reading.Values.{seen};
@@ -19,6 +21,7 @@ use textual_mods::{Pos, TextPos, TextualMod};
 
 #[tactic(auto, unfolding(crate::specs::Reading::Modifications::Insertions::insert_nodes_in))]
 pub(super) fn insert_nodes(alloc: Global, value: &Value) -> Result<TextualMod, ReadFail>
+    requires depth { depth (seen value.now) ≤ max_depth }
     ensures { Gives (λ e. e) result (spec.insert_nodes_in (seen value.now)) }
 {
     let anchor = read_anchor(alloc, value)?;

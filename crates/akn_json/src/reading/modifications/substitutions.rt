@@ -1,6 +1,8 @@
 //! The forms of repeals and of substitutions.
 
-ghost use Rattle.std.specs.Prelude.{◌≡◌};
+ghost use Rattle.std.specs.Prelude.{◌≡◌, ◌≤◌};
+ghost use Rattle.serde_json.specs.Data.{depth};
+ghost use Rattle.serde_json.specs.Read.{max_depth};
 ghost use Rattle.akn_json.specs.Reading.Reads.{Gives};
 ghost use Rattle.akn_json.specs.Reading.Modifications.Substitutions as spec;
 ghost use Rattle.akn_json.specs.Reading.Values.{seen};
@@ -25,6 +27,7 @@ pub(super) fn repeal(alloc: Global, value: &Value) -> Result<TextualMod, ReadFai
 
 #[tactic(auto, unfolding(crate::specs::Reading::Modifications::Substitutions::substitute_nodes_in))]
 pub(super) fn substitute_nodes(alloc: Global, value: &Value) -> Result<TextualMod, ReadFail>
+    requires depth { depth (seen value.now) ≤ max_depth }
     ensures { Gives (λ e. e) result (spec.substitute_nodes_in (seen value.now)) }
 {
     let wid = destination(alloc, value)?;

@@ -11,8 +11,8 @@ nodes_are_typed-loop-one-preserved t c =
     more_typed (λ (n : NodeSpec). IsNode (spec_view n)) c.deref-one-items.result.now l.one-index c.one-item.result c.loop-one-test.true
     c.one-item.is l.invariant c.node_is_typed.ensures
 
-pub nodes_are_typed-returns : goal.nodes_are_typed-returns
-nodes_are_typed-returns t c =
+pub nodes_are_typed-returns-clause-typed : goal.nodes_are_typed-returns-clause-typed
+nodes_are_typed-returns-clause-typed t c =
     let over = c.loop-one-test.false in
     nodes_typed c.args.nodes.now _ c.deref-one-items.result.now c.loop-one.one-index c.nodes.view_is
     c.deref-one-items.ensures.value (omega (arith, over)) c.loop-one.invariant

@@ -23,7 +23,7 @@ flag_of_node-requires t c =
     let tree = c.args.tree.now in
     let deeper : depth_of (provision_at tree c.args.node).wid (tree_view tree).body ≡ depth_of (provision_at tree c.parent-parent.result).wid (tree_view tree).body + 1 = c.parent-parent.ensures.depth in
     let higher : depth_of (provision_at tree c.parent-parent.result).wid (tree_view tree).body < depth_of (provision_at tree c.args.node).wid (tree_view tree).body = omega arith in
-    (search (rules, higher), (c.parent-parent.ensures.node, c.requires.flag))
+    (search (rules, higher), (c.parent-parent.ensures.node, (c.requires.flag, omega (arith, deeper, c.requires.depth))))
 
 pub returns-in-None : goal.returns-in-None
 returns-in-None t c =

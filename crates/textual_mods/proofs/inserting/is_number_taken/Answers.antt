@@ -17,7 +17,7 @@ returns-then-begin_again c =
     let new = branches_of c.args.new.now in
     let top : c.eq-top.result ≡ is_root t c.args.parent = root_told t c.args.parent c.root.result c.eq-top.result c.requires.node c.root.ensures.root c.eq-top.ensures in
     taken_begun n (tree_view t).limit body (record { law = 0; item = 0 }) new (clean_left t c.args.gone.now c.requires.fits) (numbered_left t c.args.gone.now) c.requires.payload c.requires.nums
-    (is_root t c.args.parent) (left_below t c.args.gone.now c.args.parent) c.begin_again.result (c.begin_again.ensures ∙ ap (λ (s : Bool). all_begun_among (all_beginning n true (all_owns body)) n s new) top) c.if-begin_again.true
+    (is_root t c.args.parent) (left_below t c.args.gone.now c.args.parent) c.begin_again.result (c.begin_again.ensures.again ∙ ap (λ (s : Bool). all_begun_among (all_beginning n true (all_owns body)) n s new) top) c.if-begin_again.true
 
 pub returns-then-goes_on_taken : goal.returns-then-goes_on_taken
 returns-then-goes_on_taken c =
@@ -34,5 +34,5 @@ returns c =
     let top : c.eq-top.result ≡ is_root t c.args.parent = root_told t c.args.parent c.root.result c.eq-top.result c.requires.node c.root.ensures.root c.eq-top.ensures in
     taken_twice n (tree_view t).limit body (record { law = 0; item = 0 }) new (clean_left t c.args.gone.now c.requires.fits) (numbered_left t c.args.gone.now) c.requires.payload c.requires.nums
     (is_root t c.args.parent) (left_below t c.args.gone.now c.args.parent) c.begin_again.result c.goes_on_taken.result c.in_ok-twice.twice
-    (c.begin_again.ensures ∙ ap (λ (s : Bool). all_begun_among (all_beginning n true (all_owns body)) n s new) top) c.if-begin_again.false
+    (c.begin_again.ensures.again ∙ ap (λ (s : Bool). all_begun_among (all_beginning n true (all_owns body)) n s new) top) c.if-begin_again.false
     c.goes_on_taken.ensures c.if-goes_on_taken.false c.in_ok-twice.ensures

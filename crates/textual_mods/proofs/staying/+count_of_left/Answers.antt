@@ -10,7 +10,7 @@ pub count_of_left-beneath-requires : goal.count_of_left-beneath-requires
 count_of_left-beneath-requires t c =
     let within : c.loop-id.id-index < length c.args.ids.now = search rules in
     let lower = kids_lower c.args.tree.now c.args.gone.now c.args.ids.now c.loop-id.id-index c.id-item.result within c.id-item.is c.children_left-children.result.now c.children_left-children.ensures.branches in
-    (search (rules, lower), (c.requires.gone, c.children_left-children.ensures.nodes))
+    (search (rules, lower), (c.requires.gone, (c.children_left-children.ensures.nodes, c.children_left-children.ensures.depth)))
 
 pub loop-id-preserved : goal.loop-id-preserved
 loop-id-preserved t c =

@@ -1,16 +1,29 @@
 -- What takes the place of all is held back by its own first fault, or made.
-use Rattle.std.proofs.Common.{◌∙◌, sym, ap}
-use Rattle.act_tree.specs.Branches.{branches_of}
-use Rattle.act_tree.specs.Brought.{brought}
+use Rattle.std.proofs.Common.{◌≡◌, ◌∙◌, sym, ap, Some, arith}
+use Rattle.act_tree.specs.Branches.{Branches, branches_of}
+use Rattle.act_tree.specs.Brought.{bringer, brought}
 use Rattle.act_tree.specs.Changes.{substituted}
 use Rattle.act_tree.specs.Faults.{first_fault}
+use Rattle.act_tree.specs.Provisions.{Provision}
 use Rattle.act_tree.specs.Seen.{tree_view, provision_at}
 use Rattle.act_tree.specs.Trees.{changed_once}
+use Rattle.act_tree.specs.declared.limits.NodeLimit.TheVariants.{Plain}
+use Rattle.act_tree.specs.declared.limits.TheConstants.{MAX_DEPTH}
+use Rattle.act_tree.specs.declared.surveying.TheConstants.{NONE_THROUGHOUT}
+use Rattle.act_tree.proofs.LowTexts.{as_low, faultless_low, heights_enacted}
 use Rattle.act_tree.proofs.ReplacedNodes.{root_text}
 use Rattle.textual_mods.specs.Edits.{tree_after, outcome_of}
 use Rattle.textual_mods.specs.declared.outcome.Outcome.TheVariants.{Unapplied}
 use Rattle.textual_mods.proofs.BodyReplaced.{body_held, body_done}
 use Rattle.textual_mods.proofs.structure.substitute_all.Goals as goal
+
+pub replace-requires-clause-depth : goal.replace-requires-clause-depth
+replace-requires-clause-depth g c =
+    let new : Branches Provision = brought c.args.by (branches_of c.args.new.now) in
+    let root : substituted (provision_at c.args.tree.now c.root-root.result).wid new (tree_view c.args.tree.now).body ≡ new =
+    ap (λ j. substituted (provision_at c.args.tree.now j).wid new (tree_view c.args.tree.now).body) c.root-root.ensures.root ∙ sym (root_text c.args.tree.now new) in
+    as_low MAX_DEPTH _ _ root
+    (omega (arith, heights_enacted NONE_THROUGHOUT (Some (bringer c.args.by)) (branches_of c.args.new.now), faultless_low NONE_THROUGHOUT Plain (branches_of c.args.new.now) c.requires.payload))
 
 pub returns-in-Some-clause-outcome : goal.returns-in-Some-clause-outcome
 returns-in-Some-clause-outcome g c =

@@ -5,36 +5,44 @@ use Rattle.act_tree.specs.Seen.{tree_view}
 use Rattle.textual_mods.specs.Edits.{tree_after, outcome_of}
 use Rattle.textual_mods.specs.declared.outcome.Outcome.TheVariants.{Unapplied}
 use Rattle.textual_mods.proofs.Substituted.{parent_left, held_instead, done_instead}
+use Rattle.textual_mods.proofs.Limits.{within_low}
 use Rattle.textual_mods.proofs.structure.substitute_node.Goals as goal
 
 pub fault_of_bringing-requires : goal.fault_of_bringing-requires
 fault_of_bringing-requires g c =
-    let left = parent_left c.args.tree.now c.args.by (branches_of c.args.new.now) c.requires.fits c.requires.payload c.nums_are_kept.ensures c.args.id c.parent-parent.result c.parent-parent.ensures.child.0
+    let left = parent_left c.args.tree.now c.args.by (branches_of c.args.new.now) c.requires.fits c.requires.payload c.nums_are_kept.ensures.nums c.args.id c.parent-parent.result c.parent-parent.ensures.child.0
     c.requires.node c.requires.provision c.parent-parent.ensures.node c.parent-parent.ensures.child.1 in
     search (rules, left)
+
+pub replace-requires-clause-depth : goal.replace-requires-clause-depth
+replace-requires-clause-depth g c =
+    let is = rw (← c.in_ok-fault.ensures.same) at c.fault_of_bringing.ensures in
+    within_low (tree_view c.args.tree.now) _
+    (done_instead c.args.tree.now c.args.by (branches_of c.args.new.now) c.requires.fits c.requires.payload c.nums_are_kept.ensures.nums c.args.id c.parent-parent.result c.parent-parent.ensures.child.0
+    c.requires.node c.requires.provision c.parent-parent.ensures.node c.parent-parent.ensures.child.1 (sym c.in-None.is ∙ is))
 
 pub returns-in-Some-clause-outcome : goal.returns-in-Some-clause-outcome
 returns-in-Some-clause-outcome g c =
     let is = rw (← c.in_ok-fault.ensures.same) at c.fault_of_bringing.ensures in
     c.held_back.ensures.outcome ∙ ap Unapplied c.cause.ensures
-    ∙ sym (ap outcome_of (held_instead c.args.tree.now c.args.by (branches_of c.args.new.now) c.requires.fits c.requires.payload c.nums_are_kept.ensures c.args.id c.parent-parent.result c.parent-parent.ensures.child.0
+    ∙ sym (ap outcome_of (held_instead c.args.tree.now c.args.by (branches_of c.args.new.now) c.requires.fits c.requires.payload c.nums_are_kept.ensures.nums c.args.id c.parent-parent.result c.parent-parent.ensures.child.0
     c.requires.node c.requires.provision c.parent-parent.ensures.node c.parent-parent.ensures.child.1 c.in-Some.fault (sym c.in-Some.is ∙ is)))
 
 pub returns-in-Some-clause-tree : goal.returns-in-Some-clause-tree
 returns-in-Some-clause-tree g c =
     let is = rw (← c.in_ok-fault.ensures.same) at c.fault_of_bringing.ensures in
-    sym (ap (tree_after (tree_view c.args.tree.now)) (held_instead c.args.tree.now c.args.by (branches_of c.args.new.now) c.requires.fits c.requires.payload c.nums_are_kept.ensures c.args.id c.parent-parent.result c.parent-parent.ensures.child.0
+    sym (ap (tree_after (tree_view c.args.tree.now)) (held_instead c.args.tree.now c.args.by (branches_of c.args.new.now) c.requires.fits c.requires.payload c.nums_are_kept.ensures.nums c.args.id c.parent-parent.result c.parent-parent.ensures.child.0
     c.requires.node c.requires.provision c.parent-parent.ensures.node c.parent-parent.ensures.child.1 c.in-Some.fault (sym c.in-Some.is ∙ is)))
 
 pub returns-in_ok-replace-in-None-clause-outcome : goal.returns-in_ok-replace-in-None-clause-outcome
 returns-in_ok-replace-in-None-clause-outcome g c =
     let is = rw (← c.in_ok-fault.ensures.same) at c.fault_of_bringing.ensures in
-    sym (ap outcome_of (done_instead c.args.tree.now c.args.by (branches_of c.args.new.now) c.requires.fits c.requires.payload c.nums_are_kept.ensures c.args.id c.parent-parent.result c.parent-parent.ensures.child.0
+    sym (ap outcome_of (done_instead c.args.tree.now c.args.by (branches_of c.args.new.now) c.requires.fits c.requires.payload c.nums_are_kept.ensures.nums c.args.id c.parent-parent.result c.parent-parent.ensures.child.0
     c.requires.node c.requires.provision c.parent-parent.ensures.node c.parent-parent.ensures.child.1 (sym c.in-None.is ∙ is)))
 
 pub returns-in_ok-replace-in-None-clause-tree : goal.returns-in_ok-replace-in-None-clause-tree
 returns-in_ok-replace-in-None-clause-tree g c =
     let is = rw (← c.in_ok-fault.ensures.same) at c.fault_of_bringing.ensures in
     c.in_ok-replace-in-None.ensures.tree
-    ∙ sym (ap (tree_after (tree_view c.args.tree.now)) (done_instead c.args.tree.now c.args.by (branches_of c.args.new.now) c.requires.fits c.requires.payload c.nums_are_kept.ensures c.args.id c.parent-parent.result c.parent-parent.ensures.child.0
+    ∙ sym (ap (tree_after (tree_view c.args.tree.now)) (done_instead c.args.tree.now c.args.by (branches_of c.args.new.now) c.requires.fits c.requires.payload c.nums_are_kept.ensures.nums c.args.id c.parent-parent.result c.parent-parent.ensures.child.0
     c.requires.node c.requires.provision c.parent-parent.ensures.node c.parent-parent.ensures.child.1 (sym c.in-None.is ∙ is)))

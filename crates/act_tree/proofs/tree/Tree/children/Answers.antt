@@ -6,6 +6,7 @@ use Rattle.act_tree.specs.Seen.{has_node, children_at, branch_at, below_at}
 use Rattle.act_tree.specs.Slots.{at, number, size}
 use Rattle.act_tree.proofs.SlotsOfNodes.{node_within, node_slot}
 use Rattle.act_tree.proofs.TreeNodes.{children_branches, children_climb}
+use Rattle.act_tree.proofs.LowNodes.{children_low}
 use Rattle.act_tree.proofs.tree.Tree.children.Goals as goal
 
 pub index-requires : goal.index-requires
@@ -35,3 +36,13 @@ returns-clause-branches c =
     c.as_slice.ensures ∙ sym (ap below_in (node_slot c.args.self.now c.args.id c.place.result c.index.result.now c.requires c.place.ensures c.index.ensures)) in
     ap (λ ids. branches_of (map (branch_from (size arena) (at arena)) ids)) same
     ∙ children_branches (at arena) (number arena) (size arena) c.args.self.now.whole c.args.id c.requires
+
+pub returns-clause-depth : goal.returns-clause-depth
+unfolding has_node branch_at below_at
+returns-clause-depth c =
+    let arena = c.args.self.now.arena in
+    let same : c.as_slice.result.now ≡ below_in (at arena c.args.id) =
+    c.as_slice.ensures ∙ sym (ap below_in (node_slot c.args.self.now c.args.id c.place.result c.index.result.now c.requires c.place.ensures c.index.ensures)) in
+    children_low c.args.self.now c.args.id c.as_slice.result.now c.requires
+    (ap (λ ids. branches_of (map (branch_from (size arena) (at arena)) ids)) same
+    ∙ children_branches (at arena) (number arena) (size arena) c.args.self.now.whole c.args.id c.requires)

@@ -1,8 +1,12 @@
 use Rattle.act_tree.proofs.StayingNodes.{nodes_stay, index_stays}
 use Rattle.std.proofs.Common.{ap}
+use Rattle.act_tree.specs.Arena.{provision_in}
 use Rattle.act_tree.specs.Seen.{tree_view, provision_at}
+use Rattle.act_tree.specs.Slots.{at}
 use Rattle.act_tree.specs.Trees.{TreeValue}
 use Rattle.act_tree.proofs.TakingAway.{may_be_emptied, left_emptied}
+use Rattle.act_tree.specs.declared.limits.TheConstants.{MAX_DEPTH}
+use Rattle.act_tree.proofs.LowTexts.{still_low, removed_low}
 use Rattle.act_tree.proofs.tree.Tree.clear.Goals as goal
 
 pub take_all-requires-clause-within : goal.take_all-requires-clause-within
@@ -16,9 +20,8 @@ take_all-requires-clause-apart c = (may_be_emptied c.args.self.now.arena c.root.
 
 pub invariant_of-self : goal.invariant_of-self
 invariant_of-self c =
-    record {
-      whole = (left_emptied c.args.self.now.arena c.root.result c.root.ensures c.args.self.now.whole c.take_all.new.self c.take_all.ensures.numbers c.take_all.ensures.size c.take_all.ensures.relisted).holds.whole;
-    }
+    let left = left_emptied c.args.self.now.arena c.root.result c.root.ensures c.args.self.now.whole c.take_all.new.self c.take_all.ensures.numbers c.take_all.ensures.size c.take_all.ensures.relisted in
+    record { whole = left.holds.whole; low = still_low MAX_DEPTH _ _ _ left.holds.reads (removed_low (provision_in (at c.args.self.now.arena 0)).wid _) c.args.self.now.low }
 
 pub returns-clause-tree : goal.returns-clause-tree
 unfolding tree_view provision_at

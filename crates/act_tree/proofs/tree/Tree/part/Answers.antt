@@ -1,11 +1,16 @@
 use Rattle.act_tree.proofs.StayingNodes.{LeadsStill, nodes_stay, stay_parted, stay_same}
-use Rattle.std.proofs.Common.{ap}
+use Rattle.std.proofs.Common.{ap, ◌≤◌}
 use Rattle.act_tree.specs.Arena.{IsWhole}
+use Rattle.act_tree.specs.Branches.{heights}
+use Rattle.act_tree.specs.Changes.{parted}
 use Rattle.act_tree.specs.Seen.{has_node, tree_view, provision_at, children_at}
 use Rattle.act_tree.specs.Slots.{at, number, size, provision_of}
 use Rattle.act_tree.specs.Trees.{TreeValue}
+use Rattle.act_tree.proofs.GraftedTrees.{body_of}
 use Rattle.act_tree.proofs.Grown.{on_ok_map, on_err_map, either_way}
 use Rattle.act_tree.proofs.PartedNodes.{can_part, part_ends}
+use Rattle.act_tree.specs.declared.limits.TheConstants.{MAX_DEPTH}
+use Rattle.act_tree.proofs.LowTexts.{as_low, still_low, changed_low, parted_low}
 use Rattle.act_tree.proofs.tree.Tree.part.Goals as goal
 
 pub part-requires-clause-can : goal.part-requires-clause-can
@@ -19,7 +24,13 @@ invariant_of-self c =
     let new = c.part.new.self in
     let ends = part_ends c.part.result old new c.args.id c.args.first_child c.args.head (provision_of c.args.second) c.args.moved.items c.args.self.now.whole c.requires.node c.requires.provision c.requires.fresh c.requires.moved c.requires.num
     c.part.ensures.parted c.part.ensures.slots_kept c.part.ensures.numbers_kept in
-    record { whole = either_way c.part.result _ _ (IsWhole (at new) (number new) (size new)) (λ is. is.whole) (λ is. is.whole) ends.0 ends.1 }
+    record {
+      whole = either_way c.part.result _ _ (IsWhole (at new) (number new) (size new)) (λ is. is.whole) (λ is. is.whole) ends.0 ends.1;
+      low = either_way c.part.result _ _ (heights (body_of new) ≤ MAX_DEPTH)
+          (λ is. still_low MAX_DEPTH _ _ _ is.reads (changed_low (parted c.args.first_child c.args.head (provision_of c.args.second)) (parted_low c.args.first_child c.args.head (provision_of c.args.second)) _ _) c.args.self.now.low)
+          (λ is. as_low MAX_DEPTH _ _ is.reads c.args.self.now.low)
+          ends.0 ends.1;
+    }
 
 pub returns-clause-tree : goal.returns-clause-tree
 unfolding has_node tree_view children_at provision_at

@@ -13,6 +13,8 @@ use Rattle.act_tree.proofs.Frames.{or_left}
 use Rattle.act_tree.proofs.ReplacedNodes.{AreNew, root_text}
 use Rattle.act_tree.proofs.StayingNodes.{stay_new, same_stay}
 use Rattle.act_tree.proofs.Texts.{equal_text}
+use Rattle.act_tree.specs.declared.limits.TheConstants.{MAX_DEPTH}
+use Rattle.act_tree.proofs.LowTexts.{as_low}
 use Rattle.act_tree.proofs.tree.Tree.put_all.Goals as goal
 
 pub plant-requires-clause-differ : goal.plant-requires-clause-differ
@@ -29,7 +31,14 @@ plant-requires-clause-apart c =
     (or_left _ (is_among root_wid (all_wids (tree_view c.args.self.now).body)) (equal_text root_wid root_wid refl)))
 
 pub invariant_of-self : goal.invariant_of-self
-invariant_of-self c = record { whole = c.in_ok-arena.ensures.whole }
+invariant_of-self c =
+    let name : c.as_str.result.now ≡ bringer c.args.by = c.as_str.ensures ∙ c.in_ok-name.ensures in
+    record {
+      whole = c.in_ok-arena.ensures.whole;
+      low = as_low MAX_DEPTH _ _
+          (c.in_ok-arena.ensures.reads ∙ ap (λ n. all_enacted NONE_THROUGHOUT (Some n) (branches_of c.args.nodes.now)) name ∙ root_text c.args.self.now (brought c.args.by (branches_of c.args.nodes.now)))
+          c.requires.depth;
+    }
 
 pub returns-clause-tree : goal.returns-clause-tree
 unfolding tree_view

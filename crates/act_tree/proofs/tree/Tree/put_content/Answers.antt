@@ -1,8 +1,11 @@
 use Rattle.std.proofs.Common.{ap}
+use Rattle.act_tree.specs.Changes.{with_content}
 use Rattle.act_tree.specs.Seen.{has_node, tree_view, provision_at}
 use Rattle.act_tree.specs.Trees.{TreeValue}
 use Rattle.act_tree.proofs.RestatedNodes.{content_given}
 use Rattle.act_tree.proofs.SlotsOfNodes.{node_within}
+use Rattle.act_tree.specs.declared.limits.TheConstants.{MAX_DEPTH}
+use Rattle.act_tree.proofs.LowTexts.{still_low, changed_low, content_low}
 use Rattle.act_tree.proofs.tree.Tree.put_content.Goals as goal
 
 pub set_content-requires-clause-within : goal.set_content-requires-clause-within
@@ -11,10 +14,9 @@ set_content-requires-clause-within c = node_within c.args.self.now c.args.id c.r
 pub invariant_of-self : goal.invariant_of-self
 unfolding has_node
 invariant_of-self c =
-    record {
-      whole = (content_given c.args.self.now.arena c.set_content.new.self c.args.id c.args.content c.args.self.now.whole c.requires.node c.requires.provision
-          c.set_content.ensures.numbers c.set_content.ensures.size c.set_content.ensures.restated).holds.whole;
-    }
+    let given = content_given c.args.self.now.arena c.set_content.new.self c.args.id c.args.content c.args.self.now.whole c.requires.node c.requires.provision
+    c.set_content.ensures.numbers c.set_content.ensures.size c.set_content.ensures.restated in
+    record { whole = given.holds.whole; low = still_low MAX_DEPTH _ _ _ given.holds.reads (changed_low (with_content c.args.content) (content_low c.args.content) _ _) c.args.self.now.low }
 
 pub returns-clause-tree : goal.returns-clause-tree
 unfolding has_node tree_view provision_at

@@ -8,7 +8,15 @@ use Rattle.act_tree.specs.Seen.{tree_view, provision_at}
 use Rattle.act_tree.specs.Trees.{TreeValue}
 use Rattle.act_tree.proofs.BroughtWids.{brought_apart}
 use Rattle.act_tree.proofs.ReplacedNodes.{replaced_text}
+use Rattle.act_tree.specs.declared.limits.TheConstants.{MAX_DEPTH}
+use Rattle.act_tree.proofs.LowTexts.{as_low}
+use Rattle.act_tree.proofs.LowNodes.{beside_low}
 use Rattle.act_tree.proofs.tree.Tree.put_instead.Goals as goal
+
+pub put_nodes-requires-clause-depth : goal.put_nodes-requires-clause-depth
+put_nodes-requires-clause-depth c =
+    let new : Branches Provision = brought c.args.by (branches_of c.args.nodes.now) in
+    as_low MAX_DEPTH _ _ (c.place_of-parent.ensures.before new) (beside_low c.args.self.now c.args.id new c.requires.node c.requires.provision c.requires.depth)
 
 pub returns-clause-tree : goal.returns-clause-tree
 returns-clause-tree c =

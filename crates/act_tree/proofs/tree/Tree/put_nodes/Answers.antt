@@ -1,6 +1,6 @@
 use Rattle.act_tree.proofs.StayingNodes.{LeadsStill, nodes_stay, stay_grafted, stay_stopped, same_stay}
-use Rattle.std.proofs.Common.{◌≡◌, ◌∙◌, ap, subst, ℕ, List, Some}
-use Rattle.act_tree.specs.Branches.{branches_of}
+use Rattle.std.proofs.Common.{◌≡◌, ◌≤◌, ◌∙◌, ap, subst, ℕ, List, Some}
+use Rattle.act_tree.specs.Branches.{branches_of, heights}
 use Rattle.act_tree.specs.Brought.{bringer, brought}
 use Rattle.act_tree.specs.Eids.{all_enacted}
 use Rattle.act_tree.specs.declared.surveying.TheConstants.{NONE_THROUGHOUT}
@@ -15,6 +15,8 @@ use Rattle.act_tree.proofs.BroughtWids.{brought_differ, brought_apart}
 use Rattle.act_tree.proofs.GraftedTrees.{regrown, left_whole, body_of}
 use Rattle.act_tree.proofs.Grown.{on_ok_map, on_err_map, either_way}
 use Rattle.act_tree.proofs.SlotsOfNodes.{node_within}
+use Rattle.act_tree.specs.declared.limits.TheConstants.{MAX_DEPTH}
+use Rattle.act_tree.proofs.LowTexts.{as_low}
 use Rattle.act_tree.proofs.tree.Tree.put_nodes.Goals as goal
 
 pub graft-requires-clause-within : goal.graft-requires-clause-within
@@ -25,7 +27,7 @@ unfolding children_at
 graft-requires-clause-place c = c.requires.place
 
 pub invariant_of-self : goal.invariant_of-self
-unfolding has_node tree_view
+unfolding has_node tree_view provision_at
 invariant_of-self c =
     let old = c.args.self.now.arena in
     let new = c.graft.new.self in
@@ -38,6 +40,11 @@ invariant_of-self c =
           (λ is. (regrown old new c.args.parent c.args.place (brought c.args.by (branches_of c.args.nodes.now)) c.args.self.now.whole c.requires.node (subst P name is)
           (brought_differ c.args.by (branches_of c.args.nodes.now) c.requires.payload) fresh).holds.whole)
           (λ is. (left_whole old new (all_wids (brought c.args.by (branches_of c.args.nodes.now))) c.args.self.now.whole (subst Q name is) fresh).whole)
+          c.graft.ensures.grafted c.graft.ensures.kept;
+      low = either_way c.graft.result _ _ (heights (body_of new) ≤ MAX_DEPTH)
+          (λ is. as_low MAX_DEPTH _ _ (regrown old new c.args.parent c.args.place (brought c.args.by (branches_of c.args.nodes.now)) c.args.self.now.whole c.requires.node (subst P name is)
+          (brought_differ c.args.by (branches_of c.args.nodes.now) c.requires.payload) fresh).holds.reads c.requires.depth)
+          (λ is. as_low MAX_DEPTH _ _ (left_whole old new (all_wids (brought c.args.by (branches_of c.args.nodes.now))) c.args.self.now.whole (subst Q name is) fresh).reads c.args.self.now.low)
           c.graft.ensures.grafted c.graft.ensures.kept;
     }
 

@@ -5,6 +5,8 @@ use Rattle.act_tree.specs.Trees.{TreeValue}
 use Rattle.act_tree.specs.Arena.{provision_in}
 use Rattle.act_tree.specs.Slots.{at}
 use Rattle.act_tree.proofs.TakingAway.{Left, may_be_taken, left_removed}
+use Rattle.act_tree.specs.declared.limits.TheConstants.{MAX_DEPTH}
+use Rattle.act_tree.proofs.LowTexts.{still_low, removed_low}
 use Rattle.act_tree.proofs.tree.Tree.take_away.Goals as goal
 
 pub take_off-requires-clause-within : goal.take_off-requires-clause-within
@@ -24,7 +26,7 @@ unfolding has_node
 invariant_of-self c =
     let left : Left c.args.self.now.arena c.take_off.new.self (provision_in (at c.args.self.now.arena c.args.id)).wid =
     left_removed c.args.self.now.arena c.take_off.new.self c.args.id c.args.self.now.whole c.requires.node c.requires.provision c.take_off.ensures.numbers c.take_off.ensures.size c.take_off.ensures.taken in
-    record { whole = left.holds.whole }
+    record { whole = left.holds.whole; low = still_low MAX_DEPTH _ _ _ left.holds.reads (removed_low (provision_in (at c.args.self.now.arena c.args.id)).wid _) c.args.self.now.low }
 
 pub returns-clause-tree : goal.returns-clause-tree
 unfolding has_node tree_view provision_at

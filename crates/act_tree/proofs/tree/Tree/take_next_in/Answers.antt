@@ -1,11 +1,14 @@
 use Rattle.act_tree.proofs.StayingNodes.{nodes_stay, index_stays, same_stay}
 use Rattle.std.proofs.Common.{rules, ◌≡◌, ◌∙◌, sym, ap, true, is_some}
+use Rattle.act_tree.specs.Changes.{merged}
 use Rattle.act_tree.specs.Seen.{has_node, tree_view, provision_at}
 use Rattle.act_tree.specs.Slots.{at, number, size}
 use Rattle.act_tree.specs.Trees.{TreeValue}
 use Rattle.act_tree.proofs.MergedNodes.{root_alone, some_behind, behind_within, may_join, merged_arena}
 use Rattle.act_tree.proofs.SlotsOfNodes.{node_within}
 use Rattle.act_tree.proofs.TakingAway.{may_be_taken}
+use Rattle.act_tree.specs.declared.limits.TheConstants.{MAX_DEPTH}
+use Rattle.act_tree.proofs.LowTexts.{still_low, changed_low, merged_low}
 use Rattle.act_tree.proofs.tree.Tree.take_next_in.Goals as goal
 
 pub next-requires-clause-within : goal.next-requires-clause-within
@@ -57,10 +60,9 @@ unfolding has_node tree_view provision_at
 invariant_of-self c =
     let arena = c.args.self.now.arena in
     let other : c.args.id ≡ 0 → ⊥ = root_alone (at arena) (number arena) (size arena) c.args.self.now.whole c.args.id c.requires.next in
-    record {
-      whole = (merged_arena arena c.args.id c.unwrap-next.result c.args.self.now.whole c.requires.node other (sym c.next.ensures ∙ c.unwrap-next.ensures) c.in_ok-below.below.items c.in_ok-below.ensures
-          c.join.new.self c.args.content c.in_ok-refs.refs c.join.ensures.numbers c.join.ensures.size c.in_ok-refs.ensures c.join.ensures.joined).whole;
-    }
+    let joined = merged_arena arena c.args.id c.unwrap-next.result c.args.self.now.whole c.requires.node other (sym c.next.ensures ∙ c.unwrap-next.ensures) c.in_ok-below.below.items c.in_ok-below.ensures
+    c.join.new.self c.args.content c.in_ok-refs.refs c.join.ensures.numbers c.join.ensures.size c.in_ok-refs.ensures c.join.ensures.joined in
+    record { whole = joined.whole; low = still_low MAX_DEPTH _ _ _ joined.reads (changed_low (merged c.args.content) (merged_low c.args.content) _ _) c.args.self.now.low }
 
 pub returns-clause-tree : goal.returns-clause-tree
 unfolding has_node tree_view provision_at

@@ -9,8 +9,8 @@ use Rattle.law_register.specs.Answer.ShownNodes.{shown_list}
 use Rattle.akn_json.proofs.Printed.Values.{shown_node_data, nodes_data-shown_list, more_values}
 use Rattle.akn_json.proofs.printing.values.+value.Goals as goal
 
-pub nodes_value-returns : goal.nodes_value-returns
-nodes_value-returns t c =
+pub nodes_value-returns-clause-value : goal.nodes_value-returns-clause-value
+nodes_value-returns-clause-value t c =
     view-Array _ ∙ ap (λ vs. array (items_of vs)) (c.loop-node.invariant ∙ ap (map shown_node_data) (take_all _ _ (omega arith)))
     ∙ ap array (nodes_data-shown_list _)
     ∙ ap (λ ns. array (nodes_data (branches_of ns))) (ap shown_list c.deref-node-items.ensures.value ∙ c.nodes.view_is)

@@ -1,6 +1,0 @@
--- The pieces so far are shared.
-use Rattle.std.proofs.Common.{◌≡◌, take}
-use Rattle.act_tree.proofs.piece_list.with_next.Given as goal
-
-abbrev pub invariant-loop-piece : goal.invariant-loop-piece
-invariant-loop-piece g l = l.pieces.items ≡ take l.piece-index l.block
