@@ -5,7 +5,7 @@ use Rattle.std.proofs.lemmas.List.Sorted.{IsPermutation-map, sum_by-IsPermutatio
 use Rattle.std.proofs.lemmas.List.Sums.{sum_by-append, sum_by-cons, sum_by_push}
 use Rattle.std.specs.List.{sum_by}
 use Rattle.std.specs.Map.{keys_of, lookup}
-use Rattle.std.specs.Prelude.{IsOk, IsPermutation, OnOk, Result, Ok, Err, is_some}
+use Rattle.std.specs.Prelude.{IsPermutation, is_some}
 use Rattle.std.specs.Str.{bytes_eq}
 use Rattle.indexmap.specs.IndexMap.{insert_entry}
 use Rattle.law_register.specs.declared.law.act.Act.{Act}
@@ -172,11 +172,9 @@ unmapped : {V W : Type 0} (f : V → W) (found : Option V) → option_map f foun
 unmapped f None is = refl
 unmapped f (Some v) is = absurd (let no : Some (f v) ≡ None = is in cc)
 
-pub key_last : {V W R E : Type 0} (f : V → W) (old new : List (List ℕ × V)) (w : List ℕ) (v : V) (done : Result R E)
-    → IsOk done → OnOk done (new ≡ insert_entry bytes_eq old w v) → option_map f (lookup (bytes_eq w) old) ≡ None
-    → keys_of new ≡ keys_of old ++ w ∷ []
-key_last f old new w v (Ok r) ok entries none = ap keys_of entries ∙ new_last bytes_eq old w v (unmapped f (lookup (bytes_eq w) old) none)
-key_last f old new w v (Err e) ok entries none = absurd (let no : false ≡ true = ok in cc)
+pub key_last : {V W : Type 0} (f : V → W) (old new : List (List ℕ × V)) (w : List ℕ) (v : V) → new ≡ insert_entry bytes_eq old w v
+    → option_map f (lookup (bytes_eq w) old) ≡ None → keys_of new ≡ keys_of old ++ w ∷ []
+key_last f old new w v entries none = ap keys_of entries ∙ new_last bytes_eq old w v (unmapped f (lookup (bytes_eq w) old) none)
 
 -- where no key is this one, nothing is found
 none_kept : {V : Type 0} (es : List (List ℕ × V)) (w : List ℕ) → sum_by (one w) (keys_of es) ≡ 0 → lookup (bytes_eq w) es ≡ None

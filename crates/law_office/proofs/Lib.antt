@@ -5,6 +5,8 @@ mod RefRows
 mod TextRefs
 mod Loading
 mod Reserving
+mod Puts
+mod Prepared
 mod Booked
 mod Asked
 mod Adding

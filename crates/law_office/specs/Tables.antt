@@ -5,13 +5,14 @@ use Rattle.indexmap.specs.IndexMap.{IndexMap, get_by}
 use Rattle.law_register.specs.declared.register.entry.Entry.{Entry}
 use Rattle.law_register.specs.declared.register.known.Known.{Known}
 use Rattle.law_register.specs.Answer.Replay.{VersionValue}
+use Rattle.law_register.specs.Answer.Touched.{touched_day}
 use Rattle.law_register.specs.Register.KnownNext.{known_now}
 use Rattle.version_cache.specs.declared.table.Table.{Table}
 use Rattle.version_cache.specs.declared.work_revision.WorkRevision.{WorkRevision}
 use Rattle.version_cache.specs.declared.work_tables.WorkTables.{WorkTables}
 use Rattle.version_cache.specs.Seen.{table_view, work_revision_view, work_view}
 use Rattle.version_cache.specs.Tables.{version_on}
-use Rattle.version_cache.specs.Works.{AreRevisionsOf, IsForIf, WorkRevisionValue, WorkValue, renewed}
+use Rattle.version_cache.specs.Works.{AreRevisionsOf, IsForIf, WorkRevisionValue, WorkValue, renewed, work_revision_of}
 use Rattle.law_refs.specs.Index.{Kept as IndexValue}
 use Rattle.law_refs.specs.OfRegister.{IsIndexOf}
 use Rattle.law_office.specs.References.{index_after}
@@ -85,6 +86,22 @@ pub record AreChangesOf (entries : List Entry) (entry : Entry) (kept : Kept) (in
   pub fit : Fit (map revised_view changes.revised.items) kept
   pub right : AreTablesOf (entries ++ entry ∷ []) (applied changes kept)
   pub refs : IsIndexOf (entries ++ entry ∷ []) (index_after changes.refs index)
+
+-- a work that is revised is this one, and its revision is that which an entry makes of what is kept of it behind these entries
+pub record IsMadeBy (entries : List Entry) (entry : Entry) (work : List ℕ) (kept : WorkValue) (revised : List ℕ × WorkRevisionValue)
+    : Type 0 where
+  pub name : revised.0 ≡ work
+  pub fits : AreRevisionsOf kept revised.1.tables
+  pub right : IsForIf (known_now (entries ++ entry ∷ []) work) (renewed kept revised.1)
+  pub made : revised.1 ≡ work_revision_of kept revised.1.known (touched_day entries entry)
+  pub known : known_now (entries ++ entry ∷ []) work ≡ Some revised.1.known
+
+-- so it is where something is kept of the work, and else no work is revised
+abbrev pub IsMadeIf : List Entry → Entry → List ℕ → Option WorkValue → Option (List ℕ × WorkRevisionValue) → Type 0
+IsMadeIf entries entry work None None = Unit {0}
+IsMadeIf entries entry work None (Some revised) = ⊥
+IsMadeIf entries entry work (Some kept) None = ⊥
+IsMadeIf entries entry work (Some kept) (Some revised) = IsMadeBy entries entry work kept revised
 
 -- one work more is kept, if it is known, for what is known of it
 pub record AddsWork (known : Option Known) (work : List ℕ) (old new : Kept) : Type 0 where

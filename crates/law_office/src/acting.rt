@@ -224,28 +224,35 @@ fn keep<K: Keeper, L: Ledger>(
     }
 }
 
-// Spells an entry for which there is room, and makes its changes.
+// Spells an entry for which there is room, and makes its changes. The book stays, but for what its tables go on from.
 fn prepare<L: Ledger>(
     alloc: Global,
-    book: &Book,
+    book: &mut Book,
     entry: &Entry,
     steps: &mut Steps<L>,
 ) -> Result<(Vec<u8>, Changes), Memory>
-    requires follows { MayFollow book.now.register.entries entry.now }
-    requires room { 1 ≤ book.now.register.spare }
-    requires space { 1 ≤ spare book.now.tables }
-    requires right { IsRight book.now }
-    ensures pending { IfOk result (λ made. IsPendingOn book.now.register book.now.tables book.now.refs
+    requires follows { MayFollow book.old.register.entries entry.now }
+    requires room { 1 ≤ book.old.register.spare }
+    requires space { 1 ≤ spare book.old.tables }
+    requires settled { book.old.pending ≡ None }
+    requires right { IsRight book.old }
+    ensures register { book.new.register ≡ book.old.register }
+    ensures refs { book.new.refs ≡ book.old.refs }
+    ensures none { book.new.pending ≡ None }
+    ensures end { book.new.end ≡ book.old.end }
+    ensures moves { Moves book.old book.new }
+    ensures right { IsRight book.new }
+    ensures pending { IfOk result (λ made. IsPendingOn book.new.register book.new.tables book.new.refs
         (record { entry = entry.now; bytes = made.0; changes = made.1 })) }
-    ensures steps { steps.new ≤ steps.old + (entry_cost book.now.register.entries entry.now
-        + judged_for book.now.refs book.now.register.entries entry.now) }
+    ensures steps { steps.new ≤ steps.old + (entry_cost book.old.register.entries entry.now
+        + judged_for book.old.refs book.old.register.entries entry.now) }
 {
     laws::accepted_can_be_spelled(&book.register, entry);
     let bytes = encode(alloc, entry)?;
     let changes = make_changes(
         alloc,
         &book.register,
-        &book.tables,
+        &mut book.tables,
         &book.refs,
         entry,
         steps,

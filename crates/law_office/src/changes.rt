@@ -1,6 +1,7 @@
 //! Changes: what an entry that is accepted makes of what is kept of works. They are made before the keeper is asked.
 
-ghost use Rattle.std.specs.Prelude.{◌≡◌, ◌+◌, ◌<◌, ◌≤◌, [], ◌∷◌, ◌++◌, true, None, Some, IfOk, option_map, vec_capacity, vec_len};
+ghost use Rattle.std.specs.Prelude.{◌≡◌, ◌+◌, ◌<◌, ◌≤◌, [], ◌∷◌, ◌++◌, true, ℕ, List, None, Some, IfOk, option_map, vec_capacity, vec_len};
+ghost use Rattle.indexmap.specs.IndexMap.{spare};
 ghost use Rattle.law_register.specs.declared.law.command.Command.TheVariants as commands;
 ghost use Rattle.law_register.specs.Answer.Renewing.{entry_cost};
 ghost use Rattle.law_register.specs.Answer.Touched as touching;
@@ -12,7 +13,7 @@ ghost use Rattle.law_refs.specs.Handing.{judged_for};
 ghost use Rattle.law_refs.specs.OfRegister.{IsIndexOf};
 ghost use Rattle.version_cache.specs.Seen.{work_revision_view, work_view};
 ghost use Rattle.version_cache.specs.Works.{AreRevisionsOf, IsForIf, renewed, work_of, work_revision_of};
-ghost use Rattle.law_office.specs.Tables.{AreChangesOf, AreTablesOf, kept_in};
+ghost use Rattle.law_office.specs.Tables.{AreChangesOf, AreTablesOf, IsMadeBy, IsMadeIf, kept_in, revised_view};
 
 use crate::book::{Changes, KeptWorks};
 use crate::references::{refs_enacted, refs_revised};
@@ -150,20 +151,21 @@ fn revise<L: Ledger>(
     register: &Register,
     entry: &Entry,
     _work: &WorkName,
-    kept: &WorkTables,
+    kept: &mut WorkTables,
     steps: &mut Steps<L>,
 ) -> Result<WorkRevision, Memory>
-    requires right { IsForIf (known_now register.now.entries _work.now) (work_view kept.now) }
+    requires right { IsForIf (known_now register.now.entries _work.now) (work_view kept.old) }
     requires concerned { touching.work_entered register.now.entries (law_of register.now.entries entry.now)
         ≡ Some _work.now }
     requires accepted { is_accepted entry.now.law (verdict register.now.entries entry.now.drafter
         entry.now.request entry.now.command) ≡ true }
+    ensures same { work_view kept.new ≡ work_view kept.old }
     ensures fits { IfOk result
-        (λ revision. AreRevisionsOf (work_view kept.now) (work_revision_view revision).tables) }
+        (λ revision. AreRevisionsOf (work_view kept.old) (work_revision_view revision).tables) }
     ensures right { IfOk result (λ revision.
         IsForIf (known_now (register.now.entries ++ entry.now ∷ []) _work.now)
-        (renewed (work_view kept.now) (work_revision_view revision))) }
-    ensures made { IfOk result (λ revision. work_revision_view revision ≡ work_revision_of (work_view kept.now)
+        (renewed (work_view kept.old) (work_revision_view revision))) }
+    ensures made { IfOk result (λ revision. work_revision_view revision ≡ work_revision_of (work_view kept.old)
         (work_revision_view revision).known (touching.touched_day register.now.entries entry.now)) }
     ensures known { IfOk result (λ revision. known_now (register.now.entries ++ entry.now ∷ []) _work.now
         ≡ Some (work_revision_view revision).known) }
@@ -176,7 +178,37 @@ fn revise<L: Ledger>(
     kept.revise(alloc, &FromEnacted, known, day, steps)
 }
 
-// The changes of an entry that concerns a work of which this is kept.
+// The revision of what is kept of the work that an entry concerns, if anything is. All that is kept stays.
+fn revise_kept<L: Ledger>(
+    alloc: Global,
+    register: &Register,
+    tables: &mut KeptWorks,
+    entry: &Entry,
+    work: &WorkName,
+    steps: &mut Steps<L>,
+) -> Result<Option<(WorkName, WorkRevision)>, Memory>
+    requires right { AreTablesOf register.now.entries (kept_in tables.old) }
+    requires concerned { touching.work_entered register.now.entries (law_of register.now.entries entry.now)
+        ≡ Some work.now }
+    requires accepted { is_accepted entry.now.law (verdict register.now.entries entry.now.drafter
+        entry.now.request entry.now.command) ≡ true }
+    ensures same { (w : List ℕ) → kept_in tables.new w ≡ kept_in tables.old w }
+    ensures spare { spare tables.new ≡ spare tables.old }
+    ensures made { IfOk result (λ made. IsMadeIf register.now.entries entry.now work.now (kept_in tables.old work.now)
+        (option_map revised_view made)) }
+    ensures steps { steps.new ≤ steps.old + entry_cost register.now.entries entry.now }
+{
+    match tables.get_mut(work) {
+        Some(kept) => {
+            let name = work.copy()?;
+            let revision = revise(alloc, register, entry, work, kept, steps)?;
+            Ok(Some((name, revision)))
+        }
+        None => Ok(None),
+    }
+}
+
+// The changes of an entry that concerns a work of which this is kept, with the revision that it makes of it.
 fn revising<L: Ledger>(
     alloc: Global,
     register: &Register,
@@ -185,29 +217,27 @@ fn revising<L: Ledger>(
     entry: &Entry,
     work: &WorkName,
     kept: &WorkTables,
+    one: (WorkName, WorkRevision),
     steps: &mut Steps<L>,
 ) -> Result<Changes, Memory>
     requires right { AreTablesOf register.now.entries (kept_in tables.now) }
     requires index { IsIndexOf register.now.entries index.now }
     requires kept { kept_in tables.now work.now ≡ Some (work_view kept.now) }
+    requires made { IsMadeBy register.now.entries entry.now work.now (work_view kept.now) (revised_view one) }
     requires other { acts.act_of entry.now.command ≡ None }
     requires concerned { touching.work_entered register.now.entries (law_of register.now.entries entry.now)
         ≡ Some work.now }
     requires accepted { is_accepted entry.now.law (verdict register.now.entries entry.now.drafter
         entry.now.request entry.now.command) ≡ true }
     ensures changes { IfOk result (AreChangesOf register.now.entries entry.now (kept_in tables.now) index.now) }
-    ensures steps { steps.new ≤ steps.old
-        + (entry_cost register.now.entries entry.now + judged_for index.now register.now.entries entry.now) }
+    ensures steps { steps.new ≤ steps.old + judged_for index.now register.now.entries entry.now }
 {
     entries_are_legal(register);
     an_entry_hands_in();
     revision_follows_the_register();
     what_did_not_move_stays_right();
     what_moves_no_work_leaves_the_index();
-    let name = work.copy()?;
     let revised = Vec::with_capacity(alloc, 1)?;
-    let revision = revise(alloc, register, entry, work, kept, steps)?;
-    let one = (name, revision);
     match refs_revised(alloc, register, tables, index, entry, kept, &one, steps) {
         Ok(refs) => Ok(with_revised(revised, one, refs)),
         Err(Memory) => {
@@ -218,31 +248,67 @@ fn revising<L: Ledger>(
     }
 }
 
-// The changes of an entry that enacts nothing and concerns this work.
-fn changing_work<L: Ledger>(
+// The changes of an entry that concerns this work, with the revision that it makes of what is kept of it.
+fn with_kept<L: Ledger>(
     alloc: Global,
     register: &Register,
     tables: &KeptWorks,
     index: &RefIndex,
     entry: &Entry,
     work: &WorkName,
+    one: (WorkName, WorkRevision),
     steps: &mut Steps<L>,
 ) -> Result<Changes, Memory>
     requires right { AreTablesOf register.now.entries (kept_in tables.now) }
     requires index { IsIndexOf register.now.entries index.now }
+    requires made { IsMadeIf register.now.entries entry.now work.now (kept_in tables.now work.now)
+        (Some (revised_view one)) }
     requires other { acts.act_of entry.now.command ≡ None }
     requires concerned { touching.work_entered register.now.entries (law_of register.now.entries entry.now)
         ≡ Some work.now }
     requires accepted { is_accepted entry.now.law (verdict register.now.entries entry.now.drafter
         entry.now.request entry.now.command) ≡ true }
     ensures changes { IfOk result (AreChangesOf register.now.entries entry.now (kept_in tables.now) index.now) }
+    ensures steps { steps.new ≤ steps.old + judged_for index.now register.now.entries entry.now }
+{
+    match tables.get(work) {
+        Some(kept) => revising(
+            alloc, register, tables, index, entry, work, kept, one, steps,
+        ),
+        None => {
+            drop(one);
+            Ok(no_changes(alloc))
+        }
+    }
+}
+
+// The changes of an entry that enacts nothing and concerns this work.
+fn changing_work<L: Ledger>(
+    alloc: Global,
+    register: &Register,
+    tables: &mut KeptWorks,
+    index: &RefIndex,
+    entry: &Entry,
+    work: &WorkName,
+    steps: &mut Steps<L>,
+) -> Result<Changes, Memory>
+    requires right { AreTablesOf register.now.entries (kept_in tables.old) }
+    requires index { IsIndexOf register.now.entries index.now }
+    requires other { acts.act_of entry.now.command ≡ None }
+    requires concerned { touching.work_entered register.now.entries (law_of register.now.entries entry.now)
+        ≡ Some work.now }
+    requires accepted { is_accepted entry.now.law (verdict register.now.entries entry.now.drafter
+        entry.now.request entry.now.command) ≡ true }
+    ensures same { (w : List ℕ) → kept_in tables.new w ≡ kept_in tables.old w }
+    ensures spare { spare tables.new ≡ spare tables.old }
+    ensures changes { IfOk result (AreChangesOf register.now.entries entry.now (kept_in tables.new) index.now) }
     ensures steps { steps.new ≤ steps.old
         + (entry_cost register.now.entries entry.now + judged_for index.now register.now.entries entry.now) }
 {
     entries_are_legal(register);
     an_entry_hands_in();
-    match tables.get(work) {
-        Some(kept) => revising(alloc, register, tables, index, entry, work, kept, steps),
+    match revise_kept(alloc, register, tables, entry, work, steps)? {
+        Some(one) => with_kept(alloc, register, tables, index, entry, work, one, steps),
         None => Ok(no_changes(alloc)),
     }
 }
@@ -251,17 +317,19 @@ fn changing_work<L: Ledger>(
 fn changing<L: Ledger>(
     alloc: Global,
     register: &Register,
-    tables: &KeptWorks,
+    tables: &mut KeptWorks,
     index: &RefIndex,
     entry: &Entry,
     steps: &mut Steps<L>,
 ) -> Result<Changes, Memory>
-    requires right { AreTablesOf register.now.entries (kept_in tables.now) }
+    requires right { AreTablesOf register.now.entries (kept_in tables.old) }
     requires index { IsIndexOf register.now.entries index.now }
     requires other { acts.act_of entry.now.command ≡ None }
     requires accepted { is_accepted entry.now.law (verdict register.now.entries entry.now.drafter
         entry.now.request entry.now.command) ≡ true }
-    ensures changes { IfOk result (AreChangesOf register.now.entries entry.now (kept_in tables.now) index.now) }
+    ensures same { (w : List ℕ) → kept_in tables.new w ≡ kept_in tables.old w }
+    ensures spare { spare tables.new ≡ spare tables.old }
+    ensures changes { IfOk result (AreChangesOf register.now.entries entry.now (kept_in tables.new) index.now) }
     ensures steps { steps.new ≤ steps.old
         + (entry_cost register.now.entries entry.now + judged_for index.now register.now.entries entry.now) }
 {
@@ -278,16 +346,18 @@ fn changing<L: Ledger>(
 pub(crate) fn make_changes<L: Ledger>(
     alloc: Global,
     register: &Register,
-    tables: &KeptWorks,
+    tables: &mut KeptWorks,
     index: &RefIndex,
     entry: &Entry,
     steps: &mut Steps<L>,
 ) -> Result<Changes, Memory>
-    requires right { AreTablesOf register.now.entries (kept_in tables.now) }
+    requires right { AreTablesOf register.now.entries (kept_in tables.old) }
     requires index { IsIndexOf register.now.entries index.now }
     requires accepted { is_accepted entry.now.law (verdict register.now.entries entry.now.drafter
         entry.now.request entry.now.command) ≡ true }
-    ensures changes { IfOk result (AreChangesOf register.now.entries entry.now (kept_in tables.now) index.now) }
+    ensures same { (w : List ℕ) → kept_in tables.new w ≡ kept_in tables.old w }
+    ensures spare { spare tables.new ≡ spare tables.old }
+    ensures changes { IfOk result (AreChangesOf register.now.entries entry.now (kept_in tables.new) index.now) }
     ensures steps { steps.new ≤ steps.old
         + (entry_cost register.now.entries entry.now + judged_for index.now register.now.entries entry.now) }
 {

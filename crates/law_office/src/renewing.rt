@@ -1,8 +1,9 @@
 //! Renewing: changes are made to what is kept. None of it takes memory.
 
-ghost use Rattle.std.specs.Prelude.{◌≡◌, ◌≤◌, ◌++◌, ◌∷◌, [], List, ℕ, None, Some, IfSome, map, option_map};
+ghost use Rattle.std.specs.Prelude.{◌≡◌, ◌≤◌, ◌++◌, ◌∷◌, [], List, ℕ, None, Some, IfSome, if◌then◌else◌, map, option_map};
 ghost use Rattle.std.specs.Map.{keys_of};
-ghost use Rattle.indexmap.specs.IndexMap.{spare};
+ghost use Rattle.std.specs.Str.{bytes_eq};
+ghost use Rattle.indexmap.specs.IndexMap.{get_by, insert_entry, spare};
 ghost use Rattle.version_cache.specs.Seen.{work_revision_view, work_view};
 ghost use Rattle.version_cache.specs.Works.{AreRevisionsOf};
 ghost use Rattle.law_office.specs.References.{index_after};
@@ -10,6 +11,7 @@ ghost use Rattle.law_office.specs.Tables.{Fit, applied, enacted_view, kept_in, r
 
 use crate::book::{Changes, KeptWorks};
 use frbr_names::WorkName;
+use indexmap::IndexMap;
 use law_refs::{RefIndex, RefRevision};
 use version_cache::{WorkRevision, WorkTables};
 
@@ -39,6 +41,16 @@ fn renew_all(tables: &mut KeptWorks, revised: Vec<(WorkName, WorkRevision)>)
     }
 }
 
+// Puts a value at a work, for which there is room: in the place of what is there, or behind all others.
+fn put<V: Drop>(map: &mut IndexMap<WorkName, V>, work: WorkName, value: V)
+    requires { 1 ≤ spare map.old }
+    ensures value { (w : List ℕ) → get_by (bytes_eq w) map.new
+        ≡ (if bytes_eq work w then Some value else get_by (bytes_eq w) map.old) }
+    ensures entries { map.new.entries ≡ insert_entry bytes_eq map.old.entries work value }
+{
+    let _ = map.insert(work, value);
+}
+
 // Keeps a work, which goes last where nothing is kept of it.
 pub(crate) fn add(tables: &mut KeptWorks, work: WorkName, kept: WorkTables)
     requires { 1 ≤ spare tables.old }
@@ -47,7 +59,7 @@ pub(crate) fn add(tables: &mut KeptWorks, work: WorkName, kept: WorkTables)
     ensures key { kept_in tables.old work ≡ None
         → keys_of tables.new.entries ≡ keys_of tables.old.entries ++ work ∷ [] }
 {
-    let _ = tables.insert(work, kept);
+    put(tables, work, kept);
 }
 
 // Keeps a work that is enacted, if one is.

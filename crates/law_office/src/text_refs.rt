@@ -1,10 +1,11 @@
 //! The references of a text, in its order: those of each provision before those of the provisions beneath it.
 
-ghost use Rattle.std.specs.Prelude.{◌≡◌, ◌++◌, [], true, IfOk, IsTrue, OnOk, map, option_map};
+ghost use Rattle.std.specs.Prelude.{◌≡◌, ◌≤◌, ◌++◌, [], true, IfOk, IsTrue, OnOk, map, option_map};
 ghost use Rattle.std.specs.List.{All};
-ghost use Rattle.act_tree.specs.Branches.{branches_of, no_branches};
+ghost use Rattle.act_tree.specs.Branches.{branches_of, heights, no_branches};
 ghost use Rattle.act_tree.specs.Eids as eids;
 ghost use Rattle.act_tree.specs.Seen.{below_at, branch_at, has_node, provision_at, tree_view};
+ghost use Rattle.act_tree.specs.declared.limits.TheConstants.{MAX_DEPTH};
 ghost use Rattle.law_refs.specs.Missing as spec;
 
 use act_tree::{NodeId, Tree, eid_below};
@@ -52,7 +53,7 @@ fn is_bare(tree: &Tree, id: NodeId) -> bool
 }
 
 // Adds the references of provisions with all beneath them, below the one of the eId `above`, or right below the root where that is
-// `None`. It takes as much stack as the tree is deep.
+// `None`, those right below each by a call of its own.
 fn add_all(
     alloc: Global,
     tree: &Tree,
@@ -60,7 +61,8 @@ fn add_all(
     ids: &[NodeId],
     found: &mut NodeRefs,
 ) -> Result<(), Memory>
-    requires { All (λ id. has_node tree.now id ≡ true) ids.now }
+    requires nodes { All (λ id. has_node tree.now id ≡ true) ids.now }
+    requires depth { heights (branches_of (map (branch_at tree.now) ids.now)) ≤ MAX_DEPTH }
     ensures { OnOk result (found.new ≡ found.old ++ spec.all_branch_refs (tree_view tree.now).numbering
         (option_map (λ s. s.now) above.entry) (branches_of (map (branch_at tree.now) ids.now))) }
 {

@@ -1,8 +1,7 @@
 -- Days from a day on, and the last of those before it.
-use Rattle.std.proofs.Common.{suc, ◌≡◌, ◌∙◌, sym, ap, refl, subst, ℕ, ◌+◌, ◌-◌, Bool, true, false, cond, nat_le, nat_lt, List, [], ◌∷◌, length, map, take, drop, Option, Some, None, arith}
+use Rattle.std.proofs.Common.{suc, ◌≡◌, ◌∙◌, sym, ap, refl, ℕ, ◌+◌, ◌-◌, Bool, true, false, cond, nat_le, nat_lt, List, [], ◌∷◌, length, map, take, drop, Option, Some, None, arith}
 use Rattle.std.proofs.lemmas.Bool.Decides.{nat_tests}
 use Rattle.std.specs.List.{filter, list_all}
-use Rattle.std.specs.Prelude.{slice_get}
 use Rattle.std.specs.Option.{option_or}
 use Rattle.desk_base.specs.declared.id.Id.{Id}
 use Rattle.law_register.specs.declared.answer.question.Reading.{Reading}
@@ -45,17 +44,6 @@ last_by_next day (d ∷ ds) =
     by : (b : Bool) → option_or (last_day (days_before (suc day) ds)) (cond b (Some d) None) ≡ last_day (cond b (d ∷ days_before (suc day) ds) (days_before (suc day) ds))
     by true = refl
     by false = or_none (last_day (days_before (suc day) ds))
-
-taken_back : (n : ℕ) → suc (suc n) - 1 ≡ suc (suc n - 1)
-taken_back n = omega arith
-
--- the last day of a list is that at its last place
-pub last_day_is : (ds : List ℕ) (d : ℕ) → slice_get ds (length ds - 1) ≡ Some d → last_day ds ≡ Some d
-last_day_is [] d h = absurd (let wrong : None ≡ Some d = h in cc)
-last_day_is (x ∷ []) d h = h
-last_day_is (x ∷ y ∷ ys) d h =
-    ap (λ o. option_or o (Some x))
-    (last_day_is (y ∷ ys) d (let n = length ys in subst (λ (k : ℕ). slice_get (x ∷ y ∷ ys) k ≡ Some d) (taken_back n) h))
 
 module _ (touched : ℕ) where
   -- no day is before the first

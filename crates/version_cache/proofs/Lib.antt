@@ -14,9 +14,11 @@ pub mod Continued
 pub mod RowFronts
 pub mod Points
 pub mod Adding
+pub mod Behind
 pub mod LateDays
 pub mod Revised
 pub mod Ahead
+pub mod Going
 pub mod Renewed
 pub mod Alike
 pub mod Following

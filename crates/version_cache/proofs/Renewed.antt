@@ -72,12 +72,11 @@ pub right_before : (known : Known) (touched : Option ℕ) (day : ℕ) (work : Wo
 right_before known touched day work is right = subst (λ until. AreRightUntil known until work) is right
 
 -- the steps of both revisions
-pub both_steps : (known : Known) (touched : Option ℕ) (day : ℕ) (work : WorkValue) (old mid now : ℕ) → touched ≡ Some day → AreRightUntil known touched work
-    → mid ≤ old + revision_cost known work.force.reading day → now ≤ mid + revision_cost known Efficacy day → now ≤ old + both_costs known touched
-both_steps known touched day work old mid now is right first then =
-    subst (λ (cost : ℕ). now ≤ old + cost)
-    (ap (λ r. revision_cost known r day + revision_cost known Efficacy day) (right.readings Force) ∙ sym (ap (both_costs known) is))
-    (sum old mid now (revision_cost known work.force.reading day) (revision_cost known Efficacy day) first then)
+pub both_steps : (known : Known) (touched : Option ℕ) (day old mid now : ℕ) → touched ≡ Some day
+    → mid ≤ old + revision_cost known Force day → now ≤ mid + revision_cost known Efficacy day → now ≤ old + both_costs known touched
+both_steps known touched day old mid now is first then =
+    subst (λ (cost : ℕ). now ≤ old + cost) (sym (ap (both_costs known) is))
+    (sum old mid now (revision_cost known Force day) (revision_cost known Efficacy day) first then)
   where
     sum : (old mid now a b : ℕ) → mid ≤ old + a → now ≤ mid + b → now ≤ old + (a + b)
     sum old mid now a b h k = omega arith

@@ -3,6 +3,7 @@ pub mod Days
 pub mod Tables
 pub mod Kept
 pub mod Rows
+pub mod Working
 pub mod Readings
 pub mod Seen
 pub mod Works

@@ -1,8 +1,9 @@
 //! Making: the rows of a table, each continued from the one before where the same modifications come first.
 
-ghost use Rattle.std.specs.Prelude.{◌≡◌, ◌+◌, ◌≤◌, ◌++◌, [], false, true, IfOk, OnOk, length};
+ghost use Rattle.std.specs.Prelude.{◌≡◌, ◌+◌, ◌≤◌, ◌++◌, [], false, true, IfOk, OnOk, length, map};
 ghost use Rattle.act_tree.specs.Seen.{is_own};
 ghost use Rattle.law_register.specs.Answer.Costs as costs;
+ghost use Rattle.law_register.specs.Answer.Order.{order};
 ghost use Rattle.law_register.specs.Answer.Replay.{as_enacted, replayed};
 ghost use Rattle.law_register.specs.Answer.Soundness.{IsSound, id_twice};
 ghost use Rattle.law_register.specs.Answer.Versions.{version_view};
@@ -12,7 +13,7 @@ ghost use Rattle.version_cache.specs.Tables.{last_version, rows_on};
 use crate::Row;
 use crate::kept_version::KeptVersion;
 use desk_base::{Day, Id, Memory, Steps};
-use law_register::{Ids, Known, Reading, Replayer, Version, enact, go_on};
+use law_register::{Ids, Known, Reading, Version, enact, go_on};
 use std::alloc::Global;
 use std::sync::ledger::Ledger;
 
@@ -127,14 +128,15 @@ pub fn last_kept<'a>(last: &'a KeptVersion, rows: &'a [Row]) -> &'a KeptVersion
     }
 }
 
-/// Adds a row for each of these days. One working version goes on from row to row, and each row keeps it beside the row before,
-/// so that no tree is copied whole but the first.
-pub fn add_rows<P: Replayer, L: Ledger>(
+/// Adds a row for each of these days, whose orders are these. The working version, which is that before them, goes on from row to row, and each row keeps it
+/// beside the row before, so that no tree is copied whole.
+pub fn add_rows<L: Ledger>(
     alloc: Global,
-    replayer: &P,
     course: &Course<'_>,
     start: Start<'_>,
     days: &[Day],
+    orders: Vec<Ids>,
+    working: &mut Version,
     rows: &mut Vec<Row>,
     steps: &mut Steps<L>,
 ) -> Result<(), Memory>
@@ -142,15 +144,19 @@ pub fn add_rows<P: Replayer, L: Ledger>(
     requires enacted { kept_view course.now.enacted.now ≡ as_enacted course.now.known.now.act }
     requires last { kept_view start.last.now
         ≡ replayed course.now.known.now.mods (as_enacted course.now.known.now.act) start.ids }
+    requires own { is_own working.old.tree ≡ true }
+    requires working { version_view working.old ≡ kept_view start.last.now }
+    requires orders { orders.items ≡ map (order course.now.known.now course.now.reading) days.now }
     requires none { rows_view rows.old.items ≡ [] }
     ensures rows { OnOk result (rows_view rows.new.items
         ≡ rows_on course.now.known.now course.now.reading days.now) }
+    ensures own { OnOk result (is_own working.new.tree ≡ true) }
+    ensures working { OnOk result (version_view working.new
+        ≡ last_version (kept_view start.entry.last.now) (rows_view rows.new.items)) }
     ensures steps { steps.new
         ≤ steps.old + costs.cost_after course.now.known.now course.now.reading 0 start.entry.ids days.now }
 {
-    let orders = replayer.orders_at(alloc, course.known, course.reading, days)?;
     let Start { ids, last } = start;
-    let mut working = last.version().copy(alloc)?;
     let mut before = ids;
     let mut index = 0;
     for ids in orders {
@@ -160,7 +166,7 @@ pub fn add_rows<P: Replayer, L: Ledger>(
             course,
             before.as_slice(),
             so_far,
-            &mut working,
+            working,
             ids.as_slice(),
             steps,
         )?;

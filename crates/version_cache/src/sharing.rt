@@ -62,6 +62,7 @@ impl Table {
             reading,
             enacted: self.enacted.share()?,
             rows: share_rows(alloc, self.rows.as_slice(), 0)?,
+            working: None,
         })
     }
 
@@ -75,6 +76,7 @@ impl Table {
             touched: other.touched,
             kept,
             rows: share_rows(alloc, other.rows.as_slice(), kept)?,
+            working: None,
         })
     }
 }

@@ -30,7 +30,9 @@ impl Table {
         ensures steps { steps.new ≤ steps.old + revision_cost known.now reading 0 }
     {
         let days = replayer.breakpoints(alloc, known)?;
+        let orders = replayer.orders_at(alloc, known, reading, days.as_slice())?;
         let enacted = keep_enacted(alloc, known)?;
+        let mut working = enacted.version().copy(alloc)?;
         let mut rows = Vec::new(alloc);
         let course = Course {
             known,
@@ -43,10 +45,11 @@ impl Table {
         };
         add_rows(
             alloc,
-            replayer,
             &course,
             start,
             days.as_slice(),
+            orders,
+            &mut working,
             &mut rows,
             steps,
         )?;
@@ -54,6 +57,7 @@ impl Table {
             reading,
             enacted,
             rows,
+            working: None,
         })
     }
 }

@@ -126,9 +126,28 @@ impl WorkTables {
         self.force.enacted.version()
     }
 
+    // The revision of the table of force.
+    fn revise_force<P: Replayer, L: Ledger>(
+        &mut self,
+        alloc: Global,
+        replayer: &P,
+        known: &Known,
+        day: Day,
+        steps: &mut Steps<L>,
+    ) -> Result<Revision, Memory>
+        requires sound { IsSound known.now }
+        requires right { works.AreRightUntil known.now (Some day) (work_view self.old) }
+        ensures same { work_view self.new ≡ work_view self.old }
+        ensures revision { IfOk result
+            (λ revision. revision_view revision ≡ revision_of (work_view self.old).force known.now day) }
+        ensures steps { steps.new ≤ steps.old + revision_cost known.now Reading.Force day }
+    {
+        self.force.revise(alloc, replayer, known, day, steps)
+    }
+
     // The revision of the table of efficacy, which shares the versions of that of force where both readings give the same.
     fn revise_efficacy<P: Replayer, L: Ledger>(
-        &self,
+        &mut self,
         alloc: Global,
         replayer: &P,
         known: &Known,
@@ -137,10 +156,11 @@ impl WorkTables {
         steps: &mut Steps<L>,
     ) -> Result<Revision, Memory>
         requires sound { IsSound known.now }
-        requires right { works.AreRightUntil known.now (Some day) (work_view self.now) }
-        requires force { revision_view force.now ≡ revision_of (table_view self.now.force) known.now day }
+        requires right { works.AreRightUntil known.now (Some day) (work_view self.old) }
+        requires force { revision_view force.now ≡ revision_of (work_view self.old).force known.now day }
+        ensures same { work_view self.new ≡ work_view self.old }
         ensures revision { IfOk result
-            (λ revision. revision_view revision ≡ revision_of (table_view self.now.efficacy) known.now day) }
+            (λ revision. revision_view revision ≡ revision_of (work_view self.old).efficacy known.now day) }
         ensures steps { steps.new ≤ steps.old + revision_cost known.now Reading.Efficacy day }
     {
         if has_efficacy(known.mods.as_slice()) {
@@ -151,7 +171,7 @@ impl WorkTables {
     }
 
     fn revise_both<P: Replayer, L: Ledger>(
-        &self,
+        &mut self,
         alloc: Global,
         replayer: &P,
         known: &Known,
@@ -159,23 +179,24 @@ impl WorkTables {
         steps: &mut Steps<L>,
     ) -> Result<Option<(Revision, Revision)>, Memory>
         requires sound { IsSound known.now }
-        requires right { works.AreRightUntil known.now touched (work_view self.now) }
+        requires right { works.AreRightUntil known.now touched (work_view self.old) }
+        ensures same { work_view self.new ≡ work_view self.old }
         ensures revisions { IfOk result (λ tables. option_map both_view tables
-            ≡ works.revisions_of (work_view self.now) known.now touched) }
+            ≡ works.revisions_of (work_view self.old) known.now touched) }
         ensures steps { steps.new ≤ steps.old + both_costs known.now touched }
     {
         let Some(day) = touched else {
             return Ok(None);
         };
-        let force = self.force.revise(alloc, replayer, known, day, steps)?;
+        let force = self.revise_force(alloc, replayer, known, day, steps)?;
         let efficacy = self.revise_efficacy(alloc, replayer, known, day, &force, steps)?;
         Ok(Some((force, efficacy)))
     }
 
     /// What is to be kept for what is known now, where the tables are right for that before the touched day: both revised from that
-    /// day on. Where no day is touched the tables stay, and what is known is renewed.
+    /// day on. Where no day is touched the tables stay, and what is known is renewed. What is kept stays until the revision is committed.
     pub fn revise<P: Replayer, L: Ledger>(
-        &self,
+        &mut self,
         alloc: Global,
         replayer: &P,
         known: Known,
@@ -183,13 +204,14 @@ impl WorkTables {
         steps: &mut Steps<L>,
     ) -> Result<WorkRevision, Memory>
         requires sound { IsSound known }
-        requires right { works.AreRightUntil known touched (work_view self.now) }
+        requires right { works.AreRightUntil known touched (work_view self.old) }
+        ensures same { work_view self.new ≡ work_view self.old }
         ensures revision { IfOk result (λ revision. work_revision_view revision
-            ≡ works.work_revision_of (work_view self.now) known touched) }
+            ≡ works.work_revision_of (work_view self.old) known touched) }
         ensures fits { IfOk result
-            (λ revision. works.AreRevisionsOf (work_view self.now) (work_revision_view revision).tables) }
+            (λ revision. works.AreRevisionsOf (work_view self.old) (work_revision_view revision).tables) }
         ensures right { IfOk result
-            (λ revision. works.IsFor known (works.renewed (work_view self.now) (work_revision_view revision))) }
+            (λ revision. works.IsFor known (works.renewed (work_view self.old) (work_revision_view revision))) }
         ensures steps { steps.new ≤ steps.old + both_costs known touched }
     {
         match self.revise_both(alloc, replayer, &known, touched, steps) {

@@ -10,7 +10,7 @@ pub add_all-requires : goal.add_all-requires
 add_all-requires t c =
     let within : c.loop-id.id-index < length c.args.ids.now = search rules in
     let lower = children_lower c.args.tree.now c.args.ids.now c.children-children.result.now c.loop-id.id-index c.id-item.result within c.id-item.is c.children-children.ensures.branches in
-    (search (rules, lower), c.children-children.ensures.nodes)
+    (search (rules, lower), (c.children-children.ensures.nodes, c.children-children.ensures.depth))
 
 pub loop-id-preserved-then-is_bare : goal.loop-id-preserved-then-is_bare
 loop-id-preserved-then-is_bare t c =

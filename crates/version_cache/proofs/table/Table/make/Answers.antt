@@ -9,10 +9,11 @@ pub invariant_of-result : goal.invariant_of-result
 invariant_of-result g c = record {
   ascending =
       made_ascend c.args.known.now c.args.reading c.add_rows.new.rows.items
-      (c.in_ok-add_rows.ensures.rows ∙ ap (rows_on c.args.known.now c.args.reading) (c.as_slice.ensures ∙ c.in_ok-days.ensures));
+      (c.in_ok-add_rows.ensures.rows ∙ ap (rows_on c.args.known.now c.args.reading) (c.as_slice-2.ensures ∙ c.in_ok-days.ensures));
+  goes_on = tt;
 }
 
 pub returns-clause-right : goal.returns-clause-right
 returns-clause-right g c =
     made_is_right c.args.known.now c.args.reading (kept_view c.in_ok-enacted.enacted) (rows_view c.add_rows.new.rows.items) c.in_ok-enacted.ensures
-    (c.in_ok-add_rows.ensures.rows ∙ ap (rows_on c.args.known.now c.args.reading) (c.as_slice.ensures ∙ c.in_ok-days.ensures))
+    (c.in_ok-add_rows.ensures.rows ∙ ap (rows_on c.args.known.now c.args.reading) (c.as_slice-2.ensures ∙ c.in_ok-days.ensures))

@@ -2,6 +2,7 @@ use Rattle.std.proofs.Common.{◌∙◌, ap, nat_le}
 use Rattle.std.specs.List.{list_all}
 use Rattle.version_cache.specs.Days.{is_ascending}
 use Rattle.version_cache.specs.Rows.{rows_view}
+use Rattle.version_cache.proofs.Going.{none_behind}
 use Rattle.version_cache.proofs.RowDays.{same_days}
 use Rattle.version_cache.proofs.table.Table.revise_like.Goals as goal
 
@@ -12,4 +13,5 @@ invariant_of-result c =
       ascending = ap is_ascending same ∙ c.args.other.now.ascending;
       late = ap (list_all (λ day. nat_le c.args.other.now.touched day)) same ∙ c.args.other.now.late;
       room = c.in_ok-share_rows.ensures.room;
+      goes_on = none_behind (rows_view c.in_ok-share_rows.field-0.items);
     }

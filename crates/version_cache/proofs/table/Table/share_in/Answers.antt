@@ -9,4 +9,5 @@ invariant_of-result c = record {
   ascending =
       ap is_ascending (same_days c.in_ok-share_rows.field-0.items c.args.self.now.rows.items (c.in_ok-share_rows.ensures.rows ∙ ap rows_view c.as_slice.ensures.value))
       ∙ c.args.self.now.ascending;
+  goes_on = tt;
 }
