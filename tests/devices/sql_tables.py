@@ -2,6 +2,7 @@
 What is wanted is reckoned from docs/JOURNAL.md ("The register in SQLite"), and Python's own SQLite makes and reads the files."""
 import contextlib
 import os
+import resource
 import shutil
 import signal
 import sqlite3
@@ -229,6 +230,24 @@ def backups():
         shutil.copyfile(os.path.join(single, TABLE), os.path.join(folder, TABLE))
         shutil.copyfile(os.path.join(single, TABLE + "-wal"), os.path.join(folder, TABLE + "-wal"))
         check("a backup that is restored", (run(folder, "sql", "check"), rows_of(folder)), ((0, b"entries 28 law 28\n"), rows_of(single)))
+
+
+def file_of_a_table():
+    """The file that the desk makes keeps a log beside it and has pages of 4,096 bytes, as another SQLite reads it."""
+    with checks.folder() as folder:
+        check("a file that is made", run(folder, "sql", "check"), (0, b"entries 0 law 0\n"))
+        with copied(folder) as base:
+            found = [base.execute(f"PRAGMA {name}").fetchone()[0] for name in ("journal_mode", "page_size")]
+        check("how the file is kept", found, ["wal", 4096])
+
+
+def memory_of_an_opening(rows=60, size=1 << 20):
+    """An opening takes no more memory than its table and 64 MiB: once the library has checked the rows, they are read one at a time."""
+    most = rows * size + (64 << 20)
+    with checks.folder() as folder:
+        made(folder, numbered(ONE, *[bytes(size)] * rows))
+        got = run(folder, "sql", "check", preexec_fn=lambda: resource.setrlimit(resource.RLIMIT_AS, (most, most)))
+        check("an opening in little memory", got, (6, b'{"byte":0,"damaged":"entry","number":2,"place":0}\n'))
 
 
 def kills():
