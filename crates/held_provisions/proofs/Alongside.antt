@@ -7,10 +7,10 @@ use Rattle.law_register.specs.Answer.Touched.{sooner, with_day}
 use Rattle.law_register.specs.Register.LawList.{laws}
 use Rattle.held_provisions.specs.declared.touching.Reached.{Reached}
 use Rattle.held_provisions.specs.Reaching as reaching
-use Rattle.source_provisions.specs.Depending.{depends_in}
-use Rattle.source_provisions.specs.Line.{line}
-use Rattle.source_provisions.specs.Touching as spec
-use Rattle.source_provisions.specs.Touching.{WorkTouched, own, touched_along, touched_works}
+use Rattle.law_register.specs.Provisions.Depending.{depends_in}
+use Rattle.law_register.specs.Provisions.Line.{line}
+use Rattle.law_register.specs.Provisions.Touching as spec
+use Rattle.law_register.specs.Provisions.Touching.{WorkTouched, own, touched_along, touched_works}
 
 abbrev told : WorkTouched → Reached
 told t = record { work = t.known.act.work; touched = t.touched; reached = t.reached }

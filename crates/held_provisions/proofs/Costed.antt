@@ -8,10 +8,10 @@ use Rattle.law_register.specs.declared.register.known.Known.{Known}
 use Rattle.law_register.proofs.Puts.{and_true, bytes_same, left_true, right_true}
 use Rattle.held_provisions.specs.Needing.{is_wanted, needed_in}
 use Rattle.held_provisions.proofs.LinesTold.{one_more}
-use Rattle.source_provisions.specs.Costs.{WorkNeeds, full, held_cost, is_one_of, needs_after, needs_along, needs_through, work_needs}
-use Rattle.source_provisions.specs.Depending.{depends}
-use Rattle.source_provisions.specs.Line.{IsLine, line_cmp, work_in}
-use Rattle.source_provisions.specs.Looking.{is_after}
+use Rattle.law_register.specs.Provisions.Costs.{WorkNeeds, full, held_cost, is_one_of, needs_after, needs_along, needs_through, work_needs}
+use Rattle.law_register.specs.Provisions.Depending.{depends}
+use Rattle.law_register.specs.Provisions.Line.{IsLine, line_cmp, work_in}
+use Rattle.law_register.specs.Provisions.Looking.{is_after}
 use Rattle.source_provisions.proofs.Lines.{not_after}
 use Rattle.source_provisions.proofs.Looking.{depends_after}
 

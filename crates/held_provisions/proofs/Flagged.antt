@@ -12,7 +12,7 @@ use Rattle.law_register.specs.declared.answer.question.Reading.{Reading}
 use Rattle.law_register.specs.declared.register.known.Known.{Known}
 use Rattle.law_register.specs.Answer.Flags.{flag, flag_among, flag_below, flag_in, or_else, root_flag}
 use Rattle.law_register.proofs.ApartIds.{none_left, none_right}
-use Rattle.source_provisions.specs.Trees.{is_raised}
+use Rattle.law_register.specs.Provisions.Trees.{is_raised}
 
 module _ (known : Known) (reading : Reading) (day : ℕ) (wid : List ℕ) where
   mutual

@@ -3,7 +3,7 @@ use Rattle.std.proofs.Common.{◌≡◌, ap, refl, ℕ, Bool, true, false, cond,
 use Rattle.std.specs.List.{find}
 use Rattle.std.specs.Str.{bytes_eq}
 use Rattle.law_register.specs.declared.register.known.Known.{Known}
-use Rattle.source_provisions.specs.Line.{work_in}
+use Rattle.law_register.specs.Provisions.Line.{work_in}
 
 pub map_twice : {A B C : Type 0} (f : A → B) (g : B → C) (o : Option A) → option_map (λ a. g (f a)) o ≡ option_map g (option_map f o)
 map_twice f g None = refl

@@ -4,9 +4,9 @@ use Rattle.std.specs.List.{AllByRecursion}
 use Rattle.law_register.specs.declared.answer.question.Reading.{Reading}
 use Rattle.law_register.specs.declared.register.known.Known.{Known}
 use Rattle.held_provisions.specs.Kept.{text_of}
-use Rattle.source_provisions.specs.Depending.{WorkDays, breakpoints_of, days_after, days_along, work_days}
-use Rattle.source_provisions.specs.Line.{IsLine}
-use Rattle.source_provisions.specs.Trees.{WorkText, text_on, texts_after, trees, version_in}
+use Rattle.law_register.specs.Provisions.Depending.{WorkDays, breakpoints_of, days_after, days_along, work_days}
+use Rattle.law_register.specs.Provisions.Line.{IsLine}
+use Rattle.law_register.specs.Provisions.Trees.{WorkText, text_on, texts_after, trees, version_in}
 use Rattle.source_provisions.proofs.Ahead.{each_of_all}
 use Rattle.source_provisions.proofs.Days.{days_of_all}
 

@@ -6,9 +6,9 @@ use Rattle.std.specs.declared.cmp.Ordering.TheVariants.{Less}
 use Rattle.law_register.specs.declared.register.known.Known.{Known}
 use Rattle.law_register.proofs.ApartIds.{none_left, none_right}
 use Rattle.held_provisions.specs.Needing.{HaveAhead, is_wanted, needed_in}
-use Rattle.source_provisions.specs.Depending.{depends}
-use Rattle.source_provisions.specs.Line.{IsLine, line_cmp, work_in}
-use Rattle.source_provisions.specs.Looking.{is_after}
+use Rattle.law_register.specs.Provisions.Depending.{depends}
+use Rattle.law_register.specs.Provisions.Line.{IsLine, line_cmp, work_in}
+use Rattle.law_register.specs.Provisions.Looking.{is_after}
 use Rattle.source_provisions.proofs.Lines.{itself_not_later, not_later_behind}
 use Rattle.source_provisions.proofs.Looking.{depends_after}
 

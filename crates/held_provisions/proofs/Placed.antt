@@ -21,7 +21,7 @@ use Rattle.law_register.specs.Register.LawList.{acts_by, acts_of, front, law_com
 use Rattle.law_register.proofs.Next.{now_counts, now_known}
 use Rattle.law_register.proofs.Puts.{bytes_are}
 use Rattle.held_provisions.specs.Placing.{enacted_work, place_from, with_own, works_of}
-use Rattle.source_provisions.specs.Line.{line, line_cmp, line_of, with_work}
+use Rattle.law_register.specs.Provisions.Line.{line, line_cmp, line_of, with_work}
 use Rattle.source_provisions.proofs.Own.{known_own}
 
 -- a work in its place

@@ -9,16 +9,18 @@ use Rattle.law_register.specs.declared.register.entry.Entry.{Entry}
 use Rattle.law_register.specs.declared.register.known.Known.{Known}
 use Rattle.law_register.specs.Answer.Previews.{known_by_law}
 use Rattle.law_register.specs.Answer.Soundness.{IsSound}
+use Rattle.law_register.specs.Answer.Standing.{alone}
 use Rattle.law_register.specs.Register.LawList.{front, law_of, laws, laws_from, works_enacted}
 use Rattle.law_register.specs.Register.Marks.{law_count}
 use Rattle.law_register.specs.Register.Verdicts.{is_legal}
+use Rattle.law_register.proofs.CarryingNothing.{known_by_law_alone}
 use Rattle.law_register.proofs.Lists.{at_most_or, take_all}
 use Rattle.law_register.proofs.Past.{past_of}
 use Rattle.law_register.proofs.Pushing.{front_is}
 use Rattle.law_register.proofs.Sound.{known_is_sound}
 use Rattle.held_provisions.specs.Placing.{works_of}
 use Rattle.held_provisions.proofs.Placed.{enacted_by_entries}
-use Rattle.source_provisions.specs.Line.{line, line_of}
+use Rattle.law_register.specs.Provisions.Line.{line, line_of}
 use Rattle.source_provisions.proofs.Own.{IsKnown, all_known}
 
 -- an entry is one law entry at most, and there is room for it before a viewpoint
@@ -86,3 +88,12 @@ line_sound es v legal =
     λ w. known_is_sound w (length (laws past.before)) (length (laws past.before)) past.before past.legal in
     subst (λ law. AllByRecursion IsSound (line_of law (works_enacted law))) past.known
     (known_sound (laws past.before) (line_of (laws past.before) (works_enacted (laws past.before))) each (all_known (laws past.before) (works_enacted (laws past.before))))
+
+-- and carry nothing
+known_alone : (law : List Command) (ks : List Known) → AllByRecursion (IsKnown law) ks → AllByRecursion (λ (k : Known). alone k ≡ k) ks
+known_alone law [] all = tt
+known_alone law (k ∷ ks) all = (known_by_law_alone law k.act.work k all.0, known_alone law ks all.1)
+
+pub line_alone : (law : List Command) → AllByRecursion (λ (k : Known). alone k ≡ k) (line law)
+unfolding line
+line_alone law = known_alone law (line_of law (works_enacted law)) (all_known law (works_enacted law))

@@ -3,7 +3,7 @@ use Rattle.std.proofs.Common.{◌≡◌, ◌∙◌, ap, refl, ℕ, Bool, true, f
 use Rattle.desk_base.specs.declared.period.Period.{Period}
 use Rattle.held_provisions.specs.Kept.{committed_if}
 use Rattle.held_provisions.specs.Walking.{ended_on, not_ended, since_when, spans_after}
-use Rattle.source_provisions.specs.Spans.{span_from, spans_of}
+use Rattle.law_register.specs.Provisions.Spans.{span_from, spans_of}
 use Rattle.version_cache.specs.Tables.{RevisionValue, TableValue}
 
 one_day : (test : ℕ → Bool) (day : ℕ) (days : List ℕ) (since : Option ℕ)

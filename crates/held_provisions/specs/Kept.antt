@@ -4,10 +4,10 @@ use Rattle.held_provisions.specs.declared.source.Source.{Source}
 use Rattle.law_register.specs.declared.answer.question.Reading.{Reading}
 use Rattle.law_register.specs.declared.register.known.Known.{Known}
 use Rattle.law_register.specs.Answer.Replay.{VersionValue}
-use Rattle.source_provisions.specs.Trees.{WorkText, stands_in}
+use Rattle.law_register.specs.Provisions.Trees.{WorkText, stands_in}
 use Rattle.version_cache.specs.Seen.{work_revision_view, work_view}
 use Rattle.version_cache.specs.Tables.{RevisionValue, TableValue, committed, version_on, IsRevisionOf}
-use Rattle.version_cache.specs.Works.{WorkValue, renewed_if, table_in}
+use Rattle.version_cache.specs.Works.{WorkValue, renewed_if}
 
 -- a work of which this is known, with a version
 abbrev pub text_of : Known → VersionValue → WorkText
@@ -34,6 +34,3 @@ stands_by_table known table wid day = stands_by_version known table.reading day 
 -- what is kept of a source, once its revision is committed, if there is one
 abbrev pub source_view : Source → WorkValue
 source_view source = renewed_if (work_view source.tables.now) (option_map (λ r. work_revision_view r.now) source.revision)
-
-abbrev pub source_table : Source → Reading → TableValue
-source_table source reading = table_in reading (source_view source)

@@ -1,9 +1,6 @@
 pub mod Fitting
-pub mod Holdings
 pub mod Kept
-pub mod Making
 pub mod Needing
-pub mod Places
 pub mod Placing
 pub mod Reaching
 pub mod Sources

@@ -1,9 +1,8 @@
 -- The works of a line on which one depends, directly or through others.
-use Rattle.std.specs.Prelude.{◌≡◌, ℕ, ◌||◌, Bool, List, [], ◌∷◌, ◌++◌, filter, Option, Some, None, if◌then◌else◌}
+use Rattle.std.specs.Prelude.{◌≡◌, ℕ, ◌||◌, Bool, List, [], ◌∷◌, ◌++◌, filter, if◌then◌else◌}
 use Rattle.std.specs.List.{list_any}
 use Rattle.law_register.specs.declared.register.known.Known.{Known}
-use Rattle.source_provisions.specs.Costs.{held_cost}
-use Rattle.source_provisions.specs.Depending.{depends}
+use Rattle.law_register.specs.Provisions.Depending.{depends}
 
 -- a work, or one of others, depends on a work
 abbrev pub is_wanted : List Known → Known → List Known → List ℕ → Bool
@@ -24,8 +23,3 @@ HaveAhead line all ahead [] = Unit {0}
 HaveAhead line all ahead (known ∷ others) =
     (filter (λ other. depends line known other.act.work) ahead ≡ filter (λ other. depends line known other.act.work) all)
     × HaveAhead line all (ahead ++ known ∷ []) others
-
--- how many ids are applied at most to make what is held for a work, where it is known
-abbrev pub held_cost_if : List Known → Option Known → ℕ
-held_cost_if line None = 0
-held_cost_if line (Some known) = held_cost line known

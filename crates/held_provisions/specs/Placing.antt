@@ -6,7 +6,7 @@ use Rattle.law_register.specs.declared.law.command.Command.TheVariants.{Correct,
 use Rattle.law_register.specs.declared.register.entry.Entry.{Entry}
 use Rattle.law_register.specs.declared.register.known.Known.{Known}
 use Rattle.law_register.specs.Answer.Previews.{known_by_law}
-use Rattle.source_provisions.specs.Line.{line_cmp, with_work}
+use Rattle.law_register.specs.Provisions.Line.{line_cmp, with_work}
 
 -- the index before which a work is put that is not before the first of these, whose index this is; none, where one ties with it
 abbrev pub place_from : ℕ → Known → List Known → Option ℕ

@@ -4,8 +4,8 @@ use Rattle.law_register.specs.declared.register.entry.Entry.{Entry}
 use Rattle.law_register.specs.declared.register.known.Known.{Known}
 use Rattle.law_register.specs.Answer.Touched.{sooner, with_day}
 use Rattle.held_provisions.specs.declared.touching.Reached.{Reached}
-use Rattle.source_provisions.specs.Depending.{depends_in}
-use Rattle.source_provisions.specs.Touching.{own, reach}
+use Rattle.law_register.specs.Provisions.Depending.{depends_in}
+use Rattle.law_register.specs.Provisions.Touching.{own, reach}
 
 -- of works ahead of one, the first day from which it is reached through one on which it depends, in the one line or in the other
 abbrev pub first_reached : (old new : List Known) → List ℕ → List Reached → Option ℕ

@@ -1,79 +1,100 @@
--- What is held of the provisions that a work looks at, by what is kept of the works that have them: what is known of each, the tables of
--- its versions, and the days on which its text may change.
-use Rattle.std.specs.Prelude.{◌≡◌, ℕ, Bool, List, [], ◌∷◌, filter, map, Some}
-use Rattle.std.specs.List.{AllByRecursion}
+-- What is carried of the provisions that make the modifications of a work, by what is kept of the works that have them.
+use Rattle.std.specs.Prelude.{◌≡◌, ℕ, Bool, true, List, [], ◌∷◌, find, is_some, map, nat_lt, Option, Some, None, option_and_then, option_map, if◌then◌else◌}
+use Rattle.std.specs.Option.{option_map_or}
+use Rattle.std.specs.Str.{bytes_eq}
 use Rattle.law_register.specs.declared.answer.question.Reading.{Reading}
 use Rattle.law_register.specs.declared.answer.question.Reading.TheVariants as reading
+use Rattle.law_register.specs.declared.law.modification.ModSource.{ModSource}
+use Rattle.law_register.specs.declared.law.modification.Modification.{Modification}
+use Rattle.law_register.specs.declared.law.modification.Modification.TheVariants.{Textual, Force, Efficacy}
+use Rattle.law_register.specs.declared.register.carried.Carried.{Carried}
 use Rattle.law_register.specs.declared.register.known.Known.{Known}
-use Rattle.held_provisions.specs.Kept.{text_of}
-use Rattle.source_provisions.specs.Depending.{WorkDays, breakpoints_of, depends, source_days}
-use Rattle.source_provisions.specs.Held.{HeldValue, HoldingValue, places}
-use Rattle.source_provisions.specs.Line.{work_in}
-use Rattle.source_provisions.specs.Spans.{spans_of}
-use Rattle.source_provisions.specs.Trees.{WorkText, stands, stands_in, version_in}
-use Rattle.version_cache.specs.Tables.{TableValue, version_on}
+use Rattle.law_register.specs.declared.register.known.KnownMod.{KnownMod}
+use Rattle.law_register.specs.Answer.Breakpoints.{insert_days}
+use Rattle.law_register.specs.Law.Sources.{source_of}
+use Rattle.law_register.specs.Provisions.Depending.{breakpoints_of, depends}
+use Rattle.law_register.specs.Provisions.Line.{work_in}
+use Rattle.law_register.specs.Provisions.Spans.{spans_of}
+use Rattle.law_register.specs.Provisions.Trees.{version_in}
+use Rattle.version_cache.specs.Seen.{work_view}
+use Rattle.version_cache.specs.Tables.{version_on}
+use Rattle.version_cache.specs.Works.{IsAlike, WorkValue, table_in}
+use Rattle.held_provisions.specs.declared.sources.MadeWorks.{MadeWorks}
+use Rattle.held_provisions.specs.Kept.{stands_by_version}
 
--- the text of a work on a day
-abbrev pub text_kept : {K : Type 0} → (K → Known) → (K → Reading → TableValue) → Reading → ℕ → K → WorkText
-text_kept known tables reading day kept = text_of (known kept) (version_on (tables kept reading) day)
+-- what is kept of each work, if anything is
+abbrev pub Kept : Type 0
+Kept = List ℕ → Option WorkValue
+
+-- works that were made, found by their names
+abbrev pub made_of : MadeWorks → Kept
+made_of made work = find (λ kept. bytes_eq kept.known.act.work work) (map work_view made.made.items)
 
 -- a provision stands on a day by what is kept of its work
-abbrev pub stands_kept : {K : Type 0} → (K → Known) → (K → Reading → TableValue) → K → Reading → List ℕ → ℕ → Bool
-stands_kept known tables kept reading wid day = stands_in reading day wid (Some (text_kept known tables reading day kept))
+abbrev pub stands_kept : WorkValue → Reading → List ℕ → ℕ → Bool
+stands_kept kept reading wid day = stands_by_version kept.known reading day wid (version_on (table_in reading kept) day)
 
--- the texts of works on a day
-abbrev pub texts_of : {K : Type 0} → (K → Known) → (K → Reading → TableValue) → List K → Reading → ℕ → List WorkText
-texts_of known tables works reading day = map (text_kept known tables reading day) works
-
--- works with their days
-abbrev pub days_kept : {K : Type 0} → (K → Known) → (K → List ℕ) → K → WorkDays
-days_kept known days kept = record { known = known kept; days = days kept }
-
-abbrev pub all_days : {K : Type 0} → (K → Known) → (K → List ℕ) → List K → List WorkDays
-all_days known days works = map (days_kept known days) works
-
--- a provision stands on a day by what is kept of works
-abbrev pub stands_by_sources : {K : Type 0} → (K → Known) → (K → Reading → TableValue) → List K → Reading → List ℕ × List ℕ → ℕ → Bool
-stands_by_sources known tables works reading place day = stands (texts_of known tables works reading day) reading day place.0 place.1
-
--- what is held of a place in a reading, as it is found on these days
-abbrev pub held_by : {K : Type 0} → (K → Known) → (K → Reading → TableValue) → List K → List ℕ → Reading → List ℕ × List ℕ → HeldValue
-held_by known tables works on reading place = record {
-  work = place.0;
-  provision = place.1;
-  reading = reading;
-  spans = spans_of (stands_by_sources known tables works reading place) on;
+-- what is carried of a provision by what is kept of its work
+abbrev pub carried_in : WorkValue → List ℕ → Carried
+carried_in kept wid = record {
+  force = spans_of (stands_kept kept reading.Force wid) kept.days;
+  efficacy = spans_of (stands_kept kept reading.Efficacy wid) kept.days;
 }
 
--- what is held of places, in both readings
-abbrev pub all_held_by : {K : Type 0} → (K → Known) → (K → Reading → TableValue) → List K → List ℕ → List (List ℕ × List ℕ) → List HeldValue
-all_held_by known tables works on [] = []
-all_held_by known tables works on (place ∷ others) =
-    held_by known tables works on reading.Force place ∷ held_by known tables works on reading.Efficacy place
-    ∷ all_held_by known tables works on others
+-- what is kept of a work, where its act is of a later day than this one
+abbrev pub if_later : ℕ → WorkValue → Option WorkValue
+if_later day kept = if nat_lt day kept.known.act.day then Some kept else None
 
--- the days of the works on which a work depends
-abbrev pub days_by : {K : Type 0} → (K → Known) → (K → List ℕ) → List K → Known → List ℕ
-days_by known days works work = source_days (map known works) work (all_days known days works)
+-- what is kept of the work whose provision is looked at from an act of this day
+abbrev pub source_kept : Kept → ℕ → ModSource → Option WorkValue
+source_kept kept day source = if is_some source.provision then option_and_then (if_later day) (kept source.href) else None
 
--- what is held for a work
-abbrev pub holding_by : {K : Type 0} → (K → Known) → (K → Reading → TableValue) → (K → List ℕ) → List K → Known → HoldingValue
-holding_by known tables days works work = record {
-  held = all_held_by known tables works (days_by known days works work) (places (map known works) work.act.day work.mods);
-  days = days_by known days works work;
+abbrev pub body_kept : Kept → ℕ → Modification → Option WorkValue
+body_kept kept day (Textual source force edit) = source_kept kept day source
+body_kept kept day (Force source destination on effect) = None
+body_kept kept day (Efficacy source destination on effect) = None
+
+abbrev pub mod_kept : Kept → ℕ → KnownMod → Option WorkValue
+mod_kept kept day m = if m.live then body_kept kept day m.body else None
+
+-- what a modification of an act of this day carries
+abbrev pub carried_for : Kept → ℕ → KnownMod → Option Carried
+carried_for kept day m = option_and_then (λ source. option_map (carried_in source) (source_of m.body).provision) (mod_kept kept day m)
+
+abbrev pub mod_carrying_by : Kept → ℕ → KnownMod → KnownMod
+mod_carrying_by kept day m = record m { carried = carried_for kept day m }
+
+-- the days on which the texts of the works may change from which modifications of an act of this day come
+abbrev pub days_for : Kept → ℕ → KnownMod → List ℕ
+days_for kept day m = option_map_or (λ source. source.days) (mod_kept kept day m) []
+
+abbrev pub days_by : Kept → ℕ → List KnownMod → List ℕ
+days_by kept day [] = []
+days_by kept day (m ∷ ms) = insert_days (days_for kept day m) (days_by kept day ms)
+
+-- what is known of a work, with what it carries
+abbrev pub carrying_by : Kept → Known → Known
+carrying_by kept known = record known {
+  mods = map (mod_carrying_by kept known.act.day) known.mods;
+  source_days = days_by kept known.act.day known.mods;
 }
 
--- what is kept of a work is right for a line: it is a work of it, with its version of each day, and with its days
-pub record IsKeptFor {K : Type 0} (known_of : K → Known) (tables_of : K → Reading → TableValue) (days_of : K → List ℕ) (line : List Known)
-    (kept : K) : Type 0 where
-  pub there : work_in (known_of kept).act.work line ≡ Some (known_of kept)
-  pub versions : (reading : Reading) (day : ℕ)
-      → version_on (tables_of kept reading) day ≡ version_in line (known_of kept) reading day
-  pub days : days_of kept ≡ breakpoints_of line (known_of kept)
+-- what is kept of a work is right for a line: it is for that work of it, with its version of each day, and with its days
+pub record IsKeptFor (line : List Known) (kept : WorkValue) : Type 0 where
+  pub work : Known
+  pub alike : IsAlike kept.known work
+  pub there : work_in work.act.work line ≡ Some work
+  pub versions : (reading : Reading) (day : ℕ) → version_on (table_in reading kept) day ≡ version_in line work reading day
+  pub days : kept.days ≡ breakpoints_of line work
 
--- these works are the sources of one in a line: each is right for the line, and those on which the work depends are all among them
-pub record AreSources {K : Type 0} (known_of : K → Known) (tables_of : K → Reading → TableValue) (days_of : K → List ℕ) (line : List Known)
-    (work : Known) (works : List K) : Type 0 where
-  pub right : AllByRecursion (IsKeptFor known_of tables_of days_of line) works
-  pub all : filter (λ other. depends line work other.act.work) (map known_of works)
-      ≡ filter (λ other. depends line work other.act.work) line
+-- what is kept of a work is of the act that the line has of it
+pub record IsOfLine (line : List Known) (work : List ℕ) (kept : WorkValue) : Type 0 where
+  pub known : Known
+  pub there : work_in work line ≡ Some known
+  pub act : kept.known.act ≡ known.act
+
+-- what is kept has the sources of a work in a line: each work of which something is kept is one of the line, and each on which the work
+-- depends is kept, and right for the line
+pub record AreSources (line : List Known) (work : Known) (kept : Kept) : Type 0 where
+  pub acts : (name : List ℕ) (one : WorkValue) → kept name ≡ Some one → IsOfLine line name one
+  pub right : (name : List ℕ) → depends line work name ≡ true → (one : WorkValue) × (kept name ≡ Some one) × IsKeptFor line one

@@ -1,7 +1,7 @@
 -- A walk over ascending days that finds the periods on whose days something holds.
 use Rattle.std.specs.Prelude.{ℕ, Bool, List, [], ◌∷◌, Option, Some, None, if◌then◌else◌}
 use Rattle.desk_base.specs.declared.period.Period.{Period}
-use Rattle.source_provisions.specs.Spans.{span_from, spans_of}
+use Rattle.law_register.specs.Provisions.Spans.{span_from, spans_of}
 
 -- the periods of the days that are left, where the test has held since a day, or does not hold
 abbrev pub spans_after : (ℕ → Bool) → Option ℕ → List ℕ → List Period

@@ -5,12 +5,13 @@ ghost use Rattle.std.specs.BTreeSet.{insert_key};
 ghost use Rattle.std.specs.List.{AllByRecursion};
 ghost use Rattle.law_register.specs.Answer.Previews.{known_by_law};
 ghost use Rattle.law_register.specs.Answer.Soundness.{IsSound};
+ghost use Rattle.law_register.specs.Answer.Standing.{alone};
 ghost use Rattle.law_register.specs.Register.KnownNext.{known_now, up_to};
 ghost use Rattle.law_register.specs.Register.LawList.{laws};
 ghost use Rattle.law_register.specs.Register.Marks.{law_count};
 ghost use Rattle.law_register.specs.Register.Verdicts.{is_accepted, verdict};
 ghost use Rattle.held_provisions.specs.Placing.{enacted_work, place_from, with_enacted, works_of};
-ghost use Rattle.source_provisions.specs.Line.{line, line_cmp, line_of, with_work};
+ghost use Rattle.law_register.specs.Provisions.Line.{line, line_cmp, line_of, with_work};
 
 use desk_base::Memory;
 use frbr_names::WorkName;
@@ -94,7 +95,7 @@ fn put_enacted(
 }
 
 /// The line of a register: what is known at its front of each work that it enacts.
-#[tactic(auto, unfolding(source_provisions::specs::Line::line))]
+#[tactic(auto, unfolding(law_register::specs::Provisions::Line::line))]
 pub fn line_of_register(alloc: Global, register: &Register) -> Result<Vec<Known>, Memory>
     ensures { IfOk result (λ works. works.items ≡ line (laws register.now.entries)) }
 {
@@ -140,6 +141,7 @@ fn until(known: Known, number: u32) -> Known
         viewpoint: number,
         front: number,
         mods: known.mods,
+        source_days: known.source_days,
     }
 }
 
@@ -187,7 +189,7 @@ fn put_within(
     }
 }
 
-#[tactic(auto, unfolding(source_provisions::specs::Line::line))]
+#[tactic(auto, unfolding(law_register::specs::Provisions::Line::line))]
 fn line_until(alloc: Global, register: &Register, viewpoint: u32) -> Result<Vec<Known>, Memory>
     ensures { IfOk result (λ works. works.items ≡ line (take viewpoint (laws register.now.entries))) }
 {
@@ -204,6 +206,7 @@ fn line_until(alloc: Global, register: &Register, viewpoint: u32) -> Result<Vec<
 pub fn line_at(alloc: Global, register: &Register, viewpoint: u32) -> Result<Vec<Known>, Memory>
     ensures works { IfOk result (λ works. works.items ≡ line (take viewpoint (laws register.now.entries))) }
     ensures sound { IfOk result (λ works. AllByRecursion IsSound works.items) }
+    ensures alone { IfOk result (λ works. AllByRecursion (λ known. alone known ≡ known) works.items) }
 {
     entries_are_legal(register);
     line_until(alloc, register, viewpoint)
@@ -275,7 +278,7 @@ fn put_own(
 }
 
 /// The line of a register once an entry stands behind those that it has.
-#[tactic(auto, unfolding(source_provisions::specs::Line::line))]
+#[tactic(auto, unfolding(law_register::specs::Provisions::Line::line))]
 pub fn line_with(alloc: Global, register: &Register, entry: &Entry) -> Result<Vec<Known>, Memory>
     requires { is_accepted entry.now.law (verdict register.now.entries entry.now.drafter
         entry.now.request entry.now.command) ≡ true }

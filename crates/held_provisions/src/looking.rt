@@ -2,9 +2,9 @@
 
 ghost use Rattle.std.specs.Prelude.{◌≡◌, find, map, option_map};
 ghost use Rattle.std.specs.Str.{bytes_eq};
-ghost use Rattle.source_provisions.specs.Depending as depending;
-ghost use Rattle.source_provisions.specs.Line as line;
-ghost use Rattle.source_provisions.specs.Looking as looking;
+ghost use Rattle.law_register.specs.Provisions.Depending as depending;
+ghost use Rattle.law_register.specs.Provisions.Line as line;
+ghost use Rattle.law_register.specs.Provisions.Looking as looking;
 
 use crate::InLine;
 use desk_base::Day;

@@ -3,7 +3,7 @@
 ghost use Rattle.std.specs.Prelude.{◌≡◌, ◌||◌, IfOk, OnOk, map};
 ghost use Rattle.std.specs.List.{list_any};
 ghost use Rattle.held_provisions.specs.Needing as needing;
-ghost use Rattle.source_provisions.specs.Depending as depending;
+ghost use Rattle.law_register.specs.Provisions.Depending as depending;
 
 use crate::InLine;
 use crate::looking::depends;

@@ -5,16 +5,15 @@ ghost use Rattle.std.specs.Str.{bytes_eq};
 ghost use Rattle.act_tree.specs.Changes.{any_holds, root_wid};
 ghost use Rattle.act_tree.specs.Seen.{has_node, provision_at, tree_view};
 ghost use Rattle.law_register.specs.Answer.Versions.{version_view};
-ghost use Rattle.source_provisions.specs.Spans.{spans_of};
+ghost use Rattle.law_register.specs.Provisions.Spans.{spans_of};
 ghost use Rattle.held_provisions.specs.Kept as kept;
 ghost use Rattle.held_provisions.specs.Walking as walking;
 ghost use Rattle.version_cache.specs.Seen.{revision_view, table_view};
 ghost use Rattle.version_cache.specs.Tables.{version_on};
 
-use crate::Spans;
 use act_tree::{NodeId, Tree};
 use desk_base::{Day, Memory, Period, Text};
-use law_register::{Known, Reading, Replayer, Version};
+use law_register::{Known, Reading, Replayer, Spans, Version};
 use std::alloc::Global;
 use version_cache::{Revision, Table};
 

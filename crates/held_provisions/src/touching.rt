@@ -8,9 +8,9 @@ ghost use Rattle.law_register.specs.Register.LawList.{law_of, laws};
 ghost use Rattle.law_register.specs.Register.Verdicts.{is_accepted, verdict};
 ghost use Rattle.law_register.specs.declared.register.entry.Entry.{Entry as EntryValue};
 ghost use Rattle.held_provisions.specs.Reaching as reaching;
-ghost use Rattle.source_provisions.specs.Depending.{depends_in};
-ghost use Rattle.source_provisions.specs.Line.{line};
-ghost use Rattle.source_provisions.specs.Touching as spec;
+ghost use Rattle.law_register.specs.Provisions.Depending.{depends_in};
+ghost use Rattle.law_register.specs.Provisions.Line.{line};
+ghost use Rattle.law_register.specs.Provisions.Touching as spec;
 
 use crate::InLine;
 use crate::lines::{line_of_register, line_with};

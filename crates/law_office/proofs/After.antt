@@ -80,6 +80,6 @@ pub enacted_stays : (kept : WorkValue) (revision : Option WorkRevisionValue) (kn
 enacted_stays kept None known for = (for.tables.right Force).enacted
 enacted_stays kept (Some r) known for = by r.tables for
   where
-    by : (tables : Option (RevisionValue × RevisionValue)) → IsFor known (renewed_by kept r.known tables) → kept.force.enacted ≡ as_enacted known.act
+    by : (tables : Option (RevisionValue × RevisionValue)) → IsFor known (renewed_by kept r.known r.names r.days tables) → kept.force.enacted ≡ as_enacted known.act
     by None for = (for.tables.right Force).enacted
     by (Some both) for = (for.tables.right Force).enacted

@@ -26,6 +26,7 @@ use Rattle.version_cache.specs.declared.work_tables.WorkTables.{WorkTables}
 use Rattle.version_cache.specs.Seen.{work_revision_view, work_view}
 use Rattle.version_cache.specs.Works.{AreRevisionsOf, AreRightUntil, IsAlike, IsForIf, WorkRevisionValue, WorkValue, renewed, table_in}
 use Rattle.version_cache.proofs.Agreeing.{right_until}
+use Rattle.law_register.proofs.CarryingNothing.{known_at_alone}
 use Rattle.version_cache.proofs.Alike.{for_still}
 use Rattle.version_cache.proofs.OneMore.{one_more_of}
 use Rattle.law_refs.specs.Index.{Kept as IndexValue}
@@ -39,7 +40,7 @@ still : (n : ℕ) (known : Option Known) (kept : Option WorkValue) → Matches k
 still n None None is = refl
 still n None (Some kept) is = absurd is
 still n (Some known) None is = absurd (let no : Some known ≡ None = is in cc)
-still n (Some known) (Some kept) is = for_still known (up_to n known) kept (record { act = refl; enacted = refl; mods = refl }) is
+still n (Some known) (Some kept) is = for_still known (up_to n known) kept (record { act = refl; enacted = refl; mods = refl; sources = refl }) is
 
 -- what is kept of a work that an entry does not concern
 other_right : (es : List Entry) (e : Entry) (kept : Kept) → AreTablesOf es kept → (w : List ℕ) → is_named w (work_entered es (law_of es e)) ≡ false
@@ -175,7 +176,14 @@ known_of es w kept for = by (known_now es w) refl for
   where
     by : (known : Option Known) → known_now es w ≡ known → IsForIf known kept → (known : Known) × IsOf es w kept known
     by None is for = absurd for
-    by (Some known) is for = (known, record { is = is; alike = for.alike; tables = for.tables })
+    by (Some known) is for = (
+      known,
+      record {
+        is = is;
+        alike = subst (IsAlike kept.known) (known_at_alone es w (front es) known is) for.alike;
+        tables = for.tables;
+      },
+    )
 
 -- it is what is kept as known, and counts all law entries
 pub kept_named : (es : List Entry) (w : List ℕ) (kept : WorkValue) → IsForIf (known_now es w) kept → kept.known.act.work ≡ w
@@ -195,6 +203,7 @@ kept_known es w kept for =
         ap (λ (act : Act). up_to (front es) (record a { act = act })) alike.act
         ∙ ap (λ (n : ℕ). up_to (front es) (record a { act = b.act; enacted = n })) alike.enacted
         ∙ ap (λ ms. up_to (front es) (record a { act = b.act; enacted = b.enacted; mods = ms })) alike.mods
+        ∙ ap (λ days. up_to (front es) (record a { act = b.act; enacted = b.enacted; mods = b.mods; source_days = days })) alike.sources
 
 -- the day that an entry touches in the work that it concerns is the one that it touches
 pub day_there : (es : List Entry) (e : Entry) (w : List ℕ) → work_entered es (law_of es e) ≡ Some w → day_among (touched_days es e) w ≡ touched_day es e

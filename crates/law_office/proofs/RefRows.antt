@@ -107,7 +107,7 @@ revision_rows kept revision touched force right made is =
     let tables = ap (λ (r : WorkRevisionValue). r.tables) made in
     let same = is ∙ ap (option_map (λ (both : RevisionValue × RevisionValue). both.0)) tables in
     let reading : kept.force.reading ≡ Force =
-    subst (λ (t : Option (RevisionValue × RevisionValue)). (table_in Force (renewed_by kept revision.known t)).reading ≡ Force) tables (right.tables.readings Force) in
+    subst (λ (t : Option (RevisionValue × RevisionValue)). (table_in Force (renewed_by kept revision.known revision.names revision.days t)).reading ≡ Force) tables (right.tables.readings Force) in
     ap (λ (o : Option RevisionValue). rows_in o) same
     ∙ ap (λ (r : Reading). rows_on revision.known r (breakpoints_from revision.known touched)) reading
   where

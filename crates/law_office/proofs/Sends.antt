@@ -32,6 +32,7 @@ use Rattle.law_register.proofs.series.Series.TheSendSync as series
 use Rattle.law_register.specs.contracts.law.act.Act as act
 use Rattle.law_register.specs.contracts.law.command.Command as command
 use Rattle.law_register.specs.contracts.law.modification.Modification as modification
+use Rattle.law_register.specs.contracts.register.carried.Carried as carried
 use Rattle.law_register.specs.contracts.register.entry.Entry as entry
 use Rattle.law_register.specs.contracts.register.known.Known as known
 use Rattle.law_register.specs.contracts.register.known.KnownMod as known_mod
@@ -81,26 +82,32 @@ entry_field_send = search (command_field_send, drafter.the_send, day.the_send, s
 pub entry_send : IsSend entry.the_row
 entry_send = search (entry_field_send, sendable) depth 10
 
+pub carried_field_send : IsSend (carried.the_field).row
+carried_field_send = search (series.the_send, period.the_send, sendable, crosses) depth 30 fits 30000
+
+pub carried_send : IsSend carried.the_row
+carried_send = search (carried_field_send, sendable) depth 10
+
 pub known_mod_field_send : IsSend (known_mod.the_field).row
-known_mod_field_send = search (modification_field_send, id.the_field_send, sendable, crosses) depth 30 fits 30000
+known_mod_field_send = search (modification_field_send, carried_send, id.the_field_send, sendable, crosses) depth 30 fits 30000
 
 pub known_mod_send : IsSend known_mod.the_row
 known_mod_send = search (known_mod_field_send, sendable) depth 10
 
 pub known_field_send : IsSend (known.the_field).row
-known_field_send = search (act_field_send, known_mod_send, series.the_send, sendable, crosses) depth 30 fits 30000
+known_field_send = search (act_field_send, known_mod_send, series.the_send, day.the_send, sendable, crosses) depth 30 fits 30000
 
 pub register_send : IsSend register.the_row
 register_send = search (entry_send, indexes.the_field_send, sendable, crosses) depth 30 fits 30000
 
 pub work_tables_field_send : IsSend (work_tables.the_field).row
-work_tables_field_send = search (known_field_send, table.the_field_send, sendable, crosses) depth 30 fits 30000
+work_tables_field_send = search (known_field_send, series.the_send, day.the_send, table.the_field_send, sendable, crosses) depth 30 fits 30000
 
 pub work_tables_send : IsSend work_tables.the_row
 work_tables_send = search (work_tables_field_send, sendable) depth 10
 
 pub work_revision_field_send : IsSend (work_revision.the_field).row
-work_revision_field_send = search (known_field_send, revision.the_send, sendable, crosses) depth 30 fits 30000
+work_revision_field_send = search (known_field_send, series.the_send, day.the_send, revision.the_send, sendable, crosses) depth 30 fits 30000
 
 pub work_revision_send : IsSend work_revision.the_row
 work_revision_send = search (work_revision_field_send, sendable) depth 10

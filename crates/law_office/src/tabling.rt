@@ -49,6 +49,10 @@ fn make_work<L: Ledger>(
         (λ made. Matches (known_now register.now.entries work.now) (option_map work_view made)) }
     ensures is { IfOk result
         (λ made. option_map work_view made ≡ option_map work_of (known_now register.now.entries work.now)) }
+    ensures itself { IfOk result
+        (λ made. option_map work_view made ≡ option_map (λ kept. work_of kept.known) (option_map work_view made)) }
+    ensures known { IfOk result
+        (λ made. option_map (λ kept. kept.known) (option_map work_view made) ≡ known_now register.now.entries work.now) }
     ensures steps { steps.new ≤ steps.old + costs_from (known_now register.now.entries work.now) 0 }
 {
     match known_at(alloc, register, work, register.front())? {

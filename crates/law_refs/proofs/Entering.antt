@@ -1,5 +1,5 @@
 -- What an entry hands in that comes to stand behind others is what the register has with it.
-use Rattle.std.proofs.Common.{◌≡◌, ◌∙◌, ℕ, ◌+◌, ◌<◌, sym, ap, refl, subst, Bool, true, false, cond, ◌⊎◌, inl, inr, List, [], ◌∷◌, ◌++◌, map, Option, Some, None}
+use Rattle.std.proofs.Common.{◌≡◌, ◌∙◌, ℕ, ◌+◌, ◌<◌, sym, ap, refl, subst, Bool, true, false, cond, ◌⊎◌, inl, inr, List, [], ◌∷◌, ◌++◌, map, Option, Some, None, arith}
 use Rattle.std.proofs.lemmas.List.{append-nil}
 use Rattle.std.specs.Str.{bytes_eq}
 use Rattle.law_register.specs.declared.answer.question.Reading.TheVariants.{Force}
@@ -23,32 +23,28 @@ use Rattle.law_register.proofs.Next.{entry_apart, entry_next}
 use Rattle.law_register.proofs.Puts.{and_true, bytes_are, bytes_either, bytes_same, left_true, right_true}
 use Rattle.law_register.proofs.Snoc.{legal_more}
 use Rattle.version_cache.specs.Agreement.{Agree}
-use Rattle.version_cache.specs.Tables.{IsRight, table_of}
-use Rattle.version_cache.proofs.Agreeing.{agreeing_right, right_until}
+use Rattle.version_cache.specs.Steady.{CarrySteadily}
+use Rattle.version_cache.proofs.Agreeing.{agreeing_version}
 use Rattle.version_cache.proofs.OneMore.{one_more_of}
-use Rattle.version_cache.proofs.Right.{made_right}
 use Rattle.law_refs.specs.Handing.{moved_by, moved_with, rows_by, rows_from, rows_if, rows_made, rows_of_entry, rows_touched}
 use Rattle.law_refs.specs.Index.{first_day}
 use Rattle.law_refs.specs.Missing.{refs_in_force, text_refs}
 use Rattle.law_refs.specs.OfRegister.{FollowsChange, HasSameRefs, IsHandedIn, SameRefs, rows_given}
 use Rattle.law_refs.specs.declared.ref_row.RefRow.{RefRow}
-use Rattle.law_refs.proofs.Texts.{first_other, from_handed, from_of, made_handed, made_of}
+use Rattle.law_refs.proofs.Texts.{first_other, from_handed, from_of, made_handed, made_of, now_steady}
 use Rattle.law_refs.proofs.Unmoved.{IsSameView, IsUnmoved, counted_on, unmoved_missing, unmoved_refs}
 
 -- ---- views that agree before a day have the same text before it
 
 early_text : (old new : Known) (touched : ℕ) → Agree old new Force (Some touched) → (day : ℕ) → day < touched → replay_on old Force day ≡ replay_on new Force day
-early_text old new touched agree day early =
-    sym ((made_right old Force).versions day)
-    ∙ (agreeing_right old new touched (table_of old Force) (made_right old Force) agree).versions day early
+early_text old new touched agree day early = agreeing_version old new Force day agree.act (agree.days day early)
 
 same_view : (old new : Known) → Agree old new Force None → IsSameView old new
-same_view old new agree =
-    let right : IsRight new (table_of old Force) = right_until old new None (table_of old Force) (made_right old Force) agree in
-    record {
-      act = agree.act;
-      texts = λ day. sym ((made_right old Force).versions day) ∙ right.versions day;
-    }
+same_view old new agree = record { act = agree.act; texts = λ day. agreeing_version old new Force day agree.act (agree.days day tt) }
+
+-- nothing modifies what was just enacted
+enacts_steadily : (number : ℕ) (act : Act) → CarrySteadily (newly_known number act)
+enacts_steadily number act = λ k d less. absurd (let no : k < 0 = less in omega (arith, no))
 
 -- ---- what an entry leaves
 
@@ -121,7 +117,9 @@ module _ (es : List Entry) (e : Entry) (legal : is_legal es ≡ true) where
         IsHandedIn (known_now es act.work) known (first_day act.work (rows_if (rows_made act.work) known)) (rows_given act.work (rows_if (rows_made act.work) known))
 
     own_made : IsMade act.work
-    own_made = subst IsMadeFor (sym (enact_known es e act legal accepted enacts)) (made_handed act.work (newly_known (front es + 1) act) (known_now es act.work))
+    own_made =
+        subst IsMadeFor (sym (enact_known es e act legal accepted enacts))
+        (made_handed act.work (newly_known (front es + 1) act) (enacts_steadily (front es + 1) act) (known_now es act.work))
 
     enact_given : (work : List ℕ) → IsMade work
     enact_given work = by (bytes_eq act.work work) refl
@@ -167,7 +165,7 @@ module _ (es : List Entry) (e : Entry) (legal : is_legal es ≡ true) where
             ap (λ (v : VersionValue). text_refs v.tree)
             (early_text old new touched (subst (λ until. Agree old new Force until) among (one_more_of es e legal work Force old new was is)) day early)
 
-    module _ (own : List ℕ) (touched : ℕ) (is : touched_days es e ≡ (own, touched) ∷ []) where
+    module _ (own : List ℕ) (touched : ℕ) (is : touched_days es e ≡ (own, touched) ∷ []) (still : is_legal more ≡ true) where
       abbrev rows : List RefRow
       rows = rows_if (rows_from own touched) (known_now more own)
 
@@ -187,7 +185,7 @@ module _ (es : List Entry) (e : Entry) (legal : is_legal es ≡ true) where
           by None was = tt
           by (Some old) was = absurd (lost_is_not own old was gone)
       own_given (Some new) now =
-          from_handed own new (known_now es own) touched
+          from_handed own new (now_steady more own new still now) (known_now es own) touched
           (early_refs own touched new now (among own ∙ ap (λ t. cond t (Some touched) None) (bytes_are own own refl)))
 
       touch_given : (work : List ℕ) → IsGiven work
@@ -228,11 +226,11 @@ module _ (es : List Entry) (e : Entry) (legal : is_legal es ≡ true) (still : i
   touched_in : act_of e.command ≡ None → (own : List ℕ) (touched : ℕ) → touched_days es e ≡ (own, touched) ∷ []
       → FollowsChange es now (own ∷ []) (rows_if (rows_from own touched) (known_now now own))
   touched_in none own touched is = record {
-    given = touch_given es e legal none own touched is;
+    given = touch_given es e legal none own touched is still;
     targets = λ target apart.
         unmoved_missing es now legal still target
         (untouched es e legal none target.work.text
-        (among es e legal none own touched is target.work.text
+        (among es e legal none own touched is still target.work.text
         ∙ ap (λ t. cond t (Some touched) None) (bytes_either own target.work.text ∙ none_left (bytes_eq target.work.text own) false apart)));
   }
 

@@ -19,6 +19,7 @@ use Rattle.law_register.specs.Register.Verdicts.{is_legal}
 use Rattle.law_register.proofs.ApartIds.{none_left, none_right}
 use Rattle.law_register.proofs.Next.{now_known}
 use Rattle.law_register.proofs.Puts.{bytes_either, bytes_same}
+use Rattle.version_cache.specs.Steady.{CarrySteadily}
 use Rattle.law_refs.specs.Handing.{judged_at_opening, row_enacted, row_on, rows_if, rows_made, rows_opened}
 use Rattle.law_refs.specs.Index.{first_day, refs_in}
 use Rattle.law_refs.specs.Missing.{refs_in_force}
@@ -27,7 +28,7 @@ use Rattle.law_refs.specs.OfRegister.{AreRowsFor, FollowsChange, IsHandedIn, lat
 use Rattle.law_refs.specs.Rows.{has_begun, is_before}
 use Rattle.law_refs.specs.declared.node_ref.NodeRef.{NodeRef}
 use Rattle.law_refs.specs.declared.ref_row.RefRow.{RefRow}
-use Rattle.law_refs.proofs.Texts.{first_other, first_own, given_other, given_own, made_for, made_of, made_texts}
+use Rattle.law_refs.proofs.Texts.{first_other, first_own, given_other, given_own, made_for, made_of, made_texts, now_steady}
 use Rattle.law_refs.proofs.Unmoved.{IsUnmoved, unmoved_missing}
 
 -- ---- rows behind others
@@ -75,7 +76,7 @@ module _ (entries : List Entry) (work : List ℕ) where
       (other_first own (known_now entries own) (bytes_either own work ∙ none_left (bytes_eq work own) (is_among work works) none))
       ∙ none_first works (none_right (bytes_eq work own) (is_among work works) none)
 
-  module _ (known : Known) (is : known_now entries work ≡ Some known) where
+  module _ (known : Known) (is : known_now entries work ≡ Some known) (steady : CarrySteadily known) where
     -- its rows, once for each time that it stands among works
     abbrev copies : List (List ℕ) → List RefRow
     copies [] = []
@@ -131,7 +132,7 @@ module _ (entries : List Entry) (work : List ℕ) where
             → latest_given day (refs_in_force known day) (cond t (rows_made work known) [] ++ copies works) ≡ refs_in_force known day
         by true rest =
             latest_both day (refs_in_force known day) (rows_made work known) (copies works)
-            ∙ ap (λ found. latest_given day found (copies works)) (made_texts work known day (refs_in_force known day))
+            ∙ ap (λ found. latest_given day found (copies works)) (made_texts work known steady day (refs_in_force known day))
             ∙ rest
         by false rest = rest
 
@@ -143,13 +144,13 @@ module _ (entries : List Entry) (work : List ℕ) where
             → latest_given day [] (cond t (rows_made work known) [] ++ copies works) ≡ refs_in_force known day
         by true same rest =
             latest_both day [] (rows_made work known) (copies works)
-            ∙ ap (λ found. latest_given day found (copies works)) (made_texts work known day [])
+            ∙ ap (λ found. latest_given day found (copies works)) (made_texts work known steady day [])
             ∙ same_again day works
         by false other rest = rest (sym (ap (λ t. t || is_among work works) (bytes_either work own ∙ other)) ∙ some)
 
     copies_for : (works : List (List ℕ)) → is_among work works ≡ true → AreRowsFor None known None (copies works)
     copies_for works some =
-        let once : AreRowsFor None known None (rows_made work known) = made_for work known None in
+        let once : AreRowsFor None known None (rows_made work known) = made_for work known steady None in
         record {
           act_day = all_copies (λ (row : RefRow). row.act_day ≡ known.act.day) once.act_day works;
           days = all_copies (λ (row : RefRow). is_before row.from None ≡ false) once.days works;
@@ -169,15 +170,15 @@ module _ (entries : List Entry) (work : List ℕ) where
 abbrev AreKnown : List Entry → List (List ℕ) → Type 0
 AreKnown entries works = (work : List ℕ) → is_among work works ≡ is_some (known_now entries work)
 
-work_in : (entries : List Entry) (works : List (List ℕ)) → AreKnown entries works → (work : List ℕ)
+work_in : (entries : List Entry) (works : List (List ℕ)) → is_legal entries ≡ true → AreKnown entries works → (work : List ℕ)
     → IsHandedIn None (known_now entries work) (first_day work (rows_opened entries works)) (rows_given work (rows_opened entries works))
-work_in entries works are work = by (known_now entries work) refl
+work_in entries works legal are work = by (known_now entries work) refl
   where
     by : (known : Option Known) → known_now entries work ≡ known
         → IsHandedIn None known (first_day work (rows_opened entries works)) (rows_given work (rows_opened entries works))
     by None is =
         subst (λ first. IsHandedIn None None first (rows_given work (rows_opened entries works))) (sym (none_first entries work works (are work ∙ ap is_some is))) tt
-    by (Some known) is = known_in entries work known is works (are work ∙ ap is_some is)
+    by (Some known) is = known_in entries work known is (now_steady entries work known legal is) works (are work ∙ ap is_some is)
 
 not_known : (known : Option Known) → is_some known ≡ false → IsUnmoved None known
 not_known None none = tt
@@ -185,7 +186,7 @@ not_known (Some known) none = absurd (let no : true ≡ false = none in cc)
 
 known_hand_in : (entries : List Entry) (works : List (List ℕ)) → is_legal entries ≡ true → AreKnown entries works → FollowsChange [] entries works (rows_opened entries works)
 known_hand_in entries works legal are = record {
-  given = work_in entries works are;
+  given = work_in entries works legal are;
   targets = λ target apart.
       unmoved_missing [] entries refl legal target (not_known (known_now entries target.work.text) (sym (are target.work.text) ∙ apart));
 }

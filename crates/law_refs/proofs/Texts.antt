@@ -1,6 +1,6 @@
 -- Rows that are handed in for a work have on each day, from the first of them on, the references of its text in force.
 use Rattle.std.proofs.Common.{◌≡◌, ◌∙◌, ℕ, ◌<◌, ◌≤◌, sym, ap, refl, subst, Bool, true, false, cond, ◌&&◌, nat_le, nat_lt, List, [], ◌∷◌, ◌++◌, map, arith}
-use Rattle.std.specs.Prelude.{Option, Some, None}
+use Rattle.std.specs.Prelude.{Option, Some, None, IfSome}
 use Rattle.std.specs.List.{AllByRecursion, filter, list_any}
 use Rattle.std.specs.Option.{option_or}
 use Rattle.std.specs.Str.{bytes_eq}
@@ -8,13 +8,19 @@ use Rattle.std.proofs.lemmas.Bool.Decides.{nat_tests}
 use Rattle.std.proofs.lemmas.List.Kept.{IsStrictlySortedBy-filter}
 use Rattle.std.specs.Ordering.{nat_cmp}
 use Rattle.law_register.specs.declared.answer.question.Reading.TheVariants.{Force}
+use Rattle.law_register.specs.declared.register.entry.Entry.{Entry}
 use Rattle.law_register.specs.declared.register.known.Known.{Known}
 use Rattle.law_register.specs.Answer.Breakpoints.{breakpoints}
 use Rattle.law_register.specs.Answer.Replay.{VersionValue, as_enacted, replayed}
+use Rattle.law_register.specs.Answer.Soundness.{IsSound}
+use Rattle.law_register.specs.Register.KnownNext.{known_now}
+use Rattle.law_register.specs.Register.Verdicts.{is_legal}
 use Rattle.law_register.proofs.ApartIds.{none_both, none_left, none_right}
 use Rattle.law_register.proofs.NamedDays.{breakpoints_ascend}
+use Rattle.law_register.proofs.Next.{now_sound}
 use Rattle.law_register.proofs.Puts.{bytes_are}
 use Rattle.version_cache.specs.Days.{last_until}
+use Rattle.version_cache.specs.Steady.{CarrySteadily}
 use Rattle.version_cache.proofs.LastDay.{IsLast, last_is}
 use Rattle.version_cache.proofs.Right.{replay_by_last, version_or}
 use Rattle.version_cache.proofs.Still.{order_still}
@@ -25,6 +31,12 @@ use Rattle.law_refs.specs.OfRegister.{AreRowsFor, IsHandedIn, SameRefs, latest_g
 use Rattle.law_refs.specs.Rows.{has_begun, is_before}
 use Rattle.law_refs.specs.declared.node_ref.NodeRef.{NodeRef}
 use Rattle.law_refs.specs.declared.ref_row.RefRow.{RefRow}
+
+-- what a legal register knows of a work carries steadily
+pub now_steady : (entries : List Entry) (work : List ℕ) (known : Known) → is_legal entries ≡ true → known_now entries work ≡ Some known → CarrySteadily known
+now_steady entries work known legal is =
+    let sound : IsSound known = subst (λ (k : Option Known). IfSome k IsSound) is (now_sound entries work legal) in
+    sound.steady
 
 -- ---- rows of one work
 
@@ -166,37 +178,37 @@ module _ (work : List ℕ) (known : Known) where
   enacted_or (Some day) = refl
 
   -- on each day they have the references of the text in force
-  pub made_texts : (day : ℕ) (found : List NodeRef) → latest_given day found (rows_made work known) ≡ refs_in_force known day
+  pub made_texts : CarrySteadily known → (day : ℕ) (found : List NodeRef) → latest_given day found (rows_made work known) ≡ refs_in_force known day
   unfolding refs_in_force has_begun
-  made_texts day found =
+  made_texts steady day found =
       last_given day (text_refs (as_enacted known.act).tree) (breakpoints known)
       ∙ enacted_or (last_until day (breakpoints known))
-      ∙ ap (λ (v : VersionValue). text_refs v.tree) (sym (replay_by_last known Force day))
+      ∙ ap (λ (v : VersionValue). text_refs v.tree) (sym (replay_by_last known Force steady day))
 
   -- ---- those from a day on
 
-  still_refs : (from day : ℕ) → from ≤ day → list_any (λ d. nat_lt from d && nat_le d day) (breakpoints known) ≡ false → refs_in_force known from ≡ refs_in_force known day
+  still_refs : CarrySteadily known → (from day : ℕ) → from ≤ day → list_any (λ d. nat_lt from d && nat_le d day) (breakpoints known) ≡ false → refs_in_force known from ≡ refs_in_force known day
   unfolding refs_in_force
-  still_refs from day later none =
-      sym (ap (λ ids. text_refs (replayed known.mods (as_enacted known.act) ids).tree) (order_still from day known Force later none))
+  still_refs steady from day later none =
+      sym (ap (λ ids. text_refs (replayed known.mods (as_enacted known.act) ids).tree) (order_still from day known steady Force later none))
 
-  from_last : (touched day : ℕ) → touched ≤ day → (o : Option ℕ) → IsLast day (after touched (breakpoints known)) o → IfLast (λ last. touched < last) o
+  from_last : CarrySteadily known → (touched day : ℕ) → touched ≤ day → (o : Option ℕ) → IsLast day (after touched (breakpoints known)) o → IfLast (λ last. touched < last) o
       → refs_or (refs_in_force known touched) o ≡ refs_in_force known day
-  from_last touched day later None none before =
-      still_refs touched day later
+  from_last steady touched day later None none before =
+      still_refs steady touched day later
       (none_in (λ d. nat_lt touched d && nat_le d day) touched (λ d h. early_not touched touched day d (same_least touched) h) (breakpoints known)
       (none_wider (λ d. nat_lt touched d && nat_le d day) (λ d. nat_le d day) (λ d h. not_come touched day d h) (after touched (breakpoints known)) none))
-  from_last touched day later (Some last) is before =
-      still_refs last day is.0
+  from_last steady touched day later (Some last) is before =
+      still_refs steady last day is.0
       (none_in (λ d. nat_lt last d && nat_le d day) touched (λ d h. early_not touched last day d (less_least touched last before) h) (breakpoints known) is.1)
 
   -- from that day on they have the references of the text in force
-  pub from_texts : (touched day : ℕ) (found : List NodeRef) → nat_le touched day ≡ true → latest_given day found (rows_from work touched known) ≡ refs_in_force known day
+  pub from_texts : CarrySteadily known → (touched day : ℕ) (found : List NodeRef) → nat_le touched day ≡ true → latest_given day found (rows_from work touched known) ≡ refs_in_force known day
   unfolding has_begun
-  from_texts touched day found begun =
+  from_texts steady touched day found begun =
       ap (λ t. latest_given day (cond t (refs_in_force known touched) found) (map (row_on work known) (after touched (breakpoints known)))) begun
       ∙ last_given day (refs_in_force known touched) (after touched (breakpoints known))
-      ∙ from_last touched day (reached touched day begun) (last_until day (after touched (breakpoints known)))
+      ∙ from_last steady touched day (reached touched day begun) (last_until day (after touched (breakpoints known)))
       (last_is day (after touched (breakpoints known))
       (IsStrictlySortedBy-filter nat_cmp (λ d. nat_lt touched d) (breakpoints known) (breakpoints_ascend known)))
       (last_one (λ last. touched < last) day (after touched (breakpoints known))
@@ -247,20 +259,20 @@ module _ (work : List ℕ) (known : Known) where
   unfolding has_begun
   no_day_before old day wrong = absurd (let no : true ≡ false = wrong in cc)
 
-  pub made_for : (old : Option Known) → AreRowsFor old known None (rows_made work known)
-  made_for old = record {
+  pub made_for : CarrySteadily known → (old : Option Known) → AreRowsFor old known None (rows_made work known)
+  made_for steady old = record {
     act_day = (refl, days_act_day (breakpoints known));
     days = made_any;
-    texts = λ day begun. made_texts day [];
+    texts = λ day begun. made_texts steady day [];
     earlier = no_day_before old;
   }
 
-  pub from_for : (old : Option Known) (touched : ℕ) → ((day : ℕ) → day < touched → SameRefs day old known) → AreRowsFor old known (Some touched) (rows_from work touched known)
+  pub from_for : CarrySteadily known → (old : Option Known) (touched : ℕ) → ((day : ℕ) → day < touched → SameRefs day old known) → AreRowsFor old known (Some touched) (rows_from work touched known)
   unfolding has_begun
-  from_for old touched earlier = record {
+  from_for steady old touched earlier = record {
     act_day = (refl, days_act_day (after touched (breakpoints known)));
     days = from_any touched;
-    texts = λ day begun. from_texts touched day [] begun;
+    texts = λ day begun. from_texts steady touched day [] begun;
     earlier = λ day early. earlier day (not_reached touched day early);
   }
     where
@@ -268,15 +280,15 @@ module _ (work : List ℕ) (known : Known) where
       not_reached t day h = grind (arith, nat_tests)
 
   -- of its own work
-  pub made_handed : (old : Option Known) → IsHandedIn old (Some known) (first_day work (rows_made work known)) (rows_given work (rows_made work known))
-  made_handed old =
+  pub made_handed : CarrySteadily known → (old : Option Known) → IsHandedIn old (Some known) (first_day work (rows_made work known)) (rows_given work (rows_made work known))
+  made_handed steady old =
       subst (λ first. IsHandedIn old (Some known) first (rows_given work (rows_made work known)))
       (sym (first_own work (row_enacted work known) (map (row_on work known) (breakpoints known)) refl))
-      (subst (λ rows. IsHandedIn old (Some known) (Some None) rows) (sym (given_own work (rows_made work known) made_of)) (made_for old))
+      (subst (λ rows. IsHandedIn old (Some known) (Some None) rows) (sym (given_own work (rows_made work known) made_of)) (made_for steady old))
 
-  pub from_handed : (old : Option Known) (touched : ℕ) → ((day : ℕ) → day < touched → SameRefs day old known)
+  pub from_handed : CarrySteadily known → (old : Option Known) (touched : ℕ) → ((day : ℕ) → day < touched → SameRefs day old known)
       → IsHandedIn old (Some known) (first_day work (rows_from work touched known)) (rows_given work (rows_from work touched known))
-  from_handed old touched earlier =
+  from_handed steady old touched earlier =
       subst (λ first. IsHandedIn old (Some known) first (rows_given work (rows_from work touched known)))
       (sym (first_own work (row_on work known touched) (map (row_on work known) (after touched (breakpoints known))) refl))
-      (subst (λ rows. IsHandedIn old (Some known) (Some (Some touched)) rows) (sym (given_own work (rows_from work touched known) (from_of touched))) (from_for old touched earlier))
+      (subst (λ rows. IsHandedIn old (Some known) (Some (Some touched)) rows) (sym (given_own work (rows_from work touched known) (from_of touched))) (from_for steady old touched earlier))

@@ -21,6 +21,7 @@ use Rattle.law_register.specs.Answer.Bearing.{start_on}
 use Rattle.law_register.specs.Answer.Counted.{is_same_id}
 use Rattle.law_register.specs.Answer.Order.{due_cmp, due_from, due_as, with_due, due_of, due_on, order, is_due}
 use Rattle.law_register.specs.Answer.Soundness.{id_twice}
+use Rattle.law_register.specs.Answer.Standing.{counts}
 use Rattle.law_register.proofs.ApartIds.{none_both, none_left, none_right, same_sym}
 use Rattle.law_register.proofs.InsertedKeys.{inserted_any, inserted_ascends}
 
@@ -118,9 +119,9 @@ module _ (reading : Reading) (day : ℕ) (mods : List KnownMod) where
       by None = sym (never (is_same_id other id))
       by (Some start) = sym (always (is_same_id other id))
 
-  -- where the modification stands
-  live_has_id : (other : Id) (m : KnownMod) → has_due other (cond m.live (due_as reading day mods m.id m.body) None) ≡ (is_same_id other m.id && is_due reading day mods m)
-  live_has_id other m = by m.live
+  -- where the modification counts
+  counted_has_id : (other : Id) (m : KnownMod) → has_due other (cond (counts reading day m) (due_as reading day mods m.id m.body) None) ≡ (is_same_id other m.id && is_due reading day mods m)
+  counted_has_id other m = by (counts reading day m)
     where
       by : (b : Bool) → has_due other (cond b (due_as reading day mods m.id m.body) None) ≡ (is_same_id other m.id && (b && is_some (due_as reading day mods m.id m.body)))
       by true = due_has_id other m.id m.body
@@ -129,8 +130,8 @@ module _ (reading : Reading) (day : ℕ) (mods : List KnownMod) where
   members : (id : Id) (ms : List KnownMod) → list_any (is_same_id id) (ids_in (due_of reading day mods ms)) ≡ list_any (λ m. is_same_id id m.id && is_due reading day mods m) ms
   members id [] = refl
   members id (m ∷ ms) =
-      with_id id (due_of reading day mods ms) (cond m.live (due_as reading day mods m.id m.body) None)
-      ∙ ap (λ b. b || list_any (is_same_id id) (ids_in (due_of reading day mods ms))) (live_has_id id m)
+      with_id id (due_of reading day mods ms) (cond (counts reading day m) (due_as reading day mods m.id m.body) None)
+      ∙ ap (λ b. b || list_any (is_same_id id) (ids_in (due_of reading day mods ms))) (counted_has_id id m)
       ∙ ap (λ b. (is_same_id id m.id && is_due reading day mods m) || b) (members id ms)
 
   both_none : (id : Id) (ms : List KnownMod) → list_any (is_same_id id) (map (λ m. m.id) ms) ≡ false → list_any (λ m. is_same_id id m.id && is_due reading day mods m) ms ≡ false
@@ -152,7 +153,7 @@ module _ (reading : Reading) (day : ℕ) (mods : List KnownMod) where
 
   once_each : (ms : List KnownMod) → id_twice (map (λ m. m.id) ms) ≡ false → id_twice (ids_in (due_of reading day mods ms)) ≡ false
   once_each [] h = refl
-  once_each (m ∷ ms) h = by (once_each ms (none_right (list_any (is_same_id m.id) (map (λ k. k.id) ms)) (id_twice (map (λ k. k.id) ms)) h)) m.live
+  once_each (m ∷ ms) h = by (once_each ms (none_right (list_any (is_same_id m.id) (map (λ k. k.id) ms)) (id_twice (map (λ k. k.id) ms)) h)) (counts reading day m)
     where
       by : id_twice (ids_in (due_of reading day mods ms)) ≡ false → (b : Bool)
           → id_twice (ids_in (with_due (due_of reading day mods ms) (cond b (due_as reading day mods m.id m.body) None))) ≡ false
@@ -168,7 +169,7 @@ module _ (reading : Reading) (day : ℕ) (mods : List KnownMod) where
   ascends : (ms : List KnownMod) → IsStrictlySortedBy due_cmp (due_of reading day mods ms)
   unfolding IsStrictlySortedBy
   ascends [] = tt
-  ascends (m ∷ ms) = with_ascends (due_of reading day mods ms) (cond m.live (due_as reading day mods m.id m.body) None) (ascends ms)
+  ascends (m ∷ ms) = with_ascends (due_of reading day mods ms) (cond (counts reading day m) (due_as reading day mods m.id m.body) None) (ascends ms)
 
 -- what is due ascends by its keys
 pub due_ascends : (known : Known) (reading : Reading) (day : ℕ) → IsStrictlySortedBy due_cmp (due_on known reading day)

@@ -22,6 +22,7 @@ pub mod Listed
 pub mod Gathering
 pub mod Ascending
 pub mod Sound
+pub mod CarryingNothing
 pub mod Spellable
 pub mod Enacting
 pub mod InsertedKeys

@@ -72,7 +72,7 @@ differs a b h = grind (arith, nat_tests)
 
 -- what was known of an id, after one more law entry
 abbrev known_mod : Id → IdFacts → KnownMod
-known_mod id f = record { id = id; live = is_live f.standing; body = f.body }
+known_mod id f = record { id = id; live = is_live f.standing; body = f.body; carried = None }
 
 module _ (id other : Id) (l : Command) (g : IdFacts → IdFacts) (change : KnownMod → KnownMod)
     (same : (f : IdFacts) → known_mod id (g f) ≡ change (known_mod id f))
@@ -151,7 +151,7 @@ new_known L w ms m (body ∷ bodies) h =
     facts_more id L (Record w ms) ∙ ap (λ b. cond b (first_facts w (item_at (m + 1) ms)) (facts_of id L)) (number_is n n refl)
     ∙ ap (first_facts w) (item_is m ms body (at_place m ms body bodies h)) in
     let behind : drop (m + 1) ms ≡ bodies = ap (λ k. drop k ms) (one_more m) ∙ behind_place m ms body bodies h in
-    ap (λ f. known_as id f ++ rest) facts ∙ ap (λ l. record { id = id; live = true; body = body } ∷ l) (new_known L w ms (m + 1) bodies behind)
+    ap (λ f. known_as id f ++ rest) facts ∙ ap (λ l. record { id = id; live = true; body = body; carried = None } ∷ l) (new_known L w ms (m + 1) bodies behind)
   where
     one_more : (n : ℕ) → n + 1 ≡ suc n
     one_more n = omega arith
@@ -197,7 +197,7 @@ law_next L w l none =
     n = length L + 1
 
     told : ℕ × Act → List KnownMod → Option Known
-    told found mods = Some (record { act = found.1; enacted = found.0; viewpoint = n; front = n; mods = mods })
+    told found mods = Some (record { act = found.1; enacted = found.0; viewpoint = n; front = n; mods = mods; source_days = [] })
 
     now : List KnownMod
     now = known_ids (L ++ l ∷ []) (ids_of w (L ++ l ∷ []))
@@ -311,7 +311,7 @@ now_counts es w known is = by (enacted w (laws es)) (sym (now_known es w) ∙ is
     by None h = absurd (let no : None ≡ Some known = h in cc)
     by (Some found) h =
         let told : Known =
-        record { act = found.1; enacted = found.0; viewpoint = front es; front = front es; mods = known_ids (laws es) (ids_of w (laws es)) } in
+        record { act = found.1; enacted = found.0; viewpoint = front es; front = front es; mods = known_ids (laws es) (ids_of w (laws es)); source_days = [] } in
         subst (λ k. up_to (front es) k ≡ k) (inner told known h) refl
 
 -- an entry that does not concern a work leaves what is known of it
@@ -352,7 +352,7 @@ law_apart L w l apart =
 
     by : (found : Option (ℕ × Act)) → known_by w n n (L ++ l ∷ []) found ≡ option_map (up_to n) (known_by w (length L) (length L) L found)
     by None = refl
-    by (Some found) = ap (λ (ms : List KnownMod). Some (record { act = found.1; enacted = found.0; viewpoint = n; front = n; mods = ms })) mods
+    by (Some found) = ap (λ (ms : List KnownMod). Some (record { act = found.1; enacted = found.0; viewpoint = n; front = n; mods = ms; source_days = [] })) mods
 
 pub entry_apart : (es : List Entry) (e : Entry) (w : List ℕ) → is_named w (work_entered es (law_of es e)) ≡ false
     → known_now (es ++ e ∷ []) w ≡ option_map (up_to (front (es ++ e ∷ []))) (known_now es w)

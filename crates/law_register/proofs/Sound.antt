@@ -27,7 +27,7 @@ use Rattle.law_register.specs.Answer.Counted.{is_same_id}
 use Rattle.law_register.specs.Register.Drafts.{is_by, added, redrafted, draft_of, items_of}
 use Rattle.law_register.specs.Register.KnownIds.{IdFacts, item_at, first_facts, facts_after, facts_of, enacted, enacted_by, enacted_or, ids_of, known_as, known_ids, known_by}
 use Rattle.law_register.specs.Register.LawList.{law_command, laws}
-use Rattle.law_register.specs.Answer.Soundness.{IsSoundBody, IsSound}
+use Rattle.law_register.specs.Answer.Soundness.{IsSoundBody, IsSound, IsSteady}
 use Rattle.law_register.specs.Register.Verdicts.{tree_rule, bad_tree, first_item, is_legal}
 use Rattle.law_register.proofs.Ascending.{known_once}
 use Rattle.law_register.proofs.Legal.{first_kept, second_kept, IsNew, kept_rules, legally}
@@ -221,6 +221,24 @@ each_sound [] h k d less = absurd (omega arith)
 each_sound (m ∷ ms) h zero d less = h.0
 each_sound (m ∷ ms) h (suc k) d less = each_sound ms h.1 k d (omega arith)
 
+-- nothing is carried of what is known of ids
+abbrev CarryNothing : List KnownMod → Type 0
+CarryNothing [] = Unit {0}
+CarryNothing (m ∷ ms) = (m.carried ≡ None) × CarryNothing ms
+
+nothing_carried : (L : List Command) (ids : List Id) → CarryNothing (known_ids L ids)
+nothing_carried L [] = tt
+nothing_carried L (id ∷ ids) = by (facts_of id L) (nothing_carried L ids)
+  where
+    by : (f : Option IdFacts) → CarryNothing (known_ids L ids) → CarryNothing (known_as id f ++ known_ids L ids)
+    by None rest = rest
+    by (Some f) rest = (refl, rest)
+
+nothing_steady : (days : List ℕ) (ms : List KnownMod) → CarryNothing ms → All (λ m. IsSteady days m.carried) ms
+nothing_steady days [] h k d less = absurd (omega arith)
+nothing_steady days (m ∷ ms) h zero d less = subst (IsSteady days) (sym h.0) tt
+nothing_steady days (m ∷ ms) h (suc k) d less = nothing_steady days ms h.1 k d (omega arith)
+
 known_by_sound : (w : List ℕ) (v front : ℕ) (L : List Command) (found : Option (ℕ × Act)) → ActSound found → ((id : Id) → FactsSound (facts_of id L))
     → IfSome (known_by w v front L found) IsSound
 known_by_sound w v front L None act facts = tt
@@ -228,6 +246,7 @@ known_by_sound w v front L (Some found) act facts = record {
   fits = act;
   ids = known_once L w;
   bodies = each_sound (known_ids L (ids_of w L)) (known_sound L (ids_of w L) facts);
+  steady = nothing_steady [] (known_ids L (ids_of w L)) (nothing_carried L (ids_of w L));
 }
 
 pub known_is_sound : (w : List ℕ) (v front : ℕ) (es : List Entry) → is_legal es ≡ true → IfSome (known_by w v front (laws es) (enacted w (laws es))) IsSound

@@ -86,7 +86,7 @@ enacted_bare es w legal = by (enacted w (laws es)) refl ∙ sym (ap (option_map 
         let first : List Command = take f.0 (laws es) in
         ap (known_by w f.0 n first)
         (enacted_taken w f.0 (laws es) ∙ ap (act_within f.0) is ∙ ap (λ b. cond b (Some f) None) (below f.0 f.0 (omega arith)))
-        ∙ ap (λ ids. Some (record { act = f.1; enacted = f.0; viewpoint = f.0; front = n; mods = known_ids first ids })) ((bare_of w es legal f is).1)
+        ∙ ap (λ ids. Some (record { act = f.1; enacted = f.0; viewpoint = f.0; front = n; mods = known_ids first ids; source_days = [] })) ((bare_of w es legal f is).1)
 
 -- at the front and ahead of it all law entries are known
 pub known_ahead : (es : List Entry) (w : List ℕ) (v : ℕ) → front es ≤ v → known_at es w v ≡ option_map (at_viewpoint v) (known_now es w)

@@ -16,5 +16,6 @@ pub mod Replay
 pub mod Shown
 pub mod ShownNodes
 pub mod Soundness
+pub mod Standing
 pub mod Touched
 pub mod Versions

@@ -16,7 +16,9 @@ ghost use Rattle.law_register.specs.declared.register.limits.TheConstants as lim
 ghost use Rattle.law_register.specs.declared.register.verdict.Reply.{Reply};
 ghost use Rattle.law_register.specs.declared.register.verdict.Verdict.TheVariants.{Accepted};
 ghost use Rattle.law_register.specs.Answer.Asking.{known_when_enacted};
+ghost use Rattle.law_register.specs.Answer.Previews.{known_by_law};
 ghost use Rattle.law_register.specs.Answer.Renewing.{command_cost, entry_cost, judging_cost};
+ghost use Rattle.law_register.specs.Answer.Standing.{alone};
 ghost use Rattle.law_register.specs.Answer.Touched.{touched_day, touched_days, work_entered};
 ghost use Rattle.law_register.specs.Register.Concerns.{is_named};
 ghost use Rattle.law_register.specs.Register.Drafters.{is_drafter};
@@ -219,4 +221,12 @@ pub fn commands_cost_what_they_touch()
         → command_cost entries entry ≡ 0 }
     ensures drafting { (entries : List Entry) (entry : Entry) → law_of entries entry ≡ []
         → command_cost entries entry ≡ 0 }
+{}
+
+/// What a law makes known of a work carries nothing, whatever a viewpoint knows of it.
+pub fn known_works_carry_nothing()
+    ensures laws { (law : List CommandValue) (work : List ℕ) (known : KnownValue) → known_by_law law work ≡ Some known
+        → alone known ≡ known }
+    ensures viewpoints { (entries : List Entry) (work : List ℕ) (viewpoint : ℕ) (known : KnownValue)
+        → known_at entries work viewpoint ≡ Some known → alone known ≡ known }
 {}

@@ -20,7 +20,7 @@ pub use law::{
     Act, Command, Destination, EntryFormat, Kind, ModSource, Modification, Mods, entry_size,
 };
 pub use register::{
-    Draft, DraftItem, Drafter, EnterFault, Entry, Known, KnownMod, KnownMods, Register, Reply,
-    Rule, Standing, Verdict, known_after, known_at, known_enacted,
+    Carried, Draft, DraftItem, Drafter, EnterFault, Entry, Known, KnownMod, KnownMods, Register,
+    Reply, Rule, Spans, Standing, Verdict, known_after, known_at, known_enacted,
 };
 pub use series::Series;

@@ -1,5 +1,6 @@
 //! The register: entries, each judged by the rules behind those before it, and what is known of a work at a viewpoint.
 
+mod carried;
 pub(crate) mod contents;
 mod draft;
 mod drafter;
@@ -18,6 +19,7 @@ mod rules;
 mod standing;
 mod verdict;
 
+pub use carried::{Carried, Spans};
 pub use draft::{Draft, DraftItem};
 pub use drafter::Drafter;
 pub use entering::EnterFault;

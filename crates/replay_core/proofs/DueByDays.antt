@@ -24,6 +24,7 @@ use Rattle.law_register.specs.Answer.Bearing.{start_on}
 use Rattle.law_register.specs.Answer.Counted.{is_same_id}
 use Rattle.law_register.specs.Answer.Order.{due_as, due_cmp, due_from, due_of, due_on, order, with_due}
 use Rattle.law_register.specs.Answer.Soundness.{id_twice}
+use Rattle.law_register.specs.Answer.Standing.{counts}
 use Rattle.law_register.proofs.ApartIds.{none_both, none_left, none_right, same_sym}
 use Rattle.law_register.proofs.InsertedKeys.{inserted_any}
 use Rattle.replay_core.specs.Starts.{body_due, body_start, due_at, due_by, known_due, known_start, no_start, starts_of, without_due}
@@ -260,8 +261,8 @@ module _ (reading : Reading) (day : ℕ) (mods : List KnownMod) where
       by None = refl
       by (Some start) = refl
 
-  known_same : (m : KnownMod) → known_due m (known_start reading day mods m) ≡ cond m.live (due_as reading day mods m.id m.body) None
-  known_same m = by m.live
+  known_same : (m : KnownMod) → known_due m (known_start reading day mods m) ≡ cond (counts reading day m) (due_as reading day mods m.id m.body) None
+  known_same m = by (counts reading day m)
     where
       by : (b : Bool) → due_at m.id m.body (cond b (body_start reading day mods m.id m.body) None) ≡ cond b (due_as reading day mods m.id m.body) None
       by true = body_same m.id m.body

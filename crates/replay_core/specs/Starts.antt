@@ -11,6 +11,7 @@ use Rattle.law_register.specs.declared.law.modification.Modification.{Modificati
 use Rattle.law_register.specs.declared.law.modification.Modification.TheVariants.{Textual, Force, Efficacy}
 use Rattle.law_register.specs.Answer.Bearing.{start_on}
 use Rattle.law_register.specs.Answer.Order.{due_cmp, due_from, with_due}
+use Rattle.law_register.specs.Answer.Standing.{counts}
 
 -- the day from which a modification is due, if it is a textual one that bears on the day
 abbrev pub body_start : Reading → ℕ → List KnownMod → Id → Modification → Option ℕ
@@ -18,9 +19,9 @@ body_start reading day mods id (Textual source own edit) = start_on reading day 
 body_start reading day mods id (Force source destination on effect) = None
 body_start reading day mods id (Efficacy source destination on effect) = None
 
--- the same of a known one, if it stands
+-- the same of a known one, if it counts
 abbrev pub known_start : Reading → ℕ → List KnownMod → KnownMod → Option ℕ
-known_start reading day mods m = if m.live then body_start reading day mods m.id m.body else None
+known_start reading day mods m = if counts reading day m then body_start reading day mods m.id m.body else None
 
 -- those of some of the known modifications of a work, one by one
 abbrev pub starts_of : Reading → ℕ → List KnownMod → List KnownMod → List (Option ℕ)

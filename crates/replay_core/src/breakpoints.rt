@@ -95,6 +95,16 @@ fn live_days(alloc: Global, mods: &[KnownMod]) -> Result<BTreeSet<Day>, Memory>
     Ok(days)
 }
 
+// Puts days in their places, from the last on.
+fn insert_days(days: &mut BTreeSet<Day>, new: &[Day]) -> Result<(), Memory>
+    ensures { OnOk result (days.new.keys ≡ spec.insert_days new.now days.old.keys) }
+{
+    for index in (0..new.len()).rev() {
+        insert(days, new[index])?;
+    }
+    Ok(())
+}
+
 fn listed(alloc: Global, days: &BTreeSet<Day>) -> Result<Days, Memory>
     ensures { IfOk result (λ list. list ≡ days.now.keys) }
 {
@@ -105,11 +115,13 @@ fn listed(alloc: Global, days: &BTreeSet<Day>) -> Result<Days, Memory>
     Ok(Days::from(items))
 }
 
-/// The days of the act's force period and of the modifications that stand, ascending, each once.
+/// The days of the act's force period and of the modifications that stand, and those on which the texts of the works may change on
+/// which the work depends, ascending, each once.
 pub fn breakpoints(alloc: Global, known: &Known) -> Result<Days, Memory>
     ensures { IfOk result (λ days. days ≡ spec.breakpoints known.now) }
 {
     let mut days = live_days(alloc, known.mods.as_slice())?;
+    insert_days(&mut days, known.source_days.as_slice())?;
     insert_period(&mut days, known.act.force)?;
     listed(alloc, &days)
 }

@@ -11,6 +11,7 @@ mod order;
 mod orders;
 mod replaying;
 mod showing;
+mod standing;
 mod touched;
 
 pub use from_enacted::FromEnacted;

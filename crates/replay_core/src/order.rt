@@ -4,8 +4,10 @@ ghost use Rattle.std.specs.Prelude.{◌≡◌, IfOk, None, OnOk, if◌then◌els
 ghost use Rattle.law_register.specs.Answer.Order as spec;
 ghost use Rattle.law_register.specs.declared.law.modification.Destination.TheVariants as to;
 ghost use Rattle.law_register.specs.Answer.Bearing.{start_on};
+ghost use Rattle.law_register.specs.Answer.Standing.{counts};
 
 use crate::on_day::OnDay;
+use crate::standing::counts;
 use desk_base::{Day, Id, Memory, Period};
 use law_register::{Destination, Due, Ids, Known, KnownMod, ModSource, Modification, Reading};
 use std::alloc::Global;
@@ -55,11 +57,11 @@ fn due_as(on: &OnDay<'_>, id: Id, body: &Modification) -> Result<Option<Due>, Me
     }
 }
 
-fn due_if_live(on: &OnDay<'_>, known: &KnownMod) -> Result<Option<Due>, Memory>
-    ensures { IfOk result (λ due. due ≡ (if known.now.live
+fn due_if_counted(on: &OnDay<'_>, known: &KnownMod) -> Result<Option<Due>, Memory>
+    ensures { IfOk result (λ due. due ≡ (if counts on.now.reading on.now.day known.now
         then spec.due_as on.now.reading on.now.day on.now.known.now.mods known.now.id known.now.body else None)) }
 {
-    if known.live {
+    if counts(on.reading, on.day, known) {
         due_as(on, known.id, &known.body)
     } else {
         Ok(None)
@@ -84,7 +86,7 @@ fn due_on(alloc: Global, on: &OnDay<'_>) -> Result<BTreeSet<Due>, Memory>
     let mods = on.known.mods.as_slice();
     let mut dues = BTreeSet::new(alloc);
     for index in (0..mods.len()).rev() {
-        insert(&mut dues, due_if_live(on, &mods[index])?)?;
+        insert(&mut dues, due_if_counted(on, &mods[index])?)?;
     }
     Ok(dues)
 }

@@ -7,6 +7,7 @@ ghost use Rattle.replay_core.specs.Starts as spec;
 
 use crate::on_day::OnDay;
 use crate::order::{due_from, ids_of, insert};
+use crate::standing::counts;
 use desk_base::{Day, Id, Memory};
 use law_register::{Destination, Due, Ids, Known, KnownMod, Modification, Reading};
 use std::alloc::Global;
@@ -28,7 +29,7 @@ fn body_start(on: &OnDay<'_>, id: Id, body: &Modification) -> Option<Day>
 fn known_start(on: &OnDay<'_>, known: &KnownMod) -> Option<Day>
     ensures { result ≡ spec.known_start on.now.reading on.now.day on.now.known.now.mods known.now }
 {
-    if known.live {
+    if counts(on.reading, on.day, known) {
         body_start(on, known.id, &known.body)
     } else {
         None

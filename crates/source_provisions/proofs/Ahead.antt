@@ -14,9 +14,9 @@ use Rattle.law_register.specs.Answer.Replay.{replay_on}
 use Rattle.law_register.specs.Law.Sources.{source_of}
 use Rattle.law_register.proofs.Lists.{take_none}
 use Rattle.law_register.proofs.Puts.{right_true}
-use Rattle.source_provisions.specs.Line.{line_cmp, work_in}
-use Rattle.source_provisions.specs.Looking.{is_after, looked_at, source_looked_at}
-use Rattle.source_provisions.specs.Trees.{WorkText, borne, is_borne, named_stands, source_stands, stands, stands_in, text_in, text_on, texts_after, trees, version_in, work_borne}
+use Rattle.law_register.specs.Provisions.Line.{line_cmp, work_in}
+use Rattle.law_register.specs.Provisions.Looking.{is_after, looked_at, source_looked_at}
+use Rattle.law_register.specs.Provisions.Trees.{WorkText, borne, is_borne, named_stands, source_stands, stands, stands_in, text_in, text_on, texts_after, trees, version_in, work_borne}
 use Rattle.source_provisions.proofs.Lines.{found_in_front, not_after}
 
 abbrev pub knowns : List WorkText → List Known
@@ -70,11 +70,11 @@ module _ (line : List Known) (reading : Reading) (day : ℕ) where
     all_still_borne : (ms : List KnownMod) → map (borne line texts reading day known.act.day) ms ≡ map (borne line (texts ++ more) reading day known.act.day) ms
     all_still_borne [] = refl
     all_still_borne (m ∷ ms) =
-        ap (λ b. (let k : KnownMod = record m { live = m.live && b } in k) ∷ map (borne line texts reading day known.act.day) ms) (still_borne m.body)
+        ap (λ b. (let k : KnownMod = record m { live = m.live && b; carried = None } in k) ∷ map (borne line texts reading day known.act.day) ms) (still_borne m.body)
         ∙ ap (λ ks. borne line (texts ++ more) reading day known.act.day m ∷ ks) (all_still_borne ms)
 
     pub still_known : work_borne line texts reading day known ≡ work_borne line (texts ++ more) reading day known
-    still_known = ap (λ ms. (let k : Known = record known { mods = ms } in k)) (all_still_borne known.mods)
+    still_known = ap (λ ms. (let k : Known = record known { mods = ms; source_days = [] } in k)) (all_still_borne known.mods)
 
   -- the texts that stand behind others
   abbrev pub more_texts : List WorkText → List Known → List WorkText
@@ -149,7 +149,7 @@ module _ (front behind : List Known) (reading : Reading) (day : ℕ) (up : IsStr
         → map (borne (front ++ behind) texts reading day known.act.day) ms ≡ map (borne front texts reading day known.act.day) ms
     all_same texts [] = refl
     all_same texts (m ∷ ms) =
-        ap (λ b. (let k : KnownMod = record m { live = m.live && cond b (source_stands texts reading day (source_of m.body)) true } in k)
+        ap (λ b. (let k : KnownMod = record m { live = m.live && cond b (source_stands texts reading day (source_of m.body)) true; carried = None } in k)
         ∷ map (borne (front ++ behind) texts reading day known.act.day) ms) (same_looked m.body)
         ∙ ap (λ ks. borne front texts reading day known.act.day m ∷ ks) (all_same texts ms)
 
@@ -157,7 +157,7 @@ module _ (front behind : List Known) (reading : Reading) (day : ℕ) (up : IsStr
     same_text texts =
         ap (λ ms. (let text : WorkText = record {
           known = known;
-          version = replay_on (let k : Known = record known { mods = ms } in k) reading day;
+          version = replay_on (let k : Known = record known { mods = ms; source_days = [] } in k) reading day;
         } in text)) (all_same texts known.mods)
 
   same_texts : (texts : List WorkText) (ahead works : List Known) → ahead ++ works ≡ front

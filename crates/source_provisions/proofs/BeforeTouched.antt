@@ -32,6 +32,7 @@ use Rattle.law_register.specs.Answer.Flags.{flag_among, flag_below, flag_in, has
 use Rattle.law_register.specs.Answer.Order.{due_as, is_due, order}
 use Rattle.law_register.specs.Answer.Replay.{VersionValue, as_enacted, edit_in, edit_of, replayed}
 use Rattle.law_register.specs.Answer.Soundness.{id_twice}
+use Rattle.law_register.specs.Answer.Standing.{stands_by}
 use Rattle.law_register.specs.Answer.Touched.{day_among, sooner, touched_days, with_day}
 use Rattle.law_register.specs.Law.Sources.{source_of}
 use Rattle.law_register.specs.Answer.Previews.{known_by_law}
@@ -41,6 +42,7 @@ use Rattle.law_register.specs.Register.LawList.{front, law_of, laws}
 use Rattle.law_register.specs.Register.Verdicts.{is_legal}
 use Rattle.law_register.proofs.ApartIds.{none_left, none_right, same_self, same_sym}
 use Rattle.law_register.proofs.Ascending.{known_once}
+use Rattle.law_register.proofs.CarryingNothing.{known_by_law_alone}
 use Rattle.law_register.proofs.Continuing.{replayed_alike}
 use Rattle.law_register.proofs.DueOnce.{order_members}
 use Rattle.law_register.proofs.Next.{entry_next, now_known}
@@ -48,11 +50,11 @@ use Rattle.law_register.proofs.Puts.{and_true, bytes_are, bytes_same, id_same, l
 use Rattle.version_cache.specs.Agreement.{Agree, AgreeOn, IsBefore, body_of}
 use Rattle.version_cache.proofs.Mute.{before_both}
 use Rattle.version_cache.proofs.OneMore.{one_more_of}
-use Rattle.source_provisions.specs.Depending.{comes_from, depends, depends_in}
-use Rattle.source_provisions.specs.Line.{IsLine, line, line_cmp, work_in}
-use Rattle.source_provisions.specs.Looking.{is_after, looked_at, source_looked_at}
-use Rattle.source_provisions.specs.Touching.{WorkTouched, days_told, enacts, first_reached, flags_from, own, reach, touched, touched_after, touched_along, touched_as, touched_by, touched_works}
-use Rattle.source_provisions.specs.Trees.{WorkText, borne, is_borne, is_borne_id, is_raised, named_stands, order_in, source_stands, stands, stands_in, text_in, text_on, texts_after, trees, version_in, work_borne}
+use Rattle.law_register.specs.Provisions.Depending.{comes_from, depends, depends_in}
+use Rattle.law_register.specs.Provisions.Line.{IsLine, line, line_cmp, work_in}
+use Rattle.law_register.specs.Provisions.Looking.{is_after, looked_at, source_looked_at}
+use Rattle.law_register.specs.Provisions.Touching.{WorkTouched, days_told, enacts, first_reached, flags_from, own, reach, touched, touched_after, touched_along, touched_as, touched_by, touched_works}
+use Rattle.law_register.specs.Provisions.Trees.{WorkText, borne, is_borne, is_borne_id, is_raised, named_stands, order_in, source_stands, stands, stands_in, text_in, text_on, texts_after, trees, version_in, work_borne}
 use Rattle.source_provisions.proofs.Ahead.{each_of_all, knowns}
 use Rattle.source_provisions.proofs.Complete.{line_has, line_known}
 use Rattle.source_provisions.proofs.CountedAlike.{CountsAlike, counts_alike}
@@ -220,7 +222,9 @@ found_live r day all id k (m ∷ ms) any apart found =
     same a b e = cc
 
     stands_so : (is_same_id id m.id && is_due r day all m) ≡ true → m.live ≡ true
-    stands_so h = left_true m.live (is_some (due_as r day all m.id m.body)) (right_true (is_same_id id m.id) (is_due r day all m) h)
+    stands_so h =
+        left_true m.live (stands_by r day m.carried)
+        (left_true (m.live && stands_by r day m.carried) (is_some (due_as r day all m.id m.body)) (right_true (is_same_id id m.id) (is_due r day all m) h))
 
     other : (x : KnownMod) → is_same_id m.id id ≡ true → (is_same_id id x.id && is_due r day all x) ≡ true → is_same_id m.id x.id ≡ true
     other x one two =
@@ -273,6 +277,13 @@ mods_once law w k is = by (enacted w law) is
     by None e = absurd (let wrong : None ≡ Some k = e in cc)
     by (Some found) e =
         subst (λ ms. id_twice (map (λ (m : KnownMod). m.id) ms) ≡ false) (ap (mods_in_or (known_ids law (ids_of w law))) e) (known_once law w)
+
+-- what bears of what a law makes known is what bears of it by its own periods, without what is not borne
+known_orders : (law : List Command) (w : List ℕ) (k : Known) → known_by_law law w ≡ Some k → (works : List Known) (r : Reading) (day : ℕ)
+    → order_in works k r day ≡ filter (is_borne_id works (trees works r day) r day k) (order k r day)
+known_orders law w k is works r day =
+    orders_leave_out works k r day (mods_once law w k is)
+    ∙ ap (λ (x : Known). filter (is_borne_id works (trees works r day) r day k) (order x r day)) (known_by_law_alone law w k is)
 
 -- what holds of a list holds of each that it has
 each_in_order : (P : Id → Type 0) (all ids : List Id) → ((id : Id) → list_any (is_same_id id) all ≡ true → P id)
@@ -498,8 +509,11 @@ module _ (es : List Entry) (e : Entry) (legal : is_legal es ≡ true) (r : Readi
     body_borne (Force source destination on effect) comes = refl
     body_borne (Efficacy source destination on effect) comes = refl
 
-    apart_old : id_twice (map (λ (m : KnownMod). m.id) old.mods) ≡ false
-    apart_old = mods_once (laws es) known.act.work old (line_known (laws es) known.act.work old was_there)
+    borne_old : order_in L old r day ≡ filter (is_borne_id L T r day old) (order old r day)
+    borne_old = known_orders (laws es) known.act.work old (line_known (laws es) known.act.work old was_there) L r day
+
+    borne_new : order_in M known r day ≡ filter (is_borne_id M U r day known) (order known r day)
+    borne_new = known_orders (laws (es ++ e ∷ [])) known.act.work known (line_known (laws (es ++ e ∷ [])) known.act.work known there) M r day
 
     apart_new : id_twice (map (λ (m : KnownMod). m.id) known.mods) ≡ false
     apart_new = mods_once (laws (es ++ e ∷ [])) known.act.work known (line_known (laws (es ++ e ∷ [])) known.act.work known there)
@@ -538,14 +552,14 @@ module _ (es : List Entry) (e : Entry) (legal : is_legal es ≡ true) (r : Readi
 
     orders_in : order_in L old r day ≡ order_in M known r day
     orders_in =
-        orders_leave_out L old r day apart_old
+        borne_old
         ∙ ap (filter (is_borne_id L T r day old)) agrees_then.orders
         ∙ filter_same (is_borne_id L T r day old) (is_borne_id M U r day known) (order known r day) ids_borne
-        ∙ sym (orders_leave_out M known r day apart_new)
+        ∙ sym borne_new
 
     bodies_in : AllByRecursion (λ id. body_of old.mods id ≡ body_of known.mods id) (order_in M known r day)
     bodies_in =
-        subst (AllByRecursion (λ id. body_of old.mods id ≡ body_of known.mods id)) (sym (orders_leave_out M known r day apart_new))
+        subst (AllByRecursion (λ id. body_of old.mods id ≡ body_of known.mods id)) (sym borne_new)
         (filter_all (λ id. body_of old.mods id ≡ body_of known.mods id) (is_borne_id M U r day known) (order known r day) agrees_then.bodies)
 
     one_edit : (id : Id) → body_of old.mods id ≡ body_of known.mods id

@@ -15,7 +15,7 @@ use Rattle.law_register.specs.Register.KnownIds.{enacted, enacted_from, enacted_
 use Rattle.law_register.specs.Register.LawList.{acts_of, works_enacted}
 use Rattle.law_register.proofs.InsertedKeys.{inserted_any}
 use Rattle.law_register.proofs.Puts.{bytes_are, bytes_same}
-use Rattle.source_provisions.specs.Line.{line, line_cmp, line_of, with_work, work_in}
+use Rattle.law_register.specs.Provisions.Line.{line, line_cmp, line_of, with_work, work_in}
 use Rattle.source_provisions.proofs.LeftOut.{first_equal, last_equal}
 use Rattle.source_provisions.proofs.Own.{IsKnown, all_known, found_one, known_own}
 

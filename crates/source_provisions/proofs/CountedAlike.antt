@@ -28,7 +28,7 @@ use Rattle.law_register.proofs.Next.{entry_apart, entry_next, now_known, one_at_
 use Rattle.law_register.proofs.Puts.{id_same}
 use Rattle.version_cache.specs.Agreement.{IsBefore}
 use Rattle.version_cache.proofs.Mute.{before_both}
-use Rattle.source_provisions.specs.Touching.{first_flag_day, flag_day, flag_day_changed, flag_day_corrected, flag_day_entered, flag_day_known, flags_from, is_concerned}
+use Rattle.law_register.specs.Provisions.Touching.{first_flag_day, flag_day, flag_day_changed, flag_day_corrected, flag_day_entered, flag_day_known, flags_from, is_concerned}
 
 not_by : (on day : ℕ) → day < on → nat_le on day ≡ false
 not_by on day h = grind (arith, nat_tests)

@@ -9,13 +9,12 @@ use Rattle.std.specs.Str.{bytes_eq}
 use Rattle.std.specs.declared.cmp.Ordering.TheVariants.{Less}
 use Rattle.law_register.specs.declared.register.known.Known.{Known}
 use Rattle.law_register.specs.declared.register.known.KnownMod.{KnownMod}
-use Rattle.law_register.specs.Answer.Breakpoints.{breakpoints, insert_days}
+use Rattle.law_register.specs.Answer.Breakpoints.{days_with, insert_days}
 use Rattle.law_register.specs.Law.Sources.{source_of}
 use Rattle.law_register.proofs.ApartIds.{none_both, none_left, none_right}
-use Rattle.law_register.proofs.NamedDays.{breakpoints_ascend}
-use Rattle.source_provisions.specs.Depending.{WorkDays, comes_from, days_after, days_along, depends, own_days, source_days, work_days}
-use Rattle.source_provisions.specs.Line.{IsLine, line_cmp, work_in}
-use Rattle.source_provisions.specs.Looking.{is_after, looked_at, names_any}
+use Rattle.law_register.specs.Provisions.Depending.{WorkDays, breakpoints_of, comes_from, days_after, days_along, depends, own_days, source_days, work_days}
+use Rattle.law_register.specs.Provisions.Line.{IsLine, line_cmp, work_in}
+use Rattle.law_register.specs.Provisions.Looking.{is_after, looked_at, names_any}
 use Rattle.source_provisions.proofs.Lines.{all_behind, itself_not_later, not_later_behind}
 use Rattle.source_provisions.proofs.Looking.{all_unnamed, depends_after}
 
@@ -62,19 +61,19 @@ module _ (line : List Known) where
       days_behind (ahead ++ work_days line ahead known ∷ []) works
       ∙ append_assoc ahead (work_days line ahead known ∷ []) (more_days (ahead ++ work_days line ahead known ∷ []) works)
 
-  all_more : (P : Known → Type 0) (ahead : List WorkDays) (works : List Known) → AllByRecursion P works → AllByRecursion (λ (w : WorkDays). P w.known) (more_days ahead works)
+  pub all_more : (P : Known → Type 0) (ahead : List WorkDays) (works : List Known) → AllByRecursion P works → AllByRecursion (λ (w : WorkDays). P w.known) (more_days ahead works)
   all_more P ahead [] all = tt
   all_more P ahead (known ∷ works) all = (all.0, all_more P (ahead ++ work_days line ahead known ∷ []) works all.1)
 
   -- each work has its own days and those of the works on which it depends, by the days of all
   abbrev IsOf : List WorkDays → WorkDays → Type 0
-  IsOf all w = w.days ≡ insert_days (breakpoints w.known) (source_days line w.known all)
+  IsOf all w = w.days ≡ days_with w.known (source_days line w.known all)
 
   all_of : (all ahead : List WorkDays) (front works : List Known) → front ++ works ≡ line → IsLine line → all ≡ ahead ++ more_days ahead works
       → AllByRecursion (IsOf all) (more_days ahead works)
   all_of all ahead front [] is right made = tt
   all_of all ahead front (known ∷ works) is right made = (
-    ap (insert_days (breakpoints known))
+    ap (days_with known)
         (ahead_alone known ahead (more_days ahead (known ∷ works))
         (all_more (λ (k : Known). depends line known k.act.work ≡ false) ahead (known ∷ works) (
           not_depended line known known own.0 (itself_not_later known.act.day),
@@ -89,22 +88,13 @@ module _ (line : List Known) where
       own = all_dropped (λ (k : Known). work_in k.act.work line ≡ Some k) front (known ∷ works) (subst (AllByRecursion (λ (k : Known). work_in k.act.work line ≡ Some k)) (sym is) right.own)
 
 pub days_of_all : (line : List Known) → IsLine line
-    → AllByRecursion (λ w. w.days ≡ insert_days (breakpoints w.known) (source_days line w.known (days_along line))) (days_along line)
+    → AllByRecursion (λ w. w.days ≡ breakpoints_of line w.known) (days_along line)
 unfolding days_along
 days_of_all line right =
     subst (AllByRecursion (IsOf line (days_after line [] line))) (sym (days_behind line [] line))
     (all_of line (days_after line [] line) [] [] line refl right (days_behind line [] line))
 
--- where no modification names a provision each work has its own days
-below_is_first : (x : ℕ) (xs : List ℕ) → AllByRecursion (λ y. nat_cmp x y ≡ Less) xs → insert_key nat_cmp xs x ≡ x ∷ xs
-below_is_first x [] below = refl
-below_is_first x (y ∷ ys) below = ap (λ r. match_ordering r (x ∷ y ∷ ys) (y ∷ ys) (y ∷ insert_key nat_cmp ys x)) below.0
-
-pub ascending_stay : (days : List ℕ) → IsStrictlySortedBy nat_cmp days → insert_days days [] ≡ days
-unfolding IsStrictlySortedBy
-ascending_stay [] up = refl
-ascending_stay (day ∷ days) up = ap (λ ds. insert_key nat_cmp ds day) (ascending_stay days up.1) ∙ below_is_first day days up.0
-
+-- where no modification names a provision no work depends on another
 pub independent : (line : List Known) (known : Known) (work : List ℕ) → names_any known ≡ false → depends line known work ≡ false
 independent line known work none = by known.mods (all_unnamed line known.act.day known.mods none)
   where
@@ -129,8 +119,7 @@ none_of line known (w ∷ ws) none = (independent line known w.known.act.work no
 module _ (line : List Known) where
   days_alone : (ahead : List WorkDays) (known : Known) → names_any known ≡ false → work_days line ahead known ≡ own_days known
   days_alone ahead known none =
-      ap (λ (days : List ℕ). (let w : WorkDays = record { known = known; days = insert_days (breakpoints known) days } in w)) (no_more line known ahead (none_of line known ahead none))
-      ∙ ap (λ (days : List ℕ). (let w : WorkDays = record { known = known; days = days } in w)) (ascending_stay (breakpoints known) (breakpoints_ascend known))
+      ap (λ (days : List ℕ). (let w : WorkDays = record { known = known; days = days_with known days } in w)) (no_more line known ahead (none_of line known ahead none))
 
   all_days_alone : (ahead : List WorkDays) (works : List Known) → list_any names_any works ≡ false → days_after line ahead works ≡ ahead ++ map own_days works
   all_days_alone ahead [] none = sym (append-nil ahead)

@@ -11,13 +11,14 @@ use Rattle.law_register.specs.declared.law.modification.Modification.TheVariants
 use Rattle.law_register.specs.declared.register.known.Known.{Known}
 use Rattle.law_register.specs.declared.register.known.KnownMod.{KnownMod}
 use Rattle.law_register.specs.Answer.PastKeys.{is_same_reading}
+use Rattle.law_register.specs.Answer.Standing.{is_within}
 use Rattle.law_register.specs.Law.Sources.{source_of}
 use Rattle.law_register.proofs.Puts.{and_true, bytes_are, bytes_same, left_true, right_true}
-use Rattle.source_provisions.specs.Depending.{comes_from}
-use Rattle.source_provisions.specs.Held.{HeldValue, HoldingValue, IsRight, holds, is_of, is_within, looks_at, mod_held, named_holds, names, stands_by, work_held}
-use Rattle.source_provisions.specs.Line.{work_in}
-use Rattle.source_provisions.specs.Looking.{is_after, looked_at, source_looked_at}
-use Rattle.source_provisions.specs.Trees.{borne, is_borne, named_stands, stands, trees, work_borne}
+use Rattle.law_register.specs.Provisions.Depending.{comes_from}
+use Rattle.source_provisions.specs.Held.{HeldValue, HoldingValue, IsRight, holds, is_of, looks_at, mod_held, named_holds, names, stands_by, work_held}
+use Rattle.law_register.specs.Provisions.Line.{work_in}
+use Rattle.law_register.specs.Provisions.Looking.{is_after, looked_at, source_looked_at}
+use Rattle.law_register.specs.Provisions.Trees.{borne, is_borne, named_stands, stands, trees, work_borne}
 use Rattle.source_provisions.proofs.Looking.{some_passes}
 
 reading_same : (a b : Reading) → is_same_reading a b ≡ true → a ≡ b
@@ -161,9 +162,9 @@ module _ (line : List Known) (known : Known) (holding : HoldingValue) (right : I
       → map (mod_held holding.held reading day) ms ≡ map (borne line (trees line reading day) reading day known.act.day) ms
   all_hold [] among = refl
   all_hold (m ∷ ms) among =
-      ap (λ b. (let k : KnownMod = record m { live = b } in k) ∷ map (mod_held holding.held reading day) ms)
+      ap (λ b. (let k : KnownMod = record m { live = b; carried = None } in k) ∷ map (mod_held holding.held reading day) ms)
       (live_holds m (λ test here. among test (some_passed test m ms here)))
       ∙ ap (λ ks. borne line (trees line reading day) reading day known.act.day m ∷ ks) (all_hold ms (λ test there. among test (later_passed test m ms there)))
 
   pub held_bears : work_held holding.held reading day known ≡ work_borne line (trees line reading day) reading day known
-  held_bears = ap (λ ms. (let k : Known = record known { mods = ms } in k)) (all_hold known.mods (λ test there. there))
+  held_bears = ap (λ ms. (let k : Known = record known { mods = ms; source_days = [] } in k)) (all_hold known.mods (λ test there. there))

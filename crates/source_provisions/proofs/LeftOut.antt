@@ -11,16 +11,9 @@ use Rattle.std.specs.declared.cmp.Ordering.{Ordering}
 use Rattle.std.specs.declared.cmp.Ordering.TheVariants.{Less, Equal, Greater}
 use Rattle.std.proofs.lemmas.Cmp.{nat_cmp_total, on_total, ranked, then_total}
 use Rattle.desk_base.specs.declared.id.Id.{Id}
-use Rattle.desk_base.specs.declared.period.Period.{Period}
-use Rattle.desk_base.specs.Periods.{includes}
-use Rattle.bearing_mods.specs.Efficacy.{efficacy_at}
-use Rattle.bearing_mods.specs.Force.{force_at}
 use Rattle.bearing_mods.specs.Turns.{efficacy_turn, force_turn}
-use Rattle.bearing_mods.specs.declared.efficacy.CountedEfficacy.{CountedEfficacy}
-use Rattle.bearing_mods.specs.declared.force.CountedForce.{CountedForce}
 use Rattle.law_register.specs.declared.answer.due.Due.{Due}
 use Rattle.law_register.specs.declared.answer.question.Reading.{Reading}
-use Rattle.law_register.specs.declared.answer.question.Reading.TheVariants as reading
 use Rattle.law_register.specs.declared.law.modification.Destination.{Destination}
 use Rattle.law_register.specs.declared.law.modification.Destination.TheVariants as to
 use Rattle.law_register.specs.declared.law.modification.Modification.{Modification}
@@ -31,9 +24,11 @@ use Rattle.law_register.specs.Answer.Bearing.{start_on}
 use Rattle.law_register.specs.Answer.Counted.{efficacies_on, efficacy_from, force_from, forces_on, is_same_id, take_turns}
 use Rattle.law_register.specs.Answer.Order.{due_as, due_cmp, due_from, due_of, order, with_due}
 use Rattle.law_register.specs.Answer.Soundness.{id_twice}
+use Rattle.law_register.specs.Answer.Standing.{alone, counts, mod_alone}
 use Rattle.law_register.proofs.ApartIds.{none_left, none_right, same_self}
 use Rattle.law_register.proofs.InsertedKeys.{inserted_ascends}
-use Rattle.source_provisions.specs.Trees.{WorkText, borne, is_borne, is_borne_id, order_in, trees, work_borne}
+use Rattle.law_register.specs.Provisions.Trees.{WorkText, borne, is_borne, is_borne_id, order_in, trees, work_borne}
+use Rattle.source_provisions.proofs.Uncarried.{always, due_kept, due_same}
 
 -- of keys in order those that pass a test, once one more takes its place
 module _ {K : Type 0} (cmp : K → K → Ordering) (total : IsTotalOrder cmp) (test : K → Bool) (alike : (x y : K) → cmp x y ≡ Equal → test x ≡ test y) where
@@ -123,23 +118,19 @@ either_way : {A : Type 0} (b : Bool) (x : A) → cond b x x ≡ x
 either_way true x = refl
 either_way false x = refl
 
-and_true : (b : Bool) → (b && true) ≡ b
-and_true true = refl
-and_true false = refl
-
 module _ (line : List Known) (texts : List WorkText) (r : Reading) (day act_day : ℕ) where
   -- what is counted for a thing is counted still
   one_force : (thing : Destination) (live : Bool) (id : Id) (body : Modification)
       → cond (live && is_borne line texts r day act_day body) (force_from thing day id body) [] ≡ cond live (force_from thing day id body) []
   one_force thing live id (Textual source own edit) = either_way (live && is_borne line texts r day act_day (Textual source own edit)) [] ∙ sym (either_way live [])
-  one_force thing live id (Force source destination on effect) = ap (λ b. cond b (force_from thing day id (Force source destination on effect)) []) (and_true live)
-  one_force thing live id (Efficacy source destination on effect) = ap (λ b. cond b (force_from thing day id (Efficacy source destination on effect)) []) (and_true live)
+  one_force thing live id (Force source destination on effect) = ap (λ b. cond b (force_from thing day id (Force source destination on effect)) []) (always live)
+  one_force thing live id (Efficacy source destination on effect) = ap (λ b. cond b (force_from thing day id (Efficacy source destination on effect)) []) (always live)
 
   one_efficacy : (thing : Destination) (live : Bool) (id : Id) (body : Modification)
       → cond (live && is_borne line texts r day act_day body) (efficacy_from thing day id body) [] ≡ cond live (efficacy_from thing day id body) []
   one_efficacy thing live id (Textual source own edit) = either_way (live && is_borne line texts r day act_day (Textual source own edit)) [] ∙ sym (either_way live [])
-  one_efficacy thing live id (Force source destination on effect) = ap (λ b. cond b (efficacy_from thing day id (Force source destination on effect)) []) (and_true live)
-  one_efficacy thing live id (Efficacy source destination on effect) = ap (λ b. cond b (efficacy_from thing day id (Efficacy source destination on effect)) []) (and_true live)
+  one_efficacy thing live id (Force source destination on effect) = ap (λ b. cond b (efficacy_from thing day id (Force source destination on effect)) []) (always live)
+  one_efficacy thing live id (Efficacy source destination on effect) = ap (λ b. cond b (efficacy_from thing day id (Efficacy source destination on effect)) []) (always live)
 
   forces_same : (thing : Destination) (ms : List KnownMod) → forces_on thing day (map (borne line texts r day act_day) ms) ≡ forces_on thing day ms
   forces_same thing [] = refl
@@ -153,35 +144,10 @@ module _ (line : List Known) (texts : List WorkText) (r : Reading) (day act_day 
       ap (λ ones. take_turns efficacy_turn ones (efficacies_on thing day (map (borne line texts r day act_day) ms))) (one_efficacy thing m.live m.id m.body)
       ∙ ap (take_turns efficacy_turn (cond m.live (efficacy_from thing day m.id m.body) [])) (efficacies_same thing ms)
 
-  -- the day from which a thing bears, by what is counted for it
-  abbrev start_by : Reading → Period → List CountedForce → List CountedEfficacy → Option ℕ
-  start_by reading.Force own forces efficacies = cond (includes (force_at own forces) day) (Some (force_at own forces).start) None
-  start_by reading.Efficacy own forces efficacies =
-      cond (efficacy_at (force_at own forces) efficacies day).holds (Some (efficacy_at (force_at own forces) efficacies day).period.start) None
-
-  start_is : (s : Reading) (mods : List KnownMod) (thing : Destination) (own : Period)
-      → start_on s day mods thing own ≡ start_by s own (forces_on thing day mods) (efficacies_on thing day mods)
-  start_is reading.Force mods thing own = refl
-  start_is reading.Efficacy mods thing own = refl
-
-  start_same : (s : Reading) (mods : List KnownMod) (thing : Destination) (own : Period)
-      → start_on s day (map (borne line texts r day act_day) mods) thing own ≡ start_on s day mods thing own
-  start_same s mods thing own =
-      start_is s (map (borne line texts r day act_day) mods) thing own
-      ∙ ap (λ forces. start_by s own forces (efficacies_on thing day (map (borne line texts r day act_day) mods))) (forces_same thing mods)
-      ∙ ap (start_by s own (forces_on thing day mods)) (efficacies_same thing mods)
-      ∙ sym (start_is s mods thing own)
-
-  due_as_same : (mods : List KnownMod) (id : Id) (body : Modification) → due_as r day (map (borne line texts r day act_day) mods) id body ≡ due_as r day mods id body
-  due_as_same mods id (Textual source own edit) = ap (option_map (due_from source id)) (start_same r mods (to.Modification id) own)
-  due_as_same mods id (Force source destination on effect) = refl
-  due_as_same mods id (Efficacy source destination on effect) = refl
-
-  due_same : (mods ms : List KnownMod) → due_of r day (map (borne line texts r day act_day) mods) ms ≡ due_of r day mods ms
-  due_same mods [] = refl
-  due_same mods (m ∷ ms) =
-      ap (λ (dues : List Due). with_due dues (cond m.live (due_as r day (map (borne line texts r day act_day) mods) m.id m.body) None)) (due_same mods ms)
-      ∙ ap (λ (due : Option Due). with_due (due_of r day mods ms) (cond m.live due None)) (due_as_same mods m.id m.body)
+  -- what is due of modifications is due by what is borne of them
+  pub due_borne : (mods ms : List KnownMod) → due_of r day (map (borne line texts r day act_day) mods) ms ≡ due_of r day mods ms
+  due_borne mods ms =
+      due_same r day (map (borne line texts r day act_day) mods) mods (λ thing. forces_same thing mods) (λ thing. efficacies_same thing mods) ms
 
   -- what is due without what is not borne
   module _ (mods : List KnownMod) (test : Id → Bool) where
@@ -198,7 +164,7 @@ module _ (line : List Known) (texts : List WorkText) (r : Reading) (day act_day 
     ascends : (ms : List KnownMod) → IsStrictlySortedBy due_cmp (due_of r day mods ms)
     unfolding IsStrictlySortedBy
     ascends [] = tt
-    ascends (m ∷ ms) = with_ascends (due_of r day mods ms) (cond m.live (due_as r day mods m.id m.body) None) (ascends ms)
+    ascends (m ∷ ms) = with_ascends (due_of r day mods ms) (cond (counts r day m) (due_as r day mods m.id m.body) None) (ascends ms)
 
     one_due : (dues : List Due) → IsStrictlySortedBy due_cmp dues → (id : Id) (body : Modification) (b : Bool) → test id ≡ b
         → with_due (filter passes dues) (cond b (due_as r day mods id body) None) ≡ filter passes (with_due dues (due_as r day mods id body))
@@ -217,21 +183,23 @@ module _ (line : List Known) (texts : List WorkText) (r : Reading) (day act_day 
             ∙ ap (λ x. cond x (insert_key due_cmp (filter passes dues) (due_from source id start)) (filter passes dues)) is)
 
     mod_due : (dues : List Due) → IsStrictlySortedBy due_cmp dues → (m : KnownMod) → test m.id ≡ is_borne line texts r day act_day m.body
-        → with_due (filter passes dues) (cond (m.live && is_borne line texts r day act_day m.body) (due_as r day mods m.id m.body) None)
-        ≡ filter passes (with_due dues (cond m.live (due_as r day mods m.id m.body) None))
+        → with_due (filter passes dues) (cond ((m.live && is_borne line texts r day act_day m.body) && true) (due_as r day mods m.id m.body) None)
+        ≡ filter passes (with_due dues (cond (m.live && true) (due_as r day mods m.id m.body) None))
     mod_due dues up m is = by m.live
       where
-        by : (live : Bool) → with_due (filter passes dues) (cond (live && is_borne line texts r day act_day m.body) (due_as r day mods m.id m.body) None)
-            ≡ filter passes (with_due dues (cond live (due_as r day mods m.id m.body) None))
-        by true = one_due dues up m.id m.body (is_borne line texts r day act_day m.body) is
+        by : (live : Bool) → with_due (filter passes dues) (cond ((live && is_borne line texts r day act_day m.body) && true) (due_as r day mods m.id m.body) None)
+            ≡ filter passes (with_due dues (cond (live && true) (due_as r day mods m.id m.body) None))
+        by true =
+            ap (λ b. with_due (filter passes dues) (cond b (due_as r day mods m.id m.body) None)) (always (is_borne line texts r day act_day m.body))
+            ∙ one_due dues up m.id m.body (is_borne line texts r day act_day m.body) is
         by false = refl
 
     left_out : (ms : List KnownMod) → AllByRecursion (λ (m : KnownMod). test m.id ≡ is_borne line texts r day act_day m.body) ms
-        → due_of r day mods (map (borne line texts r day act_day) ms) ≡ filter passes (due_of r day mods ms)
+        → due_of r day mods (map (borne line texts r day act_day) ms) ≡ filter passes (due_of r day mods (map mod_alone ms))
     left_out [] tests = refl
     left_out (m ∷ ms) tests =
-        ap (λ (dues : List Due). with_due dues (cond (m.live && is_borne line texts r day act_day m.body) (due_as r day mods m.id m.body) None)) (left_out ms tests.1)
-        ∙ mod_due (due_of r day mods ms) (ascends ms) m tests.0
+        ap (λ (dues : List Due). with_due dues (cond ((m.live && is_borne line texts r day act_day m.body) && true) (due_as r day mods m.id m.body) None)) (left_out ms tests.1)
+        ∙ mod_due (due_of r day mods (map mod_alone ms)) (ascends (map mod_alone ms)) m tests.0
 
     ids_left : (dues : List Due) → map (λ due. due.id) (filter passes dues) ≡ filter test (map (λ due. due.id) dues)
     ids_left [] = refl
@@ -266,13 +234,15 @@ module _ (line : List Known) (texts : List WorkText) (r : Reading) (day : ℕ) (
   )
 
   order_left : id_twice (map (λ k. k.id) known.mods) ≡ false
-      → order (work_borne line texts r day known) r day ≡ filter (is_borne_id line texts r day known) (order known r day)
+      → order (work_borne line texts r day known) r day ≡ filter (is_borne_id line texts r day known) (order (alone known) r day)
   order_left apart =
       ap (map (λ (due : Due). due.id))
-      (due_same line texts r day known.act.day known.mods (map (borne line texts r day known.act.day) known.mods)
+      (due_borne line texts r day known.act.day known.mods (map (borne line texts r day known.act.day) known.mods)
       ∙ left_out line texts r day known.act.day known.mods (is_borne_id line texts r day known) known.mods (all_tests [] known.mods refl apart))
-      ∙ ids_left line texts r day known.act.day known.mods (is_borne_id line texts r day known) (due_of r day known.mods known.mods)
+      ∙ ids_left line texts r day known.act.day known.mods (is_borne_id line texts r day known) (due_of r day known.mods (map mod_alone known.mods))
+      ∙ ap (λ (dues : List Due). filter (is_borne_id line texts r day known) (map (λ (due : Due). due.id) dues))
+      (sym (due_kept mod_alone (λ m. refl) r day known.mods (map mod_alone known.mods)))
 
 pub orders_leave_out : (line : List Known) (known : Known) (r : Reading) (day : ℕ) → id_twice (map (λ (k : KnownMod). k.id) known.mods) ≡ false
-    → order_in line known r day ≡ filter (is_borne_id line (trees line r day) r day known) (order known r day)
+    → order_in line known r day ≡ filter (is_borne_id line (trees line r day) r day known) (order (alone known) r day)
 orders_leave_out line known r day apart = order_left line (trees line r day) r day known apart

@@ -1,5 +1,6 @@
 pub mod Ahead
 pub mod BeforeTouched
+pub mod Carrying
 pub mod Complete
 pub mod Costs
 pub mod CountedAlike
@@ -14,3 +15,4 @@ pub mod Spans
 pub mod StandingStill
 pub mod Still
 pub mod Touching
+pub mod Uncarried

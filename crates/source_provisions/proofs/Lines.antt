@@ -15,8 +15,8 @@ use Rattle.law_register.specs.declared.register.known.Known.{Known}
 use Rattle.law_register.specs.Answer.Previews.{known_by_law}
 use Rattle.law_register.specs.Register.LawList.{works_enacted}
 use Rattle.law_register.proofs.InsertedKeys.{inserted_ascends}
-use Rattle.source_provisions.specs.Line.{line, line_cmp, line_of, with_work, work_in}
-use Rattle.source_provisions.specs.Looking.{is_after}
+use Rattle.law_register.specs.Provisions.Line.{line, line_cmp, line_of, with_work, work_in}
+use Rattle.law_register.specs.Provisions.Looking.{is_after}
 
 line_total : IsTotalOrder line_cmp
 line_total = then_total (on_total (λ k. k.act.day) (back_total nat_cmp_total)) (on_texts (λ k. k.act.work))

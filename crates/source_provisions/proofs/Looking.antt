@@ -1,5 +1,5 @@
 -- What is not looked at changes nothing, and whoever depends on a work is of an earlier day.
-use Rattle.std.proofs.Common.{◌≡◌, ◌∙◌, sym, ap, refl, ℕ, ◌<◌, Bool, true, false, cond, ◌&&◌, ◌||◌, is_some, nat_lt, List, [], ◌∷◌, ◌++◌, append_assoc, map, Some, arith}
+use Rattle.std.proofs.Common.{◌≡◌, ◌∙◌, sym, ap, refl, ℕ, ◌<◌, Bool, true, false, cond, ◌&&◌, ◌||◌, is_some, nat_lt, List, [], ◌∷◌, ◌++◌, append_assoc, map, Some, None, arith}
 use Rattle.std.proofs.lemmas.Bool.Decides.{nat_tests}
 use Rattle.std.proofs.lemmas.List.{append-nil}
 use Rattle.std.specs.List.{AllByRecursion, list_any}
@@ -10,37 +10,35 @@ use Rattle.law_register.specs.declared.law.modification.Modification.TheVariants
 use Rattle.law_register.specs.declared.register.known.Known.{Known}
 use Rattle.law_register.specs.declared.register.known.KnownMod.{KnownMod}
 use Rattle.law_register.specs.Answer.Replay.{replay_on}
+use Rattle.law_register.specs.Answer.Standing.{alone, mod_alone}
 use Rattle.law_register.specs.Law.Sources.{names_provision, source_of}
 use Rattle.law_register.proofs.ApartIds.{none_left, none_right}
 use Rattle.law_register.proofs.Puts.{bytes_same, left_true, right_true}
-use Rattle.source_provisions.specs.Depending.{IsChain, comes_from, depends}
-use Rattle.source_provisions.specs.Line.{work_in}
-use Rattle.source_provisions.specs.Looking.{is_after, looked_at, names_any}
-use Rattle.source_provisions.specs.Trees.{WorkText, borne, is_borne, source_stands, text_alone, text_on, texts_after, trees, work_borne}
-
-and_true : (b : Bool) → (b && true) ≡ b
-and_true true = refl
-and_true false = refl
+use Rattle.law_register.specs.Provisions.Depending.{IsChain, comes_from, depends}
+use Rattle.law_register.specs.Provisions.Line.{work_in}
+use Rattle.law_register.specs.Provisions.Looking.{is_after, looked_at, names_any}
+use Rattle.law_register.specs.Provisions.Trees.{WorkText, borne, is_borne, source_stands, text_alone, text_on, texts_after, trees, work_borne}
+use Rattle.source_provisions.proofs.Uncarried.{always}
 
 module _ (line : List Known) (texts : List WorkText) (reading : Reading) (day act_day : ℕ) where
   -- a modification whose provision is not looked at is borne
   pub always_borne : (m : Modification) → looked_at line act_day m ≡ false → is_borne line texts reading day act_day m ≡ true
   always_borne m none = ap (λ b. cond b (source_stands texts reading day (source_of m)) true) none
 
-  pub borne_alone : (m : KnownMod) → is_borne line texts reading day act_day m.body ≡ true → borne line texts reading day act_day m ≡ m
-  borne_alone m is = ap (λ b. (let k : KnownMod = record m { live = b } in k)) (ap (λ b. m.live && b) is ∙ and_true m.live)
+  pub borne_alone : (m : KnownMod) → is_borne line texts reading day act_day m.body ≡ true → borne line texts reading day act_day m ≡ mod_alone m
+  borne_alone m is = ap (λ b. (let k : KnownMod = record m { live = b; carried = None } in k)) (ap (λ b. m.live && b) is ∙ always m.live)
 
-  all_alone : (ms : List KnownMod) → list_any (λ m. looked_at line act_day m.body) ms ≡ false → map (borne line texts reading day act_day) ms ≡ ms
+  all_alone : (ms : List KnownMod) → list_any (λ m. looked_at line act_day m.body) ms ≡ false → map (borne line texts reading day act_day) ms ≡ map mod_alone ms
   all_alone [] none = refl
   all_alone (m ∷ ms) none =
       ap (λ k. k ∷ map (borne line texts reading day act_day) ms)
       (borne_alone m (always_borne m.body (none_left (looked_at line act_day m.body) (list_any (λ k. looked_at line act_day k.body) ms) none)))
-      ∙ ap (λ ks. m ∷ ks) (all_alone ms (none_right (looked_at line act_day m.body) (list_any (λ k. looked_at line act_day k.body) ms) none))
+      ∙ ap (λ ks. mod_alone m ∷ ks) (all_alone ms (none_right (looked_at line act_day m.body) (list_any (λ k. looked_at line act_day k.body) ms) none))
 
 pub nothing_looked_at : (line : List Known) (texts : List WorkText) (reading : Reading) (day : ℕ) (known : Known)
-    → list_any (λ m. looked_at line known.act.day m.body) known.mods ≡ false → work_borne line texts reading day known ≡ known
+    → list_any (λ m. looked_at line known.act.day m.body) known.mods ≡ false → work_borne line texts reading day known ≡ alone known
 nothing_looked_at line texts reading day known none =
-    ap (λ ms. (let k : Known = record known { mods = ms } in k)) (all_alone line texts reading day known.act.day known.mods none)
+    ap (λ ms. (let k : Known = record known { mods = ms; source_days = [] } in k)) (all_alone line texts reading day known.act.day known.mods none)
 
 -- what names no provision is not looked at
 unnamed : (line : List Known) (act_day : ℕ) (m : Modification) → names_provision m ≡ false → looked_at line act_day m ≡ false
@@ -54,15 +52,15 @@ all_unnamed line act_day (m ∷ ms) none =
     ap (λ b. b || list_any (λ k. looked_at line act_day k.body) ms) (unnamed line act_day m.body (none_left (names_provision m.body) (list_any (λ k. names_provision k.body) ms) none))
     ∙ all_unnamed line act_day ms (none_right (names_provision m.body) (list_any (λ k. names_provision k.body) ms) none)
 
-pub alone : (line : List Known) (texts : List WorkText) (reading : Reading) (day : ℕ) (known : Known) → names_any known ≡ false
-    → work_borne line texts reading day known ≡ known
-alone line texts reading day known none = nothing_looked_at line texts reading day known (all_unnamed line known.act.day known.mods none)
+pub unnamed_alone : (line : List Known) (texts : List WorkText) (reading : Reading) (day : ℕ) (known : Known) → names_any known ≡ false
+    → work_borne line texts reading day known ≡ alone known
+unnamed_alone line texts reading day known none = nothing_looked_at line texts reading day known (all_unnamed line known.act.day known.mods none)
 
 -- where no modification names a provision each text is made by itself
 module _ (line : List Known) (reading : Reading) (day : ℕ) where
   made_alone : (texts : List WorkText) (known : Known) → names_any known ≡ false → text_on line reading day texts known ≡ text_alone reading day known
   made_alone texts known none =
-      ap (λ (k : Known). (let text : WorkText = record { known = known; version = replay_on k reading day } in text)) (alone line texts reading day known none)
+      ap (λ (k : Known). (let text : WorkText = record { known = known; version = replay_on k reading day } in text)) (unnamed_alone line texts reading day known none)
 
   all_made_alone : (texts : List WorkText) (works : List Known) → list_any names_any works ≡ false
       → texts_after line reading day texts works ≡ texts ++ map (text_alone reading day) works

@@ -14,7 +14,7 @@ use Rattle.law_register.specs.Answer.Previews.{known_by_law}
 use Rattle.law_register.specs.Register.KnownIds.{enacted, enacted_by, enacted_from, enacted_or, known_by}
 use Rattle.law_register.specs.Register.LawList.{works_enacted}
 use Rattle.law_register.proofs.Puts.{bytes_are, bytes_same}
-use Rattle.source_provisions.specs.Line.{IsLine, line, line_cmp, line_of, with_work, work_in}
+use Rattle.law_register.specs.Provisions.Line.{IsLine, line, line_cmp, line_of, with_work, work_in}
 use Rattle.source_provisions.proofs.Lines.{lines_ascend}
 
 no_act : (act : Act) (P : Type 0) → None ≡ Some act → P

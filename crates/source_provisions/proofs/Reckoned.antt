@@ -16,18 +16,19 @@ use Rattle.law_register.specs.declared.law.modification.Destination.TheVariants 
 use Rattle.law_register.specs.declared.register.known.Known.{Known}
 use Rattle.law_register.specs.declared.register.known.KnownMod.{KnownMod}
 use Rattle.law_register.specs.Answer.Bearing.{act_itself, bears_on, node_bears}
-use Rattle.law_register.specs.Answer.Breakpoints.{breakpoints, insert_days, live_days, period_days}
+use Rattle.law_register.specs.Answer.Breakpoints.{days_with, insert_days, live_days, period_days}
 use Rattle.law_register.specs.Answer.Counted.{efficacies_on}
 use Rattle.law_register.specs.Answer.Flags.{flag_among, flag_below, flag_in, has_some, is_marked, or_else, root_flag}
 use Rattle.law_register.specs.Answer.PastKeys.{is_same_reading}
+use Rattle.law_register.specs.Answer.Standing.{is_within}
 use Rattle.law_register.specs.Law.Sources.{source_of}
 use Rattle.law_register.proofs.ApartIds.{none_left, none_right}
 use Rattle.law_register.proofs.InsertedKeys.{inserted_ascends}
 use Rattle.law_register.proofs.Puts.{and_true, bytes_are, bytes_same, left_true, right_true}
-use Rattle.source_provisions.specs.Depending.{WorkDays, comes_from, days_after, days_along, depends, source_days, work_days}
-use Rattle.source_provisions.specs.Held.{HeldValue, IsRight, all_held, held_at, holding_of, is_of, is_place, is_within, names, place_of, places, with_place}
-use Rattle.source_provisions.specs.Looking.{looked_at}
-use Rattle.source_provisions.specs.Trees.{WorkText, is_raised, stands, stands_in, text_in, trees}
+use Rattle.law_register.specs.Provisions.Depending.{WorkDays, comes_from, days_after, days_along, depends, source_days, work_days}
+use Rattle.source_provisions.specs.Held.{HeldValue, IsRight, all_held, held_at, holding_of, is_of, is_place, names, place_of, places, with_place}
+use Rattle.law_register.specs.Provisions.Looking.{looked_at}
+use Rattle.law_register.specs.Provisions.Trees.{WorkText, is_raised, stands, stands_in, text_in, trees}
 use Rattle.source_provisions.proofs.HeldRight.{later_passed, some_passed}
 use Rattle.source_provisions.proofs.Spans.{spans_tell}
 use Rattle.source_provisions.proofs.StandingStill.{Alike, inserted_both, each_live, none_between, source_each, still_found, texts_alike}
@@ -75,9 +76,19 @@ module _ (day : ℕ) where
     none_stands : (wid : List ℕ) (body : Branches Provision) → is_raised (flag_among known r day (root_flag known r day) wid body) ≡ false
     none_stands wid body = ap (λ f. is_raised (flag_among known r day f wid body)) root_later ∙ all_down wid body
 
-  -- a work whose days come later
-  abbrev LaterKnown : WorkDays → Type 0
-  LaterKnown w = AreLater w.days → AreLater (breakpoints w.known)
+  -- what a work names itself comes later
+  abbrev NamesLater : Known → Type 0
+  NamesLater known = IsLater day known.act.force.start × EachDay (IsLater day) known.mods
+
+  names_later : (known : Known) (others : List ℕ) → AreLater (days_with known others) → NamesLater known
+  names_later known others later =
+      let both : AreLater (period_days known.act.force) × AreLater (insert_days others (live_days known.mods)) =
+      inserted_both (IsLater day) (period_days known.act.force) (insert_days others (live_days known.mods)) later in
+      (both.0.0, each_live (IsLater day) known.mods (inserted_both (IsLater day) others (live_days known.mods) both.1).1)
+
+  -- it does where its days do
+  abbrev pub LaterKnown : WorkDays → Type 0
+  LaterKnown w = AreLater w.days → NamesLater w.known
 
   pushed : (ws : List WorkDays) (w : WorkDays) → AllByRecursion LaterKnown ws → LaterKnown w → AllByRecursion LaterKnown (ws ++ w ∷ [])
   pushed [] w all one = (one, tt)
@@ -87,19 +98,18 @@ module _ (day : ℕ) where
   all_later_known line ws [] all = all
   all_later_known line ws (known ∷ works) all =
       all_later_known line (ws ++ work_days line ws known ∷ []) works
-      (pushed ws (work_days line ws known) all (λ later. (inserted_both (IsLater day) (breakpoints known) (source_days line known ws) later).0))
+      (pushed ws (work_days line ws known) all (names_later known (source_days line known ws)))
 
-  each_later_known : (line : List Known) → AllByRecursion LaterKnown (days_along line)
+  pub each_later_known : (line : List Known) → AllByRecursion LaterKnown (days_along line)
   unfolding days_along
   each_later_known line = all_later_known line [] line tt
 
-  one_down : (r : Reading) (wid : List ℕ) (t : WorkText) (known : Known) → t.known ≡ known → AreLater (breakpoints known) → stands_in r day wid (Some t) ≡ false
+  one_down : (r : Reading) (wid : List ℕ) (t : WorkText) (known : Known) → t.known ≡ known → NamesLater known → stands_in r day wid (Some t) ≡ false
   one_down r wid t known same later =
-      let both : AreLater (period_days t.known.act.force) × AreLater (live_days t.known.mods) =
-      inserted_both (IsLater day) (period_days t.known.act.force) (live_days t.known.mods) (subst (λ (k : Known). AreLater (breakpoints k)) (sym same) later) in
-      none_stands r t.known both.0.0 (each_live (IsLater day) t.known.mods both.1) wid t.version.tree.body
+      let both : NamesLater t.known = subst NamesLater (sym same) later in
+      none_stands r t.known both.0 both.1 wid t.version.tree.body
 
-  none_yet : (r : Reading) (work wid : List ℕ) (ss ts : List WorkText) (ws : List WorkDays) → Alike day day r ss ts ws → AllByRecursion LaterKnown ws
+  pub none_yet : (r : Reading) (work wid : List ℕ) (ss ts : List WorkText) (ws : List WorkDays) → Alike day day r ss ts ws → AllByRecursion LaterKnown ws
       → AllByRecursion (λ (w : WorkDays). bytes_eq w.known.act.work work ≡ true → AreLater w.days) ws → stands ss r day work wid ≡ false
   none_yet r work wid [] ts ws alike known later = refl
   none_yet r work wid (s ∷ ss) [] ws alike known later = absurd alike
@@ -123,7 +133,7 @@ sources_ascend line known [] = tt
 sources_ascend line known (w ∷ ws) = days_ascend (cond (depends line known w.known.act.work) w.days []) (source_days line known ws) (sources_ascend line known ws)
 
 -- on the days of its periods a provision stands
-none_each : (day : ℕ) (days : List ℕ) → list_any (λ d. nat_le d day) days ≡ false → AllByRecursion (IsLater day) days
+pub none_each : (day : ℕ) (days : List ℕ) → list_any (λ d. nat_le d day) days ≡ false → AllByRecursion (IsLater day) days
 none_each day [] none = tt
 none_each day (d ∷ ds) none = (none_left (nat_le d day) (list_any (λ e. nat_le e day) ds) none, none_each day ds (none_right (nat_le d day) (list_any (λ e. nat_le e day) ds) none))
 

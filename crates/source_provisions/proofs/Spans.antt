@@ -7,8 +7,8 @@ use Rattle.std.specs.List.Sorted.{IsStrictlySortedBy}
 use Rattle.std.specs.Ordering.{nat_cmp}
 use Rattle.std.specs.declared.cmp.Ordering.TheVariants.{Less}
 use Rattle.law_register.proofs.ApartIds.{none_both}
-use Rattle.source_provisions.specs.Held.{is_within}
-use Rattle.source_provisions.specs.Spans.{span_from, spans_of}
+use Rattle.law_register.specs.Answer.Standing.{is_within}
+use Rattle.law_register.specs.Provisions.Spans.{span_from, spans_of}
 
 module _ (test : ℕ → Bool) (day : ℕ) where
   -- the test of the last of ascending days by a day, or what was told before them

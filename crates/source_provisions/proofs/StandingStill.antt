@@ -23,17 +23,18 @@ use Rattle.law_register.specs.declared.law.modification.Modification.TheVariants
 use Rattle.law_register.specs.declared.register.known.Known.{Known}
 use Rattle.law_register.specs.declared.register.known.KnownMod.{KnownMod}
 use Rattle.law_register.specs.Answer.Bearing.{act_itself, bears_on, force_of_act, force_of_node, force_on, node_bears}
-use Rattle.law_register.specs.Answer.Breakpoints.{breakpoints, days_of, insert_days, live_days, period_days}
+use Rattle.law_register.specs.Answer.Breakpoints.{days_of, days_with, insert_days, live_days, period_days}
 use Rattle.law_register.specs.Answer.Counted.{efficacies_on, forces_on}
 use Rattle.law_register.specs.Answer.Flags.{flag_among, flag_below, flag_in, has_some, is_marked, or_else, root_flag}
 use Rattle.law_register.specs.Answer.Order.{order}
 use Rattle.law_register.specs.Answer.Replay.{as_enacted, replayed}
+use Rattle.law_register.specs.Answer.Standing.{stands_by}
 use Rattle.law_register.specs.Law.Sources.{source_of}
 use Rattle.law_register.proofs.ApartIds.{none_left, none_right}
 use Rattle.law_register.proofs.Puts.{and_true, bytes_are, bytes_same}
-use Rattle.source_provisions.specs.Depending.{WorkDays, breakpoints_of, comes_from, days_after, days_along, depends, source_days, work_days}
-use Rattle.source_provisions.specs.Looking.{looked_at}
-use Rattle.source_provisions.specs.Trees.{WorkText, borne, is_borne, is_raised, named_stands, order_in, source_stands, stands, stands_in, text_in, text_on, texts_after, trees, work_borne}
+use Rattle.law_register.specs.Provisions.Depending.{WorkDays, breakpoints_of, comes_from, days_after, days_along, depends, source_days, work_days}
+use Rattle.law_register.specs.Provisions.Looking.{looked_at}
+use Rattle.law_register.specs.Provisions.Trees.{WorkText, borne, is_borne, is_raised, named_stands, order_in, source_stands, stands, stands_in, text_in, text_on, texts_after, trees, work_borne}
 use Rattle.source_provisions.proofs.HeldRight.{later_passed, some_passed}
 use Rattle.source_provisions.proofs.Still.{EachDay, EachIf, IsStill, StillPeriod, bears_still, between, due_still, efficacies_still, force_at_still, forces_all, forces_still, period_by_days}
 
@@ -90,10 +91,12 @@ module _ (from day : ℕ) where
   abbrev pub IsCalm : Known → Type 0
   IsCalm known = AreStill (period_days known.act.force) × EachDay (IsStill from day) known.mods
 
-  calm_by_days : (known : Known) → AreStill (breakpoints known) → IsCalm known
-  calm_by_days known still =
-      let both : AreStill (period_days known.act.force) × AreStill (live_days known.mods) = inserted_both (IsStill from day) (period_days known.act.force) (live_days known.mods) still in
-      (both.0, each_live (IsStill from day) known.mods both.1)
+  calm_by_days : (known : Known) (others : List ℕ) → AreStill (days_with known others) → IsCalm known × AreStill others
+  calm_by_days known others still =
+      let both : AreStill (period_days known.act.force) × AreStill (insert_days others (live_days known.mods)) =
+      inserted_both (IsStill from day) (period_days known.act.force) (insert_days others (live_days known.mods)) still in
+      let rest : AreStill others × AreStill (live_days known.mods) = inserted_both (IsStill from day) others (live_days known.mods) both.1 in
+      ((both.0, each_live (IsStill from day) known.mods rest.1), rest.0)
 
   module _ (r : Reading) (known : Known) (calm : IsCalm known) where
     act_still : force_of_act known day ≡ force_of_act known from
@@ -238,24 +241,30 @@ module _ (from day : ℕ) where
             → map (borne line ss r day known.act.day) ms ≡ map (borne line ts r from known.act.day) ms
         mods_still [] among = refl
         mods_still (m ∷ ms) among =
-            ap (λ b. (let k : KnownMod = record m { live = b } in k) ∷ map (borne line ss r day known.act.day) ms)
+            ap (λ b. (let k : KnownMod = record m { live = b; carried = None } in k) ∷ map (borne line ss r day known.act.day) ms)
             (mod_still m (λ test here. among test (some_passed test m ms here)))
             ∙ ap (λ ks. borne line ts r from known.act.day m ∷ ks) (mods_still ms (λ test there. among test (later_passed test m ms there)))
 
         known_still : work_borne line ss r day known ≡ work_borne line ts r from known
-        known_still = ap (λ ms. (let k : Known = record known { mods = ms } in k)) (mods_still known.mods (λ test there. there))
+        known_still = ap (λ ms. (let k : Known = record known { mods = ms; source_days = [] } in k)) (mods_still known.mods (λ test there. there))
 
         each_borne : (ms : List KnownMod) → EachDay (IsStill from day) ms → EachDay (IsStill from day) (map (borne line ts r from known.act.day) ms)
         each_borne [] each = tt
         each_borne (m ∷ ms) each =
             (if_less (IsStill from day) m.live (is_borne line ts r from known.act.day m.body) m.body each.0, each_borne ms each.1)
 
+        none_carried : (ms : List KnownMod)
+            → AllByRecursion (λ (m : KnownMod). stands_by r day m.carried ≡ stands_by r from m.carried) (map (borne line ts r from known.act.day) ms)
+        none_carried [] = tt
+        none_carried (m ∷ ms) = (refl, none_carried ms)
+
         module _ (calm : IsCalm known) where
           same_order : order (work_borne line ss r day known) r day ≡ order (work_borne line ts r from known) r from
           same_order =
               ap (λ (k : Known). order k r day) known_still
               ∙ ap (map (λ (due : Due). due.id))
-              (due_still from day (work_borne line ts r from known).mods (each_borne known.mods calm.1) r (work_borne line ts r from known).mods (each_borne known.mods calm.1))
+              (due_still from day (work_borne line ts r from known).mods (each_borne known.mods calm.1) r (work_borne line ts r from known).mods (each_borne known.mods calm.1)
+              (none_carried known.mods))
 
           same_text : text_on line r day ss known ≡ text_on line r from ts known
           same_text =
@@ -285,8 +294,8 @@ module _ (from day : ℕ) where
       where
         one : AreStill (work_days line ws known).days → (text_on line r day ss known ≡ text_on line r from ts known) × IsCalm known
         one still =
-            let both : AreStill (breakpoints known) × AreStill (source_days line known ws) = inserted_both (IsStill from day) (breakpoints known) (source_days line known ws) still in
-            (same_text line known ss ts ws alike both.1 (calm_by_days known both.0), calm_by_days known both.0)
+            let both : IsCalm known × AreStill (source_days line known ws) = calm_by_days known (source_days line known ws) still in
+            (same_text line known ss ts ws alike both.1 both.0, both.0)
 
     pub texts_alike : (line : List Known) → Alike r (trees line r day) (trees line r from) (days_along line)
     unfolding trees days_along
@@ -294,9 +303,8 @@ module _ (from day : ℕ) where
 
     order_by_still : (line : List Known) (known : Known) → AreStill (breakpoints_of line known) → order_in line known r day ≡ order_in line known r from
     order_by_still line known still =
-        let both : AreStill (breakpoints known) × AreStill (source_days line known (days_along line)) =
-        inserted_both (IsStill from day) (breakpoints known) (source_days line known (days_along line)) still in
-        same_order line known (trees line r day) (trees line r from) (days_along line) (texts_alike line) both.1 (calm_by_days known both.0)
+        let both : IsCalm known × AreStill (source_days line known (days_along line)) = calm_by_days known (source_days line known (days_along line)) still in
+        same_order line known (trees line r day) (trees line r from) (days_along line) (texts_alike line) both.1 both.0
 
   pub none_between : from ≤ day → (days : List ℕ) → list_any (λ d. nat_lt from d && nat_le d day) days ≡ false → AreStill days
   none_between later [] none = tt

@@ -26,6 +26,7 @@ use Rattle.law_register.specs.Answer.Bearing.{bears_on, efficacy_on, force_on, p
 use Rattle.law_register.specs.Answer.Breakpoints.{days_of, efficacy_days, end_days, force_date, period_days}
 use Rattle.law_register.specs.Answer.Counted.{is_same, force_from, efficacy_from, take_turn, take_turns, forces_on, efficacies_on}
 use Rattle.law_register.specs.Answer.Order.{due_as, due_from, due_of, with_due}
+use Rattle.law_register.specs.Answer.Standing.{counts, stands_by}
 
 -- each day of a modification that stands is so
 abbrev pub EachIf : (ℕ → Type 0) → Bool → Modification → Type 0
@@ -252,16 +253,19 @@ module _ (from day : ℕ) where
     due_as_still r id (Efficacy source destination on effect) h = refl
     due_as_still r id (Textual source own edit) h = ap (option_map (due_from source id)) (start_still r (to.Modification id) own (period_by_days own h))
 
-    live_due_still : (r : Reading) (b : Bool) (id : Id) (body : Modification) → EachIf IsStill b body
-        → cond b (due_as r day mods id body) None ≡ cond b (due_as r from mods id body) None
-    live_due_still r true id body h = due_as_still r id body h
-    live_due_still r false id body h = refl
+    live_due_still : (r : Reading) (b c : Bool) (id : Id) (body : Modification) → EachIf IsStill b body
+        → cond (b && c) (due_as r day mods id body) None ≡ cond (b && c) (due_as r from mods id body) None
+    live_due_still r true c id body h = ap (λ due. cond c due None) (due_as_still r id body h)
+    live_due_still r false c id body h = refl
 
-    pub due_still : (r : Reading) (ms : List KnownMod) → EachDay IsStill ms → due_of r day mods ms ≡ due_of r from mods ms
-    due_still r [] h = refl
-    due_still r (m ∷ ms) h =
-        ap (λ dues. with_due dues (cond m.live (due_as r day mods m.id m.body) None)) (due_still r ms h.1)
-        ∙ ap (with_due (due_of r from mods ms)) (live_due_still r m.live m.id m.body h.0)
+    -- where what is carried stands still, too
+    pub due_still : (r : Reading) (ms : List KnownMod) → EachDay IsStill ms → AllByRecursion (λ (m : KnownMod). stands_by r day m.carried ≡ stands_by r from m.carried) ms
+        → due_of r day mods ms ≡ due_of r from mods ms
+    due_still r [] h k = refl
+    due_still r (m ∷ ms) h k =
+        ap (λ dues. with_due dues (cond (counts r day m) (due_as r day mods m.id m.body) None)) (due_still r ms h.1 k.1)
+        ∙ ap (λ b. with_due (due_of r from mods ms) (cond (m.live && b) (due_as r day mods m.id m.body) None)) k.0
+        ∙ ap (with_due (due_of r from mods ms)) (live_due_still r m.live (stands_by r from m.carried) m.id m.body h.0)
 
   pub between : (d : ℕ) → from ≤ day → (nat_lt from d && nat_le d day) ≡ false → IsStill d
   between d h k = grind (arith, nat_tests)

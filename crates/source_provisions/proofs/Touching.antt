@@ -11,10 +11,10 @@ use Rattle.law_register.specs.Register.Concerns.{is_named}
 use Rattle.law_register.specs.Register.LawList.{law_of, laws}
 use Rattle.law_register.proofs.ApartIds.{none_both, none_left, none_right}
 use Rattle.law_register.proofs.Puts.{bytes_same}
-use Rattle.source_provisions.specs.Depending.{depends, depends_in}
-use Rattle.source_provisions.specs.Line.{line, work_in}
-use Rattle.source_provisions.specs.Looking.{names_any}
-use Rattle.source_provisions.specs.Touching.{WorkTouched, days_told, first_reached, own, touched, touched_after, touched_along, touched_as, touched_by, touched_works}
+use Rattle.law_register.specs.Provisions.Depending.{depends, depends_in}
+use Rattle.law_register.specs.Provisions.Line.{line, work_in}
+use Rattle.law_register.specs.Provisions.Looking.{names_any}
+use Rattle.law_register.specs.Provisions.Touching.{WorkTouched, days_told, first_reached, own, touched, touched_after, touched_along, touched_as, touched_by, touched_works}
 use Rattle.source_provisions.proofs.Days.{independent}
 
 either_way : {A : Type 0} (b : Bool) (x : A) → cond b x x ≡ x

@@ -4,7 +4,6 @@ use Rattle.std.specs.List.{AllByRecursion, list_any}
 use Rattle.std.specs.Option.{option_map_or}
 use Rattle.std.specs.Str.{bytes_eq}
 use Rattle.desk_base.specs.declared.period.Period.{Period}
-use Rattle.desk_base.specs.Periods.{includes}
 use Rattle.law_register.specs.declared.answer.question.Reading.{Reading}
 use Rattle.law_register.specs.declared.answer.question.Reading.TheVariants as reading
 use Rattle.law_register.specs.declared.law.modification.ModSource.{ModSource}
@@ -13,11 +12,12 @@ use Rattle.law_register.specs.declared.law.modification.Modification.TheVariants
 use Rattle.law_register.specs.declared.register.known.Known.{Known}
 use Rattle.law_register.specs.declared.register.known.KnownMod.{KnownMod}
 use Rattle.law_register.specs.Answer.PastKeys.{is_same_reading}
+use Rattle.law_register.specs.Answer.Standing.{is_within}
 use Rattle.law_register.specs.Law.Sources.{source_of}
-use Rattle.source_provisions.specs.Depending.{comes_from, days_along, source_days}
-use Rattle.source_provisions.specs.Looking.{looked_at}
-use Rattle.source_provisions.specs.Spans.{spans_of}
-use Rattle.source_provisions.specs.Trees.{stands, trees}
+use Rattle.law_register.specs.Provisions.Depending.{comes_from, days_along, source_days}
+use Rattle.law_register.specs.Provisions.Looking.{looked_at}
+use Rattle.law_register.specs.Provisions.Spans.{spans_of}
+use Rattle.law_register.specs.Provisions.Trees.{stands, trees}
 
 -- what is held of a provision in a reading: the periods on whose days it stands
 pub record HeldValue : Type 0 where
@@ -30,10 +30,6 @@ pub record HeldValue : Type 0 where
 pub record HoldingValue : Type 0 where
   pub held : List HeldValue
   pub days : List ℕ
-
--- a day is in one of these periods
-abbrev pub is_within : List Period → ℕ → Bool
-is_within spans day = list_any (λ span. includes span day) spans
 
 -- this is held of that provision, in that reading
 abbrev pub is_of : List ℕ → List ℕ → Reading → HeldValue → Bool
@@ -73,12 +69,12 @@ holds held reading day (Textual source force edit) = named_holds held reading da
 holds held reading day (Force source destination on effect) = true
 holds held reading day (Efficacy source destination on effect) = true
 
--- what is known of a work, as it counts on a day by what is held
+-- what is known of a work, as it counts on a day by what is held; nothing else is carried
 abbrev pub mod_held : List HeldValue → Reading → ℕ → KnownMod → KnownMod
-mod_held held reading day m = record m { live = m.live && holds held reading day m.body }
+mod_held held reading day m = record m { live = m.live && holds held reading day m.body; carried = None }
 
 abbrev pub work_held : List HeldValue → Reading → ℕ → Known → Known
-work_held held reading day known = record known { mods = map (mod_held held reading day) known.mods }
+work_held held reading day known = record known { mods = map (mod_held held reading day) known.mods; source_days = [] }
 
 -- the work and the provision from which a modification comes that stands, where the provision is looked at
 abbrev pub place_of : List Known → ℕ → KnownMod → Option (List ℕ × List ℕ)

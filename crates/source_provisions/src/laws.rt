@@ -6,31 +6,35 @@ ghost use Rattle.law_register.specs.declared.answer.question.Reading.{Reading};
 ghost use Rattle.law_register.specs.declared.law.command.Command.{Command};
 ghost use Rattle.law_register.specs.declared.register.entry.Entry.{Entry};
 ghost use Rattle.law_register.specs.declared.register.known.Known.{Known};
+ghost use Rattle.law_register.specs.Answer.Breakpoints.{breakpoints};
 ghost use Rattle.law_register.specs.Answer.Costs.{revision_cost};
 ghost use Rattle.law_register.specs.Answer.Order.{order};
-ghost use Rattle.law_register.specs.Answer.Soundness.{id_twice};
+ghost use Rattle.law_register.specs.Answer.Replay.{replay_on};
+ghost use Rattle.law_register.specs.Answer.Soundness.{IsSound, id_twice};
+ghost use Rattle.law_register.specs.Answer.Standing.{alone};
 ghost use Rattle.law_register.specs.Answer.Touched.{day_among, touched_days};
 ghost use Rattle.law_register.specs.Register.LawList.{laws};
 ghost use Rattle.law_register.specs.Register.Verdicts.{is_legal};
 ghost use Rattle.version_cache.specs.Agreement.{IsBefore};
-ghost use Rattle.source_provisions.specs.Costs.{entry_cost_in, held_cost, revision_cost_in};
-ghost use Rattle.source_provisions.specs.Depending.{IsChain, breakpoints_of, days_along, depends, own_days};
+ghost use Rattle.law_register.specs.Provisions.Carrying.{carrying};
+ghost use Rattle.law_register.specs.Provisions.Costs.{entry_cost_in, held_cost, revision_cost_in};
+ghost use Rattle.law_register.specs.Provisions.Depending.{IsChain, breakpoints_of, days_along, depends, own_days};
 ghost use Rattle.source_provisions.specs.Held.{HoldingValue, IsRight, holding_of, work_held};
-ghost use Rattle.source_provisions.specs.Line.{IsLine, line, work_in};
-ghost use Rattle.source_provisions.specs.Looking.{looked_at, names_any};
-ghost use Rattle.source_provisions.specs.Touching.{touched, touched_works};
-ghost use Rattle.source_provisions.specs.Trees.{AgreesOn, WorkText, is_borne_id, order_in, text_alone, trees, version_in, work_borne};
+ghost use Rattle.law_register.specs.Provisions.Line.{IsLine, line, work_in};
+ghost use Rattle.law_register.specs.Provisions.Looking.{looked_at, names_any};
+ghost use Rattle.law_register.specs.Provisions.Touching.{touched, touched_works};
+ghost use Rattle.law_register.specs.Provisions.Trees.{AgreesOn, WorkText, is_borne_id, order_in, text_alone, trees, version_in, work_borne};
 
 /// The works of a law are a line: the act of the latest day first, on one day by the bytes of the IRI, and each IRI once.
 pub fn laws_have_lines()
     ensures { (law : List Command) → IsLine (line law) }
 {}
 
-/// A provision that is not looked at changes nothing: a work of which none is counts as it is known.
+/// A provision that is not looked at changes nothing: a work of which none is counts as it is known by itself.
 pub fn what_is_not_looked_at_changes_nothing()
     ensures { (works : List Known) (texts : List WorkText) (reading : Reading) (day : ℕ) (known : Known)
         → list_any (λ m. looked_at works known.act.day m.body) known.mods ≡ false
-        → work_borne works texts reading day known ≡ known }
+        → work_borne works texts reading day known ≡ alone known }
 {}
 
 /// Where no modification names a provision, each work has the text that its own modifications make, and its own days alone.
@@ -55,7 +59,7 @@ pub fn unnamed_provisions_reach_nothing()
 /// nothing costs nothing.
 pub fn unnamed_provisions_cost_nothing()
     ensures revising { (works : List Known) (known : Known) (reading : Reading) (touched : ℕ) → names_any known ≡ false
-        → revision_cost_in works known reading touched ≡ revision_cost known reading touched }
+        → revision_cost_in works known reading touched ≡ revision_cost (alone known) reading touched }
     ensures holding { (works : List Known) (known : Known) → names_any known ≡ false → held_cost works known ≡ 0 }
     ensures untouched { (entries : List Entry) (entry : Entry) → touched_works entries entry ≡ []
         → entry_cost_in entries entry ≡ 0 }
@@ -93,7 +97,7 @@ pub fn texts_bear_each_other()
 pub fn orders_leave_out_what_is_not_borne()
     ensures { (works : List Known) (known : Known) (reading : Reading) (day : ℕ) → id_twice (map (λ m. m.id) known.mods) ≡ false
         → order_in works known reading day
-        ≡ filter (is_borne_id works (trees works reading day) reading day known) (order known reading day) }
+        ≡ filter (is_borne_id works (trees works reading day) reading day known) (order (alone known) reading day) }
 {}
 
 /// Between two days that no breakpoint of a work parts its text stands still: the same modifications bear on both, in the same order.
@@ -126,4 +130,26 @@ pub fn what_is_held_bears()
 /// What is to be held can be reckoned from the texts of all works, and is right then.
 pub fn what_is_to_be_held_is_there()
     ensures { (works : List Known) (known : Known) → IsRight works known (holding_of works known) }
+{}
+
+/// What a work carries of its provisions says what bears: on each day and in each reading the same modifications as by the texts of all
+/// works, in the same order; they make the same text. Its breakpoints are those that it has in the line, and its versions cost the same.
+pub fn what_is_carried_bears()
+    ensures orders { (works : List Known) (known : Known) (reading : Reading) (day : ℕ) → IsLine works
+        → order (carrying works known) reading day ≡ order_in works known reading day }
+    ensures versions { (works : List Known) (known : Known) (reading : Reading) (day : ℕ) → IsLine works
+        → replay_on (carrying works known) reading day ≡ version_in works known reading day }
+    ensures days { (works : List Known) (known : Known) → breakpoints (carrying works known) ≡ breakpoints_of works known }
+    ensures costs { (works : List Known) (known : Known) (reading : Reading) (touched : ℕ) → IsLine works
+        → revision_cost (carrying works known) reading touched ≡ revision_cost_in works known reading touched }
+{}
+
+/// What carries can be replayed, where it can be as it is known by itself.
+pub fn what_is_carried_is_sound()
+    ensures { (works : List Known) (known : Known) → IsLine works → IsSound (alone known) → IsSound (carrying works known) }
+{}
+
+/// Where no modification of a work names a provision, nothing is carried.
+pub fn unnamed_provisions_carry_nothing()
+    ensures { (works : List Known) (known : Known) → names_any known ≡ false → carrying works known ≡ alone known }
 {}

@@ -2,14 +2,15 @@
 use Rattle.std.proofs.Common.{◌≡◌, ◌∙◌, sym, ap, ℕ, ◌+◌, ◌<◌, arith, List, [], ◌∷◌, Option, Some, None, option_and_then, option_map, refl}
 use Rattle.std.specs.List.{AllByRecursion, find}
 use Rattle.desk_base.specs.declared.id.Id.{Id}
+use Rattle.law_register.specs.declared.answer.question.Reading.{Reading}
 use Rattle.law_register.specs.declared.law.act.Act.{Act}
 use Rattle.law_register.specs.declared.register.known.Known.{Known}
 use Rattle.law_register.specs.declared.register.known.KnownMod.{KnownMod}
 use Rattle.law_register.specs.Answer.Counted.{is_same_id}
 use Rattle.law_register.specs.Answer.Order.{order}
-use Rattle.law_register.specs.Answer.Replay.{as_enacted, edit_in, edit_of, replayed}
+use Rattle.law_register.specs.Answer.Replay.{as_enacted, edit_in, edit_of, replay_on, replayed}
 use Rattle.law_register.proofs.Continuing.{replayed_alike}
-use Rattle.version_cache.specs.Agreement.{Agree, body_of}
+use Rattle.version_cache.specs.Agreement.{Agree, AgreeOn, body_of}
 use Rattle.version_cache.specs.Tables.{IsRight, IsRightBefore, IsRightUntil, TableValue}
 
 edit_by_body : (mods : List KnownMod) (id : Id) → edit_of mods id ≡ option_and_then edit_in (body_of mods id)
@@ -23,16 +24,17 @@ same_edits : (old new : List KnownMod) (ids : List Id) → AllByRecursion (λ id
 same_edits old new [] h = tt
 same_edits old new (id ∷ ids) h = (edit_by_body old id ∙ ap (option_and_then edit_in) h.0 ∙ sym (edit_by_body new id), same_edits old new ids h.1)
 
+-- a replay from scratch makes one version of a day on which they agree
+pub agreeing_version : (old new : Known) (reading : Reading) (day : ℕ) → old.act ≡ new.act → AgreeOn old new reading day → replay_on old reading day ≡ replay_on new reading day
+agreeing_version old new reading day same on =
+    ap (replayed old.mods (as_enacted old.act)) on.orders
+    ∙ replayed_alike old.mods new.mods (as_enacted old.act) (order new reading day) (same_edits old.mods new.mods (order new reading day) on.bodies)
+    ∙ ap (λ (act : Act). replayed new.mods (as_enacted act) (order new reading day)) same
+
 pub agreeing_right : (old new : Known) (touched : ℕ) (table : TableValue) → IsRight old table → Agree old new table.reading (Some touched) → IsRightBefore new touched table
 agreeing_right old new touched table right agree = record {
   enacted = right.enacted ∙ ap as_enacted agree.act;
-  versions = λ day early.
-      let on = agree.days day early in
-      right.versions day
-      ∙ ap (replayed old.mods (as_enacted old.act)) on.orders
-      ∙ replayed_alike old.mods new.mods (as_enacted old.act) (order new table.reading day)
-      (same_edits old.mods new.mods (order new table.reading day) on.bodies)
-      ∙ ap (λ (act : Act). replayed new.mods (as_enacted act) (order new table.reading day)) agree.act;
+  versions = λ day early. right.versions day ∙ agreeing_version old new table.reading day agree.act (agree.days day early);
 }
 
 -- and it is right wherever they agree

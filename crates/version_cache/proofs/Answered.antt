@@ -1,16 +1,20 @@
 -- What is answered from what is kept of a work is the answer at the front and ahead of it.
-use Rattle.std.proofs.Common.{◌≡◌, ◌∙◌, sym, ap, ap₂, ℕ, ◌≤◌, true, List, Option, Some, None, option_map, Result, refl}
+use Rattle.std.proofs.Common.{◌≡◌, ◌∙◌, sym, ap, ap₂, subst, ℕ, ◌≤◌, true, List, Option, Some, None, option_map, Result, refl}
 use Rattle.law_register.specs.declared.answer.answer.Answer.{Answer}
 use Rattle.law_register.specs.declared.answer.queries.QueryRule.{QueryRule}
 use Rattle.law_register.specs.declared.answer.question.Question.{Question}
+use Rattle.law_register.specs.declared.law.act.Act.{Act}
 use Rattle.law_register.specs.declared.register.entry.Entry.{Entry}
 use Rattle.law_register.specs.declared.register.known.Known.{Known}
+use Rattle.law_register.specs.declared.register.known.KnownMod.{KnownMod}
 use Rattle.law_register.specs.Answer.Answers.{answer_of_text, answer_on, asked_day, first_rule, unless_broken}
 use Rattle.law_register.specs.Answer.Asking.{answer_at, answer_by, known_for}
 use Rattle.law_register.specs.Answer.Replay.{as_enacted, replay_on}
+use Rattle.law_register.specs.Answer.Standing.{alone}
 use Rattle.law_register.specs.Register.KnownNext.{at_viewpoint, bare, known_now, up_to}
 use Rattle.law_register.specs.Register.LawList.{front}
 use Rattle.law_register.specs.Register.Verdicts.{is_legal}
+use Rattle.law_register.proofs.CarryingNothing.{known_at_alone}
 use Rattle.law_register.proofs.Next.{now_counts}
 use Rattle.law_register.proofs.ShownAlike.{text_same}
 use Rattle.law_register.proofs.WhenEnacted.{enacted_bare, known_ahead}
@@ -25,9 +29,20 @@ seen viewpoint front known = record known { viewpoint = viewpoint; front = front
 alike_is : (kept known : Known) → IsAlike kept known → known ≡ seen known.viewpoint known.front kept
 alike_is kept known alike =
     sym
-    (ap (λ a. record { act = a; enacted = kept.enacted; viewpoint = known.viewpoint; front = known.front; mods = kept.mods }) alike.act
-    ∙ ap (λ n. record { act = known.act; enacted = n; viewpoint = known.viewpoint; front = known.front; mods = kept.mods }) alike.enacted
-    ∙ ap (λ m. record { act = known.act; enacted = known.enacted; viewpoint = known.viewpoint; front = known.front; mods = m }) alike.mods)
+    (ap (λ a. told a kept.enacted kept.mods kept.source_days) alike.act
+    ∙ ap (λ n. told known.act n kept.mods kept.source_days) alike.enacted
+    ∙ ap (λ m. told known.act known.enacted m kept.source_days) alike.mods
+    ∙ ap (told known.act known.enacted known.mods) alike.sources)
+  where
+    told : Act → ℕ → List KnownMod → List ℕ → Known
+    told act enacted mods days = record {
+      act = act;
+      enacted = enacted;
+      viewpoint = known.viewpoint;
+      front = known.front;
+      mods = mods;
+      source_days = days;
+    }
 
 module _ (kept : Known) (n : ℕ) (q : Question) where
   rule_is : (viewpoint front : ℕ) → front ≡ n → first_rule (seen viewpoint front kept) q ≡ first_rule (up_to n kept) q
@@ -74,12 +89,14 @@ answered es q work legal ahead right = from (known_now es q.work) refl right
   where
     from : (now : Option Known) → known_now es q.work ≡ now → IsForIf now work → answer_at es q ≡ answer_kept work.known (front es) q
     from None is right = absurd right
-    from (Some known) is right = answered_of es q work.known known legal ahead is right.alike
+    from (Some known) is right =
+        answered_of es q work.known known legal ahead is
+        (subst (IsAlike work.known) (known_at_alone es q.work (front es) known is) right.alike)
 
 -- what is kept of a work is for what it says is known
-pub for_itself : (now : Option Known) (work : WorkValue) → IsForIf now work → IsFor work.known work
-for_itself None work right = absurd right
-for_itself (Some known) work right = for_still known work.known work (back right.alike) right
+pub for_itself : (now : Option Known) (work : WorkValue) → ((known : Known) → now ≡ Some known → alone known ≡ known) → IsForIf now work → IsFor work.known work
+for_itself None work itself right = absurd right
+for_itself (Some known) work itself right = for_still known work.known work (back (subst (IsAlike work.known) (itself known refl) right.alike)) right
   where
     back : IsAlike work.known known → IsAlike known work.known
-    back alike = record { act = sym alike.act; enacted = sym alike.enacted; mods = sym alike.mods }
+    back alike = record { act = sym alike.act; enacted = sym alike.enacted; mods = sym alike.mods; sources = sym alike.sources }

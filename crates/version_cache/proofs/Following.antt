@@ -27,7 +27,7 @@ enacts_still number w (x ∷ xs) ys f h = by (enacted_by w x) h (enacts_still (n
 
 -- what is known of a work by law entries, of which one enacts it
 known_of : List ℕ → ℕ → List Command → ℕ × Act → Known
-known_of w n ls f = record { act = f.1; enacted = f.0; viewpoint = n; front = n; mods = known_ids ls (ids_of w ls) }
+known_of w n ls f = record { act = f.1; enacted = f.0; viewpoint = n; front = n; mods = known_ids ls (ids_of w ls); source_days = [] }
 
 enacts_by : (w : List ℕ) (v n : ℕ) (ls : List Command) (found : Option (ℕ × Act)) (k : Known) → known_by w v n ls found ≡ Some k → (f : ℕ × Act) × (found ≡ Some f)
 enacts_by w v n ls None k is = absurd (let wrong : None ≡ Some k = is in cc)

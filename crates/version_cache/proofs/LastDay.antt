@@ -14,6 +14,7 @@ use Rattle.law_register.specs.Answer.Order.{order}
 use Rattle.law_register.proofs.ApartIds.{none_both, none_left, none_right}
 use Rattle.law_register.proofs.NamedDays.{breakpoints_ascend}
 use Rattle.version_cache.specs.Days.{last_until, order_by}
+use Rattle.version_cache.specs.Steady.{CarrySteadily}
 use Rattle.version_cache.proofs.Still.{order_none, order_still}
 
 -- an option whose day is none, or is before one
@@ -73,10 +74,10 @@ module _ (day : ℕ) where
       by None is before = here (nat_le d day) refl is
       by (Some last) is before = (is.0, none_both (nat_lt last d && nat_le d day) (list_any (λ e. nat_lt last e && nat_le e day) ds) (before_it last d before) is.1)
 
-  order_at : (known : Known) (r : Reading) (o : Option ℕ) → IsLast (breakpoints known) o → order known r day ≡ order_by known r o
-  order_at known r None is = order_none day known r is
-  order_at known r (Some last) is = order_still last day known r is.0 is.1
+  order_at : (known : Known) → CarrySteadily known → (r : Reading) (o : Option ℕ) → IsLast (breakpoints known) o → order known r day ≡ order_by known r o
+  order_at known steady r None is = order_none day known r is
+  order_at known steady r (Some last) is = order_still last day known steady r is.0 is.1
 
   -- what bears on a day is what bears on the last breakpoint that is not after it, or nothing
-  pub order_by_last : (known : Known) (r : Reading) → order known r day ≡ order_by known r (last_until day (breakpoints known))
-  order_by_last known r = order_at known r (last_until day (breakpoints known)) (last_is (breakpoints known) (breakpoints_ascend known))
+  pub order_by_last : (known : Known) → CarrySteadily known → (r : Reading) → order known r day ≡ order_by known r (last_until day (breakpoints known))
+  order_by_last known steady r = order_at known steady r (last_until day (breakpoints known)) (last_is (breakpoints known) (breakpoints_ascend known))

@@ -21,6 +21,7 @@ use Rattle.law_register.specs.declared.register.known.KnownMod.{KnownMod}
 use Rattle.law_register.specs.Answer.Bearing.{bears_on, force_on, period_on, start_on}
 use Rattle.law_register.specs.Answer.Counted.{is_same, is_same_id, force_from, efficacy_from, take_turns, forces_on, efficacies_on}
 use Rattle.law_register.specs.Answer.Order.{due_as, due_from, due_of, is_due, order, with_due}
+use Rattle.law_register.specs.Answer.Standing.{counts}
 use Rattle.law_register.specs.Answer.Touched.{day_on, first_on, own_day, sooner}
 use Rattle.law_register.proofs.ApartIds.{same_self, same_sym}
 use Rattle.law_register.proofs.DueOnce.{order_members}
@@ -219,30 +220,30 @@ module _ (day : ℕ) where
       due_none mods true id (Textual source own edit) h none = ap (option_map (due_from source id)) (start_none r day mods id own h none)
 
       due_either : (b : Bool) (m n : KnownMod) → changes m.id ≡ b → AlikeIf b m n
-          → cond m.live (due_as r day ms m.id m.body) None ≡ cond n.live (due_as r day news n.id n.body) None
+          → cond (counts r day m) (due_as r day ms m.id m.body) None ≡ cond (counts r day n) (due_as r day news n.id n.body) None
       due_either true m n is h =
-          due_none ms m.live m.id m.body h.1 (undirected m.id is)
-          ∙ sym (due_none news n.live n.id n.body h.2 (subst (λ i. NoneCounted news day i) h.0 (none_in_news m.id (undirected m.id is))))
+          due_none ms (counts r day m) m.id m.body h.1 (undirected m.id is)
+          ∙ sym (due_none news (counts r day n) n.id n.body h.2 (subst (λ i. NoneCounted news day i) h.0 (none_in_news m.id (undirected m.id is))))
       due_either false m n is h =
-          ap (λ o. cond m.live o None) (due_same m.id m.body) ∙ ap (λ (k : KnownMod). cond k.live (due_as r day news k.id k.body) None) h
+          ap (λ o. cond (counts r day m) o None) (due_same m.id m.body) ∙ ap (λ (k : KnownMod). cond (counts r day k) (due_as r day news k.id k.body) None) h
 
       added_due : (xs : List KnownMod) → AllByRecursion (λ m. IsMute m.body) xs → AllByRecursion (λ m. NoneCounted ms day m.id) xs → due_of r day news xs ≡ []
       added_due [] h k = refl
       added_due (x ∷ xs) h k =
-          ap (λ dues. with_due dues (cond x.live (due_as r day news x.id x.body) None)) (added_due xs h.1 k.1)
-          ∙ ap (with_due []) (due_none news x.live x.id x.body h.0 (none_in_news x.id k.0))
+          ap (λ dues. with_due dues (cond (counts r day x) (due_as r day news x.id x.body) None)) (added_due xs h.1 k.1)
+          ∙ ap (with_due []) (due_none news (counts r day x) x.id x.body h.0 (none_in_news x.id k.0))
 
       all_due : (xs ys : List KnownMod) → Alike xs ys → due_of r day ms xs ≡ due_of r day news (ys ++ added)
       all_due [] [] h = sym (added_due added mute fresh)
       all_due [] (y ∷ ys) h = absurd h
       all_due (x ∷ xs) [] h = absurd h
       all_due (x ∷ xs) (y ∷ ys) h =
-          ap (λ dues. with_due dues (cond x.live (due_as r day ms x.id x.body) None)) (all_due xs ys h.1)
+          ap (λ dues. with_due dues (cond (counts r day x) (due_as r day ms x.id x.body) None)) (all_due xs ys h.1)
           ∙ ap (with_due (due_of r day news (ys ++ added))) (due_either (changes x.id) x y refl h.0)
 
       -- one that is due is not among those that change
       not_due : (m : KnownMod) → IsMute m.body → NoneCounted ms day m.id → is_due r day ms m ≡ false
-      not_due m h none = by m.live (due_none ms true m.id m.body h none)
+      not_due m h none = by (counts r day m) (due_none ms true m.id m.body h none)
         where
           by : (b : Bool) → due_as r day ms m.id m.body ≡ None → (b && is_some (due_as r day ms m.id m.body)) ≡ false
           by true e = ap is_some e

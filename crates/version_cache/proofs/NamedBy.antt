@@ -52,15 +52,22 @@ module _ (test : ℕ → Bool) where
         none_live ms (none_right (list_any test (cond m.live (days_of m.body) [])) (list_any test (live_days ms)) both),
       )
 
+  none_others : (known : Known) → list_any test (breakpoints known) ≡ false → (list_any test known.source_days || list_any test (live_days known.mods)) ≡ false
+  none_others known h =
+      sym (joined known.source_days (live_days known.mods))
+      ∙ none_right (list_any test (period_days known.act.force)) (list_any test (insert_days known.source_days (live_days known.mods)))
+      (sym (joined (period_days known.act.force) (insert_days known.source_days (live_days known.mods))) ∙ h)
+
   -- where no breakpoint passes a test, no day of a modification that stands does
   pub none_named : (known : Known) → list_any test (breakpoints known) ≡ false → EachDay (λ d. test d ≡ false) known.mods
-  none_named known h =
-      none_live known.mods
-      (none_right (list_any test (period_days known.act.force)) (list_any test (live_days known.mods))
-      (sym (joined (period_days known.act.force) (live_days known.mods)) ∙ h))
+  none_named known h = none_live known.mods (none_right (list_any test known.source_days) (list_any test (live_days known.mods)) (none_others known h))
+
+  -- nor does a day of the works on which the work depends
+  pub none_of_sources : (known : Known) → list_any test (breakpoints known) ≡ false → AllByRecursion (λ d. test d ≡ false) known.source_days
+  none_of_sources known h = none_each known.source_days (none_left (list_any test known.source_days) (list_any test (live_days known.mods)) (none_others known h))
 
 module _ (P Q : ℕ → Type 0) (weaker : (d : ℕ) → P d → Q d) where
-  each_weaker : (days : List ℕ) → AllByRecursion P days → AllByRecursion Q days
+  pub each_weaker : (days : List ℕ) → AllByRecursion P days → AllByRecursion Q days
   each_weaker [] h = tt
   each_weaker (d ∷ ds) h = (weaker d h.0, each_weaker ds h.1)
 

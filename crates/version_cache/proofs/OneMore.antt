@@ -161,7 +161,7 @@ unchanged day [] = tt
 unchanged day (m ∷ ms) = (refl, unchanged day ms)
 
 abbrev known_mod : Id → IdFacts → KnownMod
-known_mod id f = record { id = id; live = is_live f.standing; body = f.body }
+known_mod id f = record { id = id; live = is_live f.standing; body = f.body; carried = None }
 
 -- ids of which one says something else, or stands no longer or again
 module _ (day : ℕ) (other : Id) (g : IdFacts → IdFacts) (old new : List Command)
@@ -375,7 +375,7 @@ record Parts (w : List ℕ) (ls : List Command) (k : Known) : Type 0 where
 parts_by : (w : List ℕ) (v n : ℕ) (ls : List Command) (found : Option (ℕ × Act)) (k : Known) → enacted w ls ≡ found → known_by w v n ls found ≡ Some k → Parts w ls k
 parts_by w v n ls None k enacts is = absurd (let wrong : None ≡ Some k = is in cc)
 parts_by w v n ls (Some found) k enacts is =
-    let is_known : Known = record { act = found.1; enacted = found.0; viewpoint = v; front = n; mods = known_ids ls (ids_of w ls) } in
+    let is_known : Known = record { act = found.1; enacted = found.0; viewpoint = v; front = n; mods = known_ids ls (ids_of w ls); source_days = [] } in
     let same : is_known ≡ k = inner is_known k is in
     record { found = found; enacts = enacts; act = sym (ap (λ (x : Known). x.act) same); mods = sym (ap (λ (x : Known). x.mods) same) }
   where

@@ -10,6 +10,7 @@ use Rattle.law_register.specs.Answer.Breakpoints.{breakpoints}
 use Rattle.law_register.specs.Answer.Replay.{VersionValue, as_enacted, replay_on}
 use Rattle.law_register.proofs.NamedDays.{breakpoints_ascend}
 use Rattle.version_cache.specs.Days.{days_before, last_day, last_until}
+use Rattle.version_cache.specs.Steady.{CarrySteadily}
 use Rattle.version_cache.specs.Tables.{IsRight, IsRightBefore, RevisionValue, RowValue, TableValue, committed, last_version, revision_of, rows_before, rows_on, rows_until}
 use Rattle.version_cache.proofs.LateDays.{days_from, last_by_next, last_joined, none_before_zero}
 use Rattle.version_cache.proofs.Parted.{ascending}
@@ -78,20 +79,20 @@ module _ (known : Known) (table : TableValue) where
   joined before first (Some day) = refl
 
   -- the last row before the touched day has the version of the last breakpoint before it
-  pub last_kept_is : (touched : ℕ) → IsRightBefore known touched table
+  pub last_kept_is : CarrySteadily known → (touched : ℕ) → IsRightBefore known touched table
       → last_version table.enacted (rows_before touched table.rows) ≡ version_or known table.reading (as_enacted known.act) (last_day (days_before touched (breakpoints known)))
-  last_kept_is zero right =
+  last_kept_is steady zero right =
       ap (last_version table.enacted) (none_yet table.rows) ∙ right.enacted
       ∙ sym (ap (λ (ds : List ℕ). version_or known table.reading (as_enacted known.act) (last_day ds)) (none_before_zero zero (breakpoints known)))
-  last_kept_is (suc t) right =
+  last_kept_is steady (suc t) right =
       ap (last_version table.enacted) (by_next t table.rows)
       ∙ right.versions t (omega arith)
-      ∙ replay_by_last known table.reading t
+      ∙ replay_by_last known table.reading steady t
       ∙ ap (version_or known table.reading (as_enacted known.act)) (last_by_next t (breakpoints known))
 
-  revised_on : (touched : ℕ) → IsRightBefore known touched table → (day : ℕ) (b : Bool) → nat_le touched day ≡ b
+  revised_on : CarrySteadily known → (touched : ℕ) → IsRightBefore known touched table → (day : ℕ) (b : Bool) → nat_le touched day ≡ b
       → last_version table.enacted (rows_until day (rows_before touched table.rows ++ rows_on known table.reading (days_from touched (breakpoints known)))) ≡ replay_on known table.reading day
-  revised_on touched right day b is =
+  revised_on steady touched right day b is =
       ap (last_version table.enacted) (filter-append (λ (row : RowValue). nat_le row.day day) (rows_before touched table.rows) (rows_on known table.reading (days_from touched (breakpoints known))))
       ∙ by b is
     where
@@ -104,10 +105,10 @@ module _ (known : Known) (table : TableValue) where
           ap (λ (rows : List RowValue). last_version table.enacted (rows ++ rows_until day (rows_on known table.reading (days_from touched (breakpoints known))))) (early_stay touched day e table.rows)
           ∙ last_joined_rows table.enacted (rows_before touched table.rows) (rows_until day (rows_on known table.reading (days_from touched (breakpoints known))))
           ∙ last_by known table.reading day (last_version table.enacted (rows_before touched table.rows)) (days_from touched (breakpoints known))
-          ∙ ap (λ (before : VersionValue). version_or known table.reading before (last_until day (days_from touched (breakpoints known)))) (last_kept_is touched right)
+          ∙ ap (λ (before : VersionValue). version_or known table.reading before (last_until day (days_from touched (breakpoints known)))) (last_kept_is steady touched right)
           ∙ joined (as_enacted known.act) (last_day (days_before touched (breakpoints known))) (last_until day (days_from touched (breakpoints known)))
           ∙ ap (version_or known table.reading (as_enacted known.act)) (last_joined touched day (breakpoints known) (ascending (breakpoints known) (breakpoints_ascend known)) e)
-          ∙ sym (replay_by_last known table.reading day)
+          ∙ sym (replay_by_last known table.reading steady day)
       by false e =
           ap (λ (rows : List RowValue). last_version table.enacted (rows ++ rows_until day (rows_on known table.reading (days_from touched (breakpoints known))))) (early_all touched day e table.rows)
           ∙ ap (λ (rows : List RowValue). last_version table.enacted (rows_until day table.rows ++ rows)) (late_none touched day e known table.reading (breakpoints known))
@@ -115,10 +116,10 @@ module _ (known : Known) (table : TableValue) where
           ∙ right.versions day (early day touched e)
 
   -- a table with a revision taken is right
-  pub revised_right : (touched : ℕ) → IsRightBefore known touched table → IsRight known (committed table (revision_of table known touched))
-  revised_right touched right = record {
+  pub revised_right : CarrySteadily known → (touched : ℕ) → IsRightBefore known touched table → IsRight known (committed table (revision_of table known touched))
+  revised_right steady touched right = record {
     enacted = right.enacted;
-    versions = λ day. revised_on touched right day (nat_le touched day) refl;
+    versions = λ day. revised_on steady touched right day (nat_le touched day) refl;
   }
 
 pub revision_is : (touched kept number : ℕ) (rows news : List RowValue) → kept ≡ number → rows ≡ news

@@ -6,6 +6,7 @@ use Rattle.law_register.specs.declared.register.known.Known.{Known}
 use Rattle.law_register.specs.Answer.Breakpoints.{breakpoints}
 use Rattle.law_register.specs.Answer.Replay.{VersionValue, as_enacted, replay_on, replayed}
 use Rattle.version_cache.specs.Days.{last_until, order_by}
+use Rattle.version_cache.specs.Steady.{CarrySteadily}
 use Rattle.version_cache.specs.Tables.{RowValue, IsRight, last_version, rows_on, rows_until, table_of}
 use Rattle.version_cache.proofs.LastDay.{order_by_last}
 
@@ -44,23 +45,23 @@ module _ (known : Known) (r : Reading) where
   by_order (Some day) = refl
 
   -- replay from scratch makes of a day the version of the last breakpoint by then
-  pub replay_by_last : (day : ℕ) → replay_on known r day ≡ version_or (as_enacted known.act) (last_until day (breakpoints known))
-  replay_by_last day = ap (replayed known.mods (as_enacted known.act)) (order_by_last day known r) ∙ sym (by_order (last_until day (breakpoints known)))
+  pub replay_by_last : CarrySteadily known → (day : ℕ) → replay_on known r day ≡ version_or (as_enacted known.act) (last_until day (breakpoints known))
+  replay_by_last steady day = ap (replayed known.mods (as_enacted known.act)) (order_by_last day known steady r) ∙ sym (by_order (last_until day (breakpoints known)))
 
   -- a table made is right
-  pub made_right : IsRight known (table_of known r)
-  made_right = record {
+  pub made_right : CarrySteadily known → IsRight known (table_of known r)
+  made_right steady = record {
     enacted = refl;
     versions = λ day.
-        last_by day (as_enacted known.act) (breakpoints known) ∙ sym (replay_by_last day);
+        last_by day (as_enacted known.act) (breakpoints known) ∙ sym (replay_by_last steady day);
   }
 
-  pub made_is_right : (enacted : VersionValue) (rows : List RowValue) → enacted ≡ as_enacted known.act → rows ≡ rows_on known r (breakpoints known)
+  pub made_is_right : CarrySteadily known → (enacted : VersionValue) (rows : List RowValue) → enacted ≡ as_enacted known.act → rows ≡ rows_on known r (breakpoints known)
       → IsRight known (record { reading = r; enacted = enacted; rows = rows })
-  made_is_right enacted rows is_enacted is = record {
+  made_is_right steady enacted rows is_enacted is = record {
     enacted = is_enacted;
     versions = λ day.
         ap (λ (v : VersionValue). last_version v (rows_until day rows)) is_enacted
         ∙ ap (λ (xs : List RowValue). last_version (as_enacted known.act) (rows_until day xs)) is
-        ∙ made_right.versions day;
+        ∙ (made_right steady).versions day;
   }

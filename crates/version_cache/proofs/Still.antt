@@ -1,7 +1,7 @@
 -- Between two days that no named day parts the same bears, and before all named days nothing does.
-use Rattle.std.proofs.Common.{◌≡◌, ◌∙◌, sym, ap, refl, ℕ, ◌≤◌, Bool, true, false, cond, not, ◌&&◌, ◌||◌, nat_le, nat_lt, min, max, List, [], ◌∷◌, map, Option, Some, None, option_map, arith}
+use Rattle.std.proofs.Common.{suc, ◌≡◌, ◌∙◌, sym, ap, refl, subst, ℕ, ◌≤◌, ◌==◌, Bool, true, false, cond, not, ◌&&◌, ◌||◌, nat_le, nat_lt, min, max, List, [], ◌∷◌, map, Option, Some, None, option_map, arith}
 use Rattle.std.proofs.lemmas.Bool.Decides.{nat_tests}
-use Rattle.std.specs.List.{AllByRecursion, list_any}
+use Rattle.std.specs.List.{All, AllByRecursion, list_any}
 use Rattle.desk_base.specs.declared.id.Id.{Id}
 use Rattle.desk_base.specs.declared.period.Period.{Period}
 use Rattle.desk_base.specs.Periods.{includes, is_before_end}
@@ -21,13 +21,17 @@ use Rattle.law_register.specs.declared.law.modification.Destination.{Destination
 use Rattle.law_register.specs.declared.law.modification.Destination.TheVariants as to
 use Rattle.law_register.specs.declared.law.modification.Modification.{Modification}
 use Rattle.law_register.specs.declared.law.modification.Modification.TheVariants.{Textual, Force, Efficacy}
+use Rattle.law_register.specs.declared.register.carried.Carried.{Carried}
 use Rattle.law_register.specs.declared.register.known.Known.{Known}
 use Rattle.law_register.specs.declared.register.known.KnownMod.{KnownMod}
 use Rattle.law_register.specs.Answer.Bearing.{bears_on, efficacy_on, force_on, period_on, start_on}
-use Rattle.law_register.specs.Answer.Breakpoints.{breakpoints, days_of, efficacy_days, end_days, force_date, period_days}
+use Rattle.law_register.specs.Answer.Breakpoints.{breakpoints, days_of, efficacy_days, end_days, force_date, has_day, period_days}
 use Rattle.law_register.specs.Answer.Counted.{is_same, force_from, efficacy_from, take_turn, take_turns, forces_on, efficacies_on}
 use Rattle.law_register.specs.Answer.Order.{due_as, due_from, due_of, order, with_due}
-use Rattle.version_cache.proofs.NamedBy.{EachDay, EachIf, none_named, day_weaker}
+use Rattle.law_register.specs.Answer.Soundness.{AreBoundedBy, IsSteady}
+use Rattle.law_register.specs.Answer.Standing.{counts, is_within, stands_by}
+use Rattle.version_cache.specs.Steady.{CarrySteadily}
+use Rattle.version_cache.proofs.NamedBy.{EachDay, EachIf, none_named, none_of_sources, day_weaker, each_weaker}
 
 turned : {A : Type 0} (P : A → Type 0) (turn : A → Turn) (one : A) (others : List A) → P one → AllByRecursion P others
     → AllByRecursion P (take_turn turn one others)
@@ -212,6 +216,41 @@ module _ (from day : ℕ) where
   inapplied_still (one ∷ others) k =
       ap (λ t. t || is_inapplied others day) (inapplies_still one.effect k.0) ∙ ap (λ t. inapplies one.effect from || t) (inapplied_still others k.1)
 
+  -- what is carried
+  same_day : (d e : ℕ) → (d == e) ≡ true → e ≡ d
+  same_day d e h = grind (arith, nat_tests)
+
+  found_still : (days : List ℕ) → AllByRecursion IsStill days → (d : ℕ) → has_day d days ≡ true → IsStill d
+  found_still [] all d h = absurd (let wrong : false ≡ true = h in cc)
+  found_still (e ∷ es) all d h = by (d == e) refl (found_still es all.1 d) h
+    where
+      by : (b : Bool) → (d == e) ≡ b → (has_day d es ≡ true → IsStill d) → (b || has_day d es) ≡ true → IsStill d
+      by true same rest h = subst IsStill (same_day d e same) all.0
+      by false other rest h = rest h
+
+  within_still : (days : List ℕ) → AllByRecursion IsStill days → (spans : List Period) → AreBoundedBy days spans → is_within spans day ≡ is_within spans from
+  within_still days all [] h = refl
+  within_still days all (p ∷ ps) h =
+      let bounds : AllByRecursion IsStill (period_days p) = each_weaker (λ d. has_day d days ≡ true) IsStill (found_still days all) (period_days p) h.0 in
+      ap (λ t. t || is_within ps day) (includes_still p (period_by_days p bounds)) ∙ ap (λ t. includes p from || t) (within_still days all ps h.1)
+
+  stands_still : (r : Reading) (days : List ℕ) → AllByRecursion IsStill days → (carried : Option Carried) → IsSteady days carried
+      → stands_by r day carried ≡ stands_by r from carried
+  stands_still r days all None h = refl
+  stands_still reading.Force days all (Some carried) h = within_still days all carried.force h.0
+  stands_still reading.Efficacy days all (Some carried) h = within_still days all carried.efficacy h.1
+
+  -- a modification counts on both days, or on neither
+  abbrev CountsStill : Reading → KnownMod → Type 0
+  CountsStill r m = counts r day m ≡ counts r from m
+
+  counts_still : (r : Reading) (days : List ℕ) → AllByRecursion IsStill days → (ms : List KnownMod) → All (λ m. IsSteady days m.carried) ms → AllByRecursion (CountsStill r) ms
+  counts_still r days all [] h = tt
+  counts_still r days all (m ∷ ms) h = (
+    ap (λ b. m.live && b) (stands_still r days all m.carried (h 0 m (omega arith))),
+    counts_still r days all ms (λ k d less. h (suc k) d (omega (arith, less))),
+  )
+
   -- bearing
   module _ (mods : List KnownMod) (each : EachDay IsStill mods) where
     holds_still : (thing : Destination) (p : Period) → StillPeriod p → (efficacy_on mods thing p day).holds ≡ (efficacy_on mods thing p from).holds
@@ -244,28 +283,31 @@ module _ (from day : ℕ) where
     due_as_still r id (Efficacy source destination on effect) h = refl
     due_as_still r id (Textual source own edit) h = ap (option_map (due_from source id)) (start_still r (to.Modification id) own (period_by_days own h))
 
-    live_due_still : (r : Reading) (b : Bool) (id : Id) (body : Modification) → EachIf IsStill b body
-        → cond b (due_as r day mods id body) None ≡ cond b (due_as r from mods id body) None
-    live_due_still r true id body h = due_as_still r id body h
-    live_due_still r false id body h = refl
+    counted_due_still : (r : Reading) (live stands : Bool) (id : Id) (body : Modification) → EachIf IsStill live body
+        → cond (live && stands) (due_as r day mods id body) None ≡ cond (live && stands) (due_as r from mods id body) None
+    counted_due_still r true true id body h = due_as_still r id body h
+    counted_due_still r true false id body h = refl
+    counted_due_still r false stands id body h = refl
 
-    due_still : (r : Reading) (ms : List KnownMod) → EachDay IsStill ms → due_of r day mods ms ≡ due_of r from mods ms
-    due_still r [] h = refl
-    due_still r (m ∷ ms) h =
-        ap (λ dues. with_due dues (cond m.live (due_as r day mods m.id m.body) None)) (due_still r ms h.1)
-        ∙ ap (with_due (due_of r from mods ms)) (live_due_still r m.live m.id m.body h.0)
+    due_still : (r : Reading) (ms : List KnownMod) → EachDay IsStill ms → AllByRecursion (CountsStill r) ms → due_of r day mods ms ≡ due_of r from mods ms
+    due_still r [] h k = refl
+    due_still r (m ∷ ms) h k =
+        ap (λ dues. with_due dues (cond (counts r day m) (due_as r day mods m.id m.body) None)) (due_still r ms h.1 k.1)
+        ∙ ap (λ b. with_due (due_of r from mods ms) (cond b (due_as r day mods m.id m.body) None)) k.0
+        ∙ ap (with_due (due_of r from mods ms)) (counted_due_still r m.live (stands_by r from m.carried) m.id m.body h.0)
 
   between : (d : ℕ) → from ≤ day → (nat_lt from d && nat_le d day) ≡ false → IsStill d
   between d h k = grind (arith, nat_tests)
 
   -- where no breakpoint comes after a day up to a later one, the same bears on both, in the same order
-  pub order_still : (known : Known) (r : Reading) → from ≤ day → list_any (λ d. nat_lt from d && nat_le d day) (breakpoints known) ≡ false
+  pub order_still : (known : Known) → CarrySteadily known → (r : Reading) → from ≤ day → list_any (λ d. nat_lt from d && nat_le d day) (breakpoints known) ≡ false
       → order known r day ≡ order known r from
-  order_still known r later none =
-      let each : EachDay IsStill known.mods =
-      day_weaker (λ d. (nat_lt from d && nat_le d day) ≡ false) IsStill (λ d h. between d later h) known.mods
-      (none_named (λ d. nat_lt from d && nat_le d day) known none) in
-      ap (map (λ due. due.id)) (due_still known.mods each r known.mods each)
+  order_still known steady r later none =
+      let comes : ℕ → Bool = λ d. nat_lt from d && nat_le d day in
+      let each : EachDay IsStill known.mods = day_weaker (λ d. comes d ≡ false) IsStill (λ d h. between d later h) known.mods (none_named comes known none) in
+      let days : AllByRecursion IsStill known.source_days =
+      each_weaker (λ d. comes d ≡ false) IsStill (λ d h. between d later h) known.source_days (none_of_sources comes known none) in
+      ap (map (λ due. due.id)) (due_still known.mods each r known.mods each (counts_still r known.source_days days known.mods steady))
 
 never : {A : Type 0} (b : Bool) (x y : A) → cond (b && false) x y ≡ y
 never true x y = refl
@@ -315,17 +357,18 @@ module _ (day : ℕ) where
         (forces_later thing mods each)
         ∙ ap (λ t. cond t (Some (period_on r mods thing own day).start) None) (own_later r thing own h)
 
-    due_later : (r : Reading) (b : Bool) (id : Id) (body : Modification) → EachIf IsLater b body → cond b (due_as r day mods id body) None ≡ None
-    due_later r false id body h = refl
-    due_later r true id (Force source destination on effect) h = refl
-    due_later r true id (Efficacy source destination on effect) h = refl
-    due_later r true id (Textual source own edit) h = ap (option_map (due_from source id)) (start_later r (to.Modification id) own h.0)
+    due_later : (r : Reading) (live stands : Bool) (id : Id) (body : Modification) → EachIf IsLater live body → cond (live && stands) (due_as r day mods id body) None ≡ None
+    due_later r false stands id body h = refl
+    due_later r true false id body h = refl
+    due_later r true true id (Force source destination on effect) h = refl
+    due_later r true true id (Efficacy source destination on effect) h = refl
+    due_later r true true id (Textual source own edit) h = ap (option_map (due_from source id)) (start_later r (to.Modification id) own h.0)
 
     none_due : (r : Reading) (ms : List KnownMod) → EachDay IsLater ms → due_of r day mods ms ≡ []
     none_due r [] h = refl
     none_due r (m ∷ ms) h =
-        ap (λ dues. with_due dues (cond m.live (due_as r day mods m.id m.body) None)) (none_due r ms h.1)
-        ∙ ap (with_due []) (due_later r m.live m.id m.body h.0)
+        ap (λ dues. with_due dues (cond (counts r day m) (due_as r day mods m.id m.body) None)) (none_due r ms h.1)
+        ∙ ap (with_due []) (due_later r m.live (stands_by r day m.carried) m.id m.body h.0)
 
   -- before all breakpoints nothing bears
   pub order_none : (known : Known) (r : Reading) → list_any (λ d. nat_le d day) (breakpoints known) ≡ false → order known r day ≡ []

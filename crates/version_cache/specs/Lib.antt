@@ -6,5 +6,6 @@ pub mod Rows
 pub mod Working
 pub mod Readings
 pub mod Seen
+pub mod Steady
 pub mod Works
 pub mod Answering

@@ -1,5 +1,5 @@
--- When both readings give the same: no modification that stands changes the efficacy of a textual one.
-use Rattle.std.specs.Prelude.{Bool, true, false, ◌&&◌, List}
+-- When both readings give the same: no modification that stands changes the efficacy of a textual one, or hangs on a provision.
+use Rattle.std.specs.Prelude.{Bool, true, false, ◌&&◌, ◌||◌, List, is_some}
 use Rattle.std.specs.List.{list_any}
 use Rattle.law_register.specs.declared.law.modification.Destination.{Destination}
 use Rattle.law_register.specs.declared.law.modification.Destination.TheVariants as to
@@ -18,6 +18,11 @@ changes_efficacy (Textual source force edit) = false
 changes_efficacy (Force source destination on effect) = false
 changes_efficacy (Efficacy source destination on effect) = is_modification destination
 
--- one of these stands, and changes the efficacy of another
+-- the readings may differ by a modification: it hangs on a provision, which may stand in one of them alone, or changes the efficacy of
+-- another
+abbrev pub parts_readings : KnownMod → Bool
+parts_readings m = is_some m.carried || changes_efficacy m.body
+
+-- one of these stands, and the readings may differ by it
 abbrev pub has_efficacy : List KnownMod → Bool
-has_efficacy mods = list_any (λ m. m.live && changes_efficacy m.body) mods
+has_efficacy mods = list_any (λ m. m.live && parts_readings m) mods

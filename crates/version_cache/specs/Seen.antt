@@ -20,10 +20,12 @@ table_view table = record {
 abbrev pub revision_view : Revision → RevisionValue
 revision_view revision = record { touched = revision.touched; kept = revision.kept; rows = rows_view revision.rows.items }
 
--- what is known of a work, and its tables
+-- what is known of a work by itself, its days, and its tables
 abbrev pub work_view : WorkTables → WorkValue
 work_view tables = record {
   known = tables.known;
+  names = tables.names;
+  days = tables.days;
   force = table_view tables.force;
   efficacy = table_view tables.efficacy;
 }
@@ -32,6 +34,7 @@ work_view tables = record {
 abbrev pub both_view : Revision × Revision → RevisionValue × RevisionValue
 both_view both = (revision_view both.0, revision_view both.1)
 
--- what is known now of a work, and the revisions of its tables
+-- what is known now of a work by itself, its days, and the revisions of its tables
 abbrev pub work_revision_view : WorkRevision → WorkRevisionValue
-work_revision_view revision = record { known = revision.known; tables = option_map both_view revision.tables }
+work_revision_view revision =
+    record { known = revision.known; names = revision.names; days = revision.days; tables = option_map both_view revision.tables }

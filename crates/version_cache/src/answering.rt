@@ -14,7 +14,7 @@ use crate::WorkTables;
 use desk_base::Day;
 use law_register::laws::entries_are_legal;
 use law_register::replay_laws::bare_acts_stay;
-use law_register::{Answer, AskFault, Known, KnownMods, Question, Register, Replayer};
+use law_register::{Answer, AskFault, Days, Known, KnownMods, Question, Register, Replayer};
 use std::alloc::Global;
 
 impl WorkTables {
@@ -52,6 +52,7 @@ impl WorkTables {
             viewpoint: self.known.enacted,
             front: self.known.front,
             mods: KnownMods::new(alloc),
+            source_days: Days::new(alloc),
         };
         bare_acts_stay(&known, question.reading);
         replayer.answer_text(alloc, &known, self.enacted(), question)

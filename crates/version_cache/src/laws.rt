@@ -14,6 +14,7 @@ ghost use Rattle.version_cache.specs.Agreement.{Agree};
 ghost use Rattle.version_cache.specs.Days.{last_until, order_by};
 ghost use Rattle.version_cache.specs.Readings.{has_efficacy};
 ghost use Rattle.version_cache.specs.Seen.{table_view, work_view};
+ghost use Rattle.version_cache.specs.Steady.{CarrySteadily};
 ghost use Rattle.version_cache.specs.Tables.{IsRight, IsRightUntil, table_of};
 ghost use Rattle.version_cache.specs.Works.{AreRightIf, IsAlike, IsFor, IsForIf};
 
@@ -24,12 +25,13 @@ use law_register::{Known, Reading};
 /// Between two breakpoints the text stands still: what bears on a day, and in what order, is what bears on the last breakpoint that
 /// is not after it; before the first breakpoint nothing bears.
 pub fn text_stands_still(_known: &Known, _reading: Reading)
+    requires { CarrySteadily _known.now }
     ensures { (day : ℕ) → order _known.now _reading day
         ≡ order_by _known.now _reading (last_until day (breakpoints _known.now)) }
 {}
 
-/// Where no modification that stands changes the efficacy of a textual one, the same modifications bear on each day in both readings,
-/// in the same order.
+/// Where no modification that stands changes the efficacy of a textual one, and none hangs on a provision, the same modifications bear
+/// on each day in both readings, in the same order.
 pub fn readings_agree_without_efficacy(_known: &Known)
     requires { has_efficacy _known.now.mods ≡ false }
     ensures { (day : ℕ) → order _known.now Efficacy day ≡ order _known.now Force day }
@@ -37,6 +39,7 @@ pub fn readings_agree_without_efficacy(_known: &Known)
 
 /// A table with a row for each breakpoint gives on every day what a replay from scratch gives.
 pub fn rows_of_breakpoints_suffice(_known: &Known, _reading: Reading)
+    requires { CarrySteadily _known.now }
     ensures { IsRight _known.now (table_of _known.now _reading) }
 {}
 

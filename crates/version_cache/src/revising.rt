@@ -2,6 +2,7 @@
 
 ghost use Rattle.std.specs.Prelude.{◌≡◌, ◌+◌, ◌≤◌, ◌++◌, ◌∷◌, IfOk, OnOk, drop, length, map, take, true, vec_capacity, vec_len};
 ghost use Rattle.act_tree.specs.Seen.{is_own};
+ghost use Rattle.law_register.specs.Answer.Breakpoints.{breakpoints};
 ghost use Rattle.law_register.specs.Answer.Costs.{revision_cost};
 ghost use Rattle.law_register.specs.Answer.Order.{order};
 ghost use Rattle.law_register.specs.Answer.Soundness.{IsSound};
@@ -162,11 +163,13 @@ impl Table {
         alloc: Global,
         replayer: &P,
         known: &Known,
+        days: &[Day],
         touched: Day,
         working: &mut Version,
         steps: &mut Steps<L>,
     ) -> Result<Vec<Row>, Memory>
         requires sound { IsSound known.now }
+        requires days { days.now ≡ breakpoints known.now }
         requires right { IsRightBefore known.now touched (table_view self.now) }
         requires own { is_own working.old.tree ≡ true }
         requires last { version_view working.old
@@ -180,9 +183,8 @@ impl Table {
         ensures steps { steps.new
             ≤ steps.old + revision_cost known.now (table_view self.now).reading touched }
     {
-        let days = replayer.breakpoints(alloc, known)?;
-        let count = count_days_before(days.as_slice(), touched);
-        let parts = days.as_slice().split_at(count);
+        let count = count_days_before(days, touched);
+        let parts = days.split_at(count);
         let kept = count_rows_before(self.rows.as_slice(), touched);
         let stay = self.rows.as_slice().split_at(kept);
         let course = Course {
@@ -190,14 +192,7 @@ impl Table {
             reading: self.reading,
             enacted: &self.enacted,
         };
-        let (ids, orders) = orders_behind(
-            alloc,
-            replayer,
-            known,
-            self.reading,
-            days.as_slice(),
-            count,
-        )?;
+        let (ids, orders) = orders_behind(alloc, replayer, known, self.reading, days, count)?;
         let start = Start {
             ids,
             last: last_kept(&self.enacted, stay.0),
@@ -213,6 +208,7 @@ impl Table {
     // The revision of this table with these rows, for which there is room, and with the working version that is that of the last of
     // them.
     fn revised(&self, known: &Known, touched: Day, rows: Vec<Row>, working: Version) -> Revision
+        requires sound { IsSound known.now }
         requires right { IsRightBefore known.now touched (table_view self.now) }
         requires rows { rows_view rows.items
             ≡ rows_on known.now (table_view self.now).reading (breakpoints_from known.now touched) }
@@ -230,6 +226,37 @@ impl Table {
             kept,
             rows,
             working,
+        }
+    }
+
+    // The revision of this table from a day on, by what is known now, whose breakpoints these are.
+    pub(crate) fn revise_on<P: Replayer, L: Ledger>(
+        &mut self,
+        alloc: Global,
+        replayer: &P,
+        known: &Known,
+        days: &[Day],
+        touched: Day,
+        steps: &mut Steps<L>,
+    ) -> Result<Revision, Memory>
+        requires sound { IsSound known.now }
+        requires days { days.now ≡ breakpoints known.now }
+        requires right { IsRightBefore known.now touched (table_view self.old) }
+        ensures same { table_view self.new ≡ table_view self.old }
+        ensures revision { IfOk result
+            (λ revision. revision_view revision ≡ revision_of (table_view self.old) known.now touched) }
+        ensures right { IfOk result
+            (λ revision. IsRight known.now (committed (table_view self.old) (revision_view revision))) }
+        ensures steps { steps.new
+            ≤ steps.old + revision_cost known.now (table_view self.old).reading touched }
+    {
+        let mut working = self.start_from(alloc, touched)?;
+        match self.rows_from(alloc, replayer, known, days, touched, &mut working, steps) {
+            Ok(rows) => Ok(self.revised(known, touched, rows, working)),
+            Err(Memory) => {
+                drop(working);
+                Err(Memory)
+            }
         }
     }
 
@@ -255,14 +282,8 @@ impl Table {
         ensures steps { steps.new
             ≤ steps.old + revision_cost known.now (table_view self.old).reading touched }
     {
-        let mut working = self.start_from(alloc, touched)?;
-        match self.rows_from(alloc, replayer, known, touched, &mut working, steps) {
-            Ok(rows) => Ok(self.revised(known, touched, rows, working)),
-            Err(Memory) => {
-                drop(working);
-                Err(Memory)
-            }
-        }
+        let days = replayer.breakpoints(alloc, known)?;
+        self.revise_on(alloc, replayer, known, days.as_slice(), touched, steps)
     }
 
     /// Takes a revision that was made from this table. It takes no memory.

@@ -25,12 +25,19 @@ fn changes_efficacy(body: &Modification) -> bool
     }
 }
 
-/// Whether one of these stands, and changes the efficacy of another.
+// Whether the readings may differ by it: it hangs on a provision, or changes the efficacy of another.
+fn parts_readings(known: &KnownMod) -> bool
+    ensures { result ≡ readings.parts_readings known.now }
+{
+    known.carried.is_some() || changes_efficacy(&known.body)
+}
+
+/// Whether one of these stands, and hangs on a provision or changes the efficacy of another: whether the readings may differ.
 pub fn has_efficacy(mods: &[KnownMod]) -> bool
     ensures { result ≡ readings.has_efficacy mods.now }
 {
     for known in mods {
-        if known.live && changes_efficacy(&known.body) {
+        if known.live && parts_readings(known) {
             return true;
         }
     }

@@ -1,8 +1,10 @@
-//! WorkTables: what is kept of an enacted work. A clause sees what is known of it, and its tables in both readings (`work_view`).
+//! WorkTables: what is kept of an enacted work. A clause sees what is known of it by itself, the days on which its text may change, and
+//! its tables in both readings (`work_view`).
 
 ghost use Rattle.std.specs.Prelude.{◌≡◌, ◌+◌, ◌-◌, ◌^◌, ◌≤◌, IfOk, Some, length, min, option_map};
 ghost use Rattle.act_tree.specs.Seen.{tree_view};
 ghost use Rattle.law_register.specs.declared.register.known.Known.{Known as KnownValue};
+ghost use Rattle.law_register.specs.Answer.Breakpoints.{breakpoints};
 ghost use Rattle.law_register.specs.Answer.Costs.{revision_cost};
 ghost use Rattle.law_register.specs.Answer.Renewing.{both_costs};
 ghost use Rattle.law_register.specs.Answer.Replay.{as_enacted, replay_on};
@@ -15,14 +17,17 @@ ghost use Rattle.version_cache.specs.Works as works;
 use crate::sharing::has_efficacy;
 use crate::{Revision, Table, WorkRevision};
 use desk_base::{Day, Memory, Steps};
-use law_register::{Known, Reading, Replayer, Version};
+use law_register::{Days, Known, Reading, Replayer, Version};
 use std::alloc::Global;
 use std::sync::ledger::Ledger;
 
-/// What a desk keeps of an enacted work: what is known of it at the front, and its versions by day in both readings.
+/// What a desk keeps of an enacted work: what is known of it at the front by itself, the days on which its text may change, and its
+/// versions by day in both readings.
 #[derive(Debug, Drop)]
 pub struct WorkTables {
     pub(crate) known: Known,
+    pub(crate) names: bool,
+    pub(crate) days: Days,
     pub(crate) force: Table,
     pub(crate) efficacy: Table,
 }
@@ -32,36 +37,41 @@ fn make_efficacy<P: Replayer, L: Ledger>(
     alloc: Global,
     replayer: &P,
     known: &Known,
+    days: &[Day],
     force: &Table,
     steps: &mut Steps<L>,
 ) -> Result<Table, Memory>
     requires sound { IsSound known.now }
+    requires days { days.now ≡ breakpoints known.now }
     requires force { table_view force.now ≡ table_of known.now Reading.Force }
     ensures table { IfOk result (λ table. table_view table ≡ table_of known.now Reading.Efficacy) }
     ensures steps { steps.new ≤ steps.old + revision_cost known.now Reading.Efficacy 0 }
 {
     if has_efficacy(known.mods.as_slice()) {
-        Table::make(alloc, replayer, known, Reading::Efficacy, steps)
+        Table::make_on(alloc, replayer, known, Reading::Efficacy, days, steps)
     } else {
         force.share_in(alloc, Reading::Efficacy)
     }
 }
 
-// The tables of force and of efficacy.
-fn make_both<P: Replayer, L: Ledger>(
+// The days on which the text may change, and the tables of force and of efficacy.
+fn make_all<P: Replayer, L: Ledger>(
     alloc: Global,
     replayer: &P,
     known: &Known,
     steps: &mut Steps<L>,
-) -> Result<(Table, Table), Memory>
+) -> Result<(Days, Table, Table), Memory>
     requires { IsSound known.now }
-    ensures force { IfOk result (λ both. table_view both.0 ≡ table_of known.now Reading.Force) }
-    ensures efficacy { IfOk result (λ both. table_view both.1 ≡ table_of known.now Reading.Efficacy) }
+    ensures days { IfOk result (λ made. made.0 ≡ breakpoints known.now) }
+    ensures force { IfOk result (λ made. table_view made.1 ≡ table_of known.now Reading.Force) }
+    ensures efficacy { IfOk result (λ made. table_view made.2 ≡ table_of known.now Reading.Efficacy) }
     ensures steps { steps.new ≤ steps.old + both_costs known.now (Some 0) }
 {
-    let force = Table::make(alloc, replayer, known, Reading::Force, steps)?;
-    let efficacy = make_efficacy(alloc, replayer, known, &force, steps)?;
-    Ok((force, efficacy))
+    let days = replayer.breakpoints(alloc, known)?;
+    let on = days.as_slice();
+    let force = Table::make_on(alloc, replayer, known, Reading::Force, on, steps)?;
+    let efficacy = make_efficacy(alloc, replayer, known, on, &force, steps)?;
+    Ok((days, force, efficacy))
 }
 
 impl WorkTables {
@@ -77,9 +87,11 @@ impl WorkTables {
         ensures right { IfOk result (λ made. works.IsFor known (work_view made)) }
         ensures steps { steps.new ≤ steps.old + both_costs known (Some 0) }
     {
-        match make_both(alloc, replayer, &known, steps) {
-            Ok((force, efficacy)) => Ok(WorkTables {
-                known,
+        match make_all(alloc, replayer, &known, steps) {
+            Ok((days, force, efficacy)) => Ok(WorkTables {
+                names: known.names_any(),
+                known: known.alone(),
+                days,
                 force,
                 efficacy,
             }),
@@ -90,11 +102,25 @@ impl WorkTables {
         }
     }
 
-    /// What is known of the work.
+    /// What is known of the work by itself.
     pub fn known(&self) -> &Known
         ensures { result.now ≡ (work_view self.now).known }
     {
         &self.known
+    }
+
+    /// Whether a modification of it names a provision.
+    pub fn names_any(&self) -> bool
+        ensures { result ≡ (work_view self.now).names }
+    {
+        self.names
+    }
+
+    /// The days on which its text may change, ascending.
+    pub fn days(&self) -> &[Day]
+        ensures { result.now ≡ (work_view self.now).days }
+    {
+        self.days.as_slice()
     }
 
     /// Its table in a reading.
@@ -132,17 +158,20 @@ impl WorkTables {
         alloc: Global,
         replayer: &P,
         known: &Known,
+        days: &[Day],
         day: Day,
         steps: &mut Steps<L>,
     ) -> Result<Revision, Memory>
         requires sound { IsSound known.now }
+        requires days { days.now ≡ breakpoints known.now }
         requires right { works.AreRightUntil known.now (Some day) (work_view self.old) }
         ensures same { work_view self.new ≡ work_view self.old }
         ensures revision { IfOk result
             (λ revision. revision_view revision ≡ revision_of (work_view self.old).force known.now day) }
         ensures steps { steps.new ≤ steps.old + revision_cost known.now Reading.Force day }
     {
-        self.force.revise(alloc, replayer, known, day, steps)
+        self.force
+            .revise_on(alloc, replayer, known, days, day, steps)
     }
 
     // The revision of the table of efficacy, which shares the versions of that of force where both readings give the same.
@@ -151,11 +180,13 @@ impl WorkTables {
         alloc: Global,
         replayer: &P,
         known: &Known,
+        days: &[Day],
         day: Day,
         force: &Revision,
         steps: &mut Steps<L>,
     ) -> Result<Revision, Memory>
         requires sound { IsSound known.now }
+        requires days { days.now ≡ breakpoints known.now }
         requires right { works.AreRightUntil known.now (Some day) (work_view self.old) }
         requires force { revision_view force.now ≡ revision_of (work_view self.old).force known.now day }
         ensures same { work_view self.new ≡ work_view self.old }
@@ -164,7 +195,8 @@ impl WorkTables {
         ensures steps { steps.new ≤ steps.old + revision_cost known.now Reading.Efficacy day }
     {
         if has_efficacy(known.mods.as_slice()) {
-            self.efficacy.revise(alloc, replayer, known, day, steps)
+            self.efficacy
+                .revise_on(alloc, replayer, known, days, day, steps)
         } else {
             self.efficacy.revise_like(alloc, force)
         }
@@ -175,10 +207,12 @@ impl WorkTables {
         alloc: Global,
         replayer: &P,
         known: &Known,
+        days: &[Day],
         touched: Option<Day>,
         steps: &mut Steps<L>,
     ) -> Result<Option<(Revision, Revision)>, Memory>
         requires sound { IsSound known.now }
+        requires days { days.now ≡ breakpoints known.now }
         requires right { works.AreRightUntil known.now touched (work_view self.old) }
         ensures same { work_view self.new ≡ work_view self.old }
         ensures revisions { IfOk result (λ tables. option_map both_view tables
@@ -188,9 +222,31 @@ impl WorkTables {
         let Some(day) = touched else {
             return Ok(None);
         };
-        let force = self.revise_force(alloc, replayer, known, day, steps)?;
-        let efficacy = self.revise_efficacy(alloc, replayer, known, day, &force, steps)?;
+        let force = self.revise_force(alloc, replayer, known, days, day, steps)?;
+        let efficacy = self.revise_efficacy(alloc, replayer, known, days, day, &force, steps)?;
         Ok(Some((force, efficacy)))
+    }
+
+    // The days on which the text may change now, and the revisions of both tables.
+    fn revise_all<P: Replayer, L: Ledger>(
+        &mut self,
+        alloc: Global,
+        replayer: &P,
+        known: &Known,
+        touched: Option<Day>,
+        steps: &mut Steps<L>,
+    ) -> Result<(Days, Option<(Revision, Revision)>), Memory>
+        requires sound { IsSound known.now }
+        requires right { works.AreRightUntil known.now touched (work_view self.old) }
+        ensures same { work_view self.new ≡ work_view self.old }
+        ensures days { IfOk result (λ made. made.0 ≡ breakpoints known.now) }
+        ensures revisions { IfOk result (λ made. option_map both_view made.1
+            ≡ works.revisions_of (work_view self.old) known.now touched) }
+        ensures steps { steps.new ≤ steps.old + both_costs known.now touched }
+    {
+        let days = replayer.breakpoints(alloc, known)?;
+        let tables = self.revise_both(alloc, replayer, known, days.as_slice(), touched, steps)?;
+        Ok((days, tables))
     }
 
     /// What is to be kept for what is known now, where the tables are right for that before the touched day: both revised from that
@@ -214,8 +270,13 @@ impl WorkTables {
             (λ revision. works.IsFor known (works.renewed (work_view self.old) (work_revision_view revision))) }
         ensures steps { steps.new ≤ steps.old + both_costs known touched }
     {
-        match self.revise_both(alloc, replayer, &known, touched, steps) {
-            Ok(tables) => Ok(WorkRevision { known, tables }),
+        match self.revise_all(alloc, replayer, &known, touched, steps) {
+            Ok((days, tables)) => Ok(WorkRevision {
+                names: known.names_any(),
+                known: known.alone(),
+                days,
+                tables,
+            }),
             Err(Memory) => {
                 drop(known);
                 Err(Memory)
@@ -228,12 +289,19 @@ impl WorkTables {
         requires { works.AreRevisionsOf (work_view self.old) (work_revision_view revision).tables }
         ensures { work_view self.new ≡ works.renewed (work_view self.old) (work_revision_view revision) }
     {
-        let WorkRevision { known, tables } = revision;
+        let WorkRevision {
+            known,
+            names,
+            days,
+            tables,
+        } = revision;
         if let Some((force, efficacy)) = tables {
             self.force.commit(force);
             self.efficacy.commit(efficacy);
         }
         self.known = known;
+        self.names = names;
+        self.days = days;
     }
 
     /// The version that `on` gives once a revision is committed, if there is one. It takes no memory.

@@ -56,15 +56,20 @@ abbrev pub live_days : List KnownMod → List ℕ
 live_days [] = []
 live_days (m ∷ ms) = insert_days (if m.live then days_of m.body else []) (live_days ms)
 
--- the days of the act's force period and of the modifications that stand, ascending, each once
+-- the days of the act's force period and of the modifications that stand, and these others, ascending, each once
+abbrev pub days_with : Known → List ℕ → List ℕ
+days_with known others = insert_days (period_days known.act.force) (insert_days others (live_days known.mods))
+
+-- the days that a work names itself, and those of the works on which it depends, ascending, each once
 abbrev pub breakpoints : Known → List ℕ
-breakpoints known = insert_days (period_days known.act.force) (live_days known.mods)
+breakpoints known = days_with known known.source_days
 
 -- a day is one of these
 abbrev pub has_day : ℕ → List ℕ → Bool
 has_day day days = list_any (λ d. day == d) days
 
--- a day is named by what is known of a work: by the act's force period, or by a modification that stands
+-- a day is named by what is known of a work: by the act's force period, by a work on which it depends, or by a modification that stands
 abbrev pub is_named : Known → ℕ → Bool
 is_named known day =
-    has_day day (period_days known.act.force) || list_any (λ m. m.live && has_day day (days_of m.body)) known.mods
+    has_day day (period_days known.act.force)
+    || (has_day day known.source_days || list_any (λ m. m.live && has_day day (days_of m.body)) known.mods)

@@ -19,6 +19,7 @@ use Rattle.law_register.specs.declared.law.modification.Modification.TheVariants
 use Rattle.law_register.specs.declared.answer.question.Reading.{Reading}
 use Rattle.law_register.specs.Answer.Bearing.{start_on}
 use Rattle.law_register.specs.Answer.Counted.{is_same_id}
+use Rattle.law_register.specs.Answer.Standing.{counts}
 
 -- the day of a work by its IRI: 1 January where it has a year alone; 0 where it names no work
 abbrev pub day_in : Option IriDate → ℕ
@@ -56,11 +57,11 @@ abbrev pub with_due : List Due → Option Due → List Due
 with_due dues None = dues
 with_due dues (Some due) = insert_key due_cmp dues due
 
--- of some of the known modifications of a work, the textual ones that stand and bear on the day, in order
+-- of some of the known modifications of a work, the textual ones that count and bear on the day, in order
 abbrev pub due_of : Reading → ℕ → List KnownMod → List KnownMod → List Due
 due_of reading day mods [] = []
 due_of reading day mods (m ∷ ms) =
-    with_due (due_of reading day mods ms) (if m.live then due_as reading day mods m.id m.body else None)
+    with_due (due_of reading day mods ms) (if counts reading day m then due_as reading day mods m.id m.body else None)
 
 -- the textual modifications of a work that bear on a day, in the order in which they are applied
 abbrev pub due_on : Known → Reading → ℕ → List Due
@@ -70,9 +71,9 @@ due_on known reading day = due_of reading day known.mods known.mods
 abbrev pub order : Known → Reading → ℕ → List Id
 order known reading day = map (λ due. due.id) (due_on known reading day)
 
--- a known modification is due: it stands, is textual, and bears on the day
+-- a known modification is due: it counts, is textual, and bears on the day
 abbrev pub is_due : Reading → ℕ → List KnownMod → KnownMod → Bool
-is_due reading day mods m = m.live && is_some (due_as reading day mods m.id m.body)
+is_due reading day mods m = counts reading day m && is_some (due_as reading day mods m.id m.body)
 
 -- a modification of this id is due
 abbrev pub is_due_id : Known → Reading → ℕ → Id → Bool

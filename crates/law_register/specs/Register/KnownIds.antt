@@ -98,7 +98,7 @@ ids_of work laws = ids_from 1 work laws
 -- an id as it is known
 abbrev pub known_as : Id → Option IdFacts → List KnownMod
 known_as id facts =
-    option_to_list (option_map (λ f. record { id = id; live = is_live f.standing; body = f.body }) facts)
+    option_to_list (option_map (λ f. record { id = id; live = is_live f.standing; body = f.body; carried = None }) facts)
 
 -- these ids as they are known by the law
 abbrev pub known_ids : List Command → List Id → List KnownMod
@@ -114,6 +114,7 @@ known_by work viewpoint front laws (Some found) = Some (record {
   viewpoint = viewpoint;
   front = front;
   mods = known_ids laws (ids_of work laws);
+  source_days = [];
 })
 
 -- what is known of a work at a viewpoint: nothing, if none of the law entries numbered at most so enacts it

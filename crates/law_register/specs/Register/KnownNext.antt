@@ -26,13 +26,13 @@ at_viewpoint viewpoint known = record known { viewpoint = viewpoint }
 
 -- what is known of a work by its act alone, when a law entry had just enacted it
 abbrev pub bare : Known → Known
-bare known = record known { viewpoint = known.enacted; mods = [] }
+bare known = record known { viewpoint = known.enacted; mods = []; source_days = [] }
 
 -- modifications as they are known once a law entry of this number records them, the first of them as this item
 abbrev pub bodies_known : ℕ → ℕ → List Modification → List KnownMod
 bodies_known law item [] = []
 bodies_known law item (body ∷ bodies) =
-    record { id = record { law = law; item = item }; live = true; body = body } ∷ bodies_known law (item + 1) bodies
+    record { id = record { law = law; item = item }; live = true; body = body; carried = None } ∷ bodies_known law (item + 1) bodies
 
 -- what is known of a work once one more law entry records these modifications in it
 abbrev pub with_bodies : List Modification → Known → Known
@@ -68,7 +68,7 @@ known_then work law known = with_bodies (bodies_in work law) (record known { mod
 -- an act as it is known once the law entry of this number has enacted it
 abbrev pub newly_known : ℕ → Act → Known
 newly_known number act =
-    record { act = act; enacted = number; viewpoint = number; front = number; mods = [] }
+    record { act = act; enacted = number; viewpoint = number; front = number; mods = []; source_days = [] }
 
 -- what is known of a work behind so many law entries, after one more: of a work that was not known, only its Enact makes it known
 abbrev pub known_from : ℕ → List ℕ → Command → Option Known → Option Known

@@ -53,7 +53,7 @@ ids_marked number item (b ∷ bodies) = record { law = number; item = item } ∷
 -- an id as it is known, by its mark
 abbrev pub known_told : Id → Standing → Option Modification → List KnownMod
 known_told id standing said =
-    option_to_list (option_map (λ body. record { id = id; live = is_live standing; body = body }) said)
+    option_to_list (option_map (λ body. record { id = id; live = is_live standing; body = body; carried = None }) said)
 
 abbrev pub known_mark : List Entry → Id → Option IdMark → List KnownMod
 known_mark entries id m = option_map_or (λ k. known_told id k.standing (told_at entries k.entry (body_of k.place))) m []

@@ -28,6 +28,15 @@ impl Ids {
     }
 }
 
+impl Days {
+    /// The same days.
+    pub fn copy(&self) -> Result<Days, Memory>
+        ensures { IfOk result (λ days. days ≡ self.now) }
+    {
+        Ok(Days::from(self.items.clone()?))
+    }
+}
+
 impl Unapplied {
     /// The same modifications, with their causes.
     pub fn copy(&self) -> Result<Unapplied, Memory>

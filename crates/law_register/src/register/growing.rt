@@ -12,7 +12,10 @@ ghost use Rattle.law_register.specs.declared.register.limits.TheConstants.{MOST_
 ghost use Rattle.textual_mods.specs.declared.fitting.TheConstants.{MAX_ITEMS};
 
 use crate::laws::entries_are_legal;
-use crate::{Act, Command, Draft, Entry, Known, KnownMod, KnownMods, Modification, Mods, Register};
+use crate::register::carried::copy_carried;
+use crate::{
+    Act, Command, Days, Draft, Entry, Known, KnownMod, KnownMods, Modification, Mods, Register,
+};
 use desk_base::{Id, Memory};
 use frbr_names::WorkName;
 use std::alloc::Global;
@@ -24,6 +27,7 @@ fn add_body(mods: &mut KnownMods, law: u32, item: u16, body: Modification) -> Re
         id: Id { law, item },
         live: true,
         body,
+        carried: None,
     })
 }
 
@@ -76,6 +80,7 @@ fn standing_as(alloc: Global, known: &KnownMod, live: bool) -> Result<KnownMod, 
         id: known.id,
         live,
         body: known.body.copy(alloc)?,
+        carried: copy_carried(&known.carried)?,
     })
 }
 
@@ -87,6 +92,7 @@ fn mod_after(alloc: Global, known: &KnownMod, command: &Command) -> Result<Known
             id: known.id,
             live: known.live,
             body: body.copy(alloc)?,
+            carried: copy_carried(&known.carried)?,
         }),
         Command::Withdraw { id } if *id == known.id => standing_as(alloc, known, false),
         Command::Restore { id } if *id == known.id => standing_as(alloc, known, true),
@@ -147,6 +153,7 @@ fn known_then(
         viewpoint: front,
         front,
         mods: mods_after(alloc, known.mods.as_slice(), &entry.command)?,
+        source_days: known.source_days.copy()?,
     };
     let bodies = bodies_in(alloc, register, &known.act.work, entry)?;
     new.record(bodies)?;
@@ -210,5 +217,6 @@ pub fn known_enacted(
         viewpoint: number,
         front: number,
         mods: KnownMods::new(alloc),
+        source_days: Days::new(alloc),
     })
 }

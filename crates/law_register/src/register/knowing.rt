@@ -16,7 +16,7 @@ ghost use Rattle.textual_mods.specs.declared.fitting.TheConstants.{MAX_ITEMS};
 use crate::register::contents;
 use crate::register::indexes::{BodyMark, EnactedMark, IdMark, Indexes, KnownIds, StepMark};
 use crate::register::marks::{last_on, note_ids};
-use crate::{Entry, Known, KnownMod, KnownMods, Register};
+use crate::{Days, Entry, Known, KnownMod, KnownMods, Register};
 use desk_base::{Id, Memory};
 use frbr_names::WorkName;
 use indexmap::IndexMap;
@@ -159,6 +159,7 @@ fn add_known(
                 id,
                 live: mark.standing.is_live(),
                 body: body.copy(alloc)?,
+                carried: None,
             };
             Ok(mods.push(known)?)
         }
@@ -226,6 +227,7 @@ fn known_of_act(
                 viewpoint,
                 front,
                 mods: known_mods(alloc, entries, &known)?,
+                source_days: Days::new(alloc),
             }))
         }
         None => Ok(None),

@@ -1,9 +1,14 @@
 //! What is known of a work at a viewpoint: its act as enacted, and its modifications.
 
-ghost use Rattle.std.specs.Prelude.{◌≡◌, IfOk};
+ghost use Rattle.std.specs.Prelude.{◌≡◌, IfOk, map};
+ghost use Rattle.std.specs.List.{list_any};
+ghost use Rattle.law_register.specs.Answer.Standing.{alone, mod_alone};
+ghost use Rattle.law_register.specs.Law.Sources.{names_provision};
+ghost use Rattle.law_register.specs.Provisions.Looking.{names_any};
 
+use crate::register::carried::{Carried, copy_carried};
 use crate::series::Series;
-use crate::{Act, Modification};
+use crate::{Act, Days, Modification};
 use desk_base::{Id, Memory};
 use std::alloc::Global;
 
@@ -16,6 +21,8 @@ pub struct KnownMod {
     pub live: bool,
     /// What it says, as it was last recorded or corrected.
     pub body: Modification,
+    /// When the provision stands that makes it, where that is looked at and was found out.
+    pub carried: Option<Carried>,
 }
 
 impl KnownMod {
@@ -27,6 +34,7 @@ impl KnownMod {
             id: self.id,
             live: self.live,
             body: self.body.copy(alloc)?,
+            carried: copy_carried(&self.carried)?,
         })
     }
 }
@@ -60,9 +68,49 @@ pub struct Known {
     pub front: u32,
     /// Its modifications.
     pub mods: KnownMods,
+    /// The days on which the texts of the works may change on which it depends, where that was found out.
+    pub source_days: Days,
+}
+
+// Lets go what modifications carry.
+fn let_go(mods: &mut [KnownMod])
+    ensures { mods.new ≡ map mod_alone mods.old }
+{
+    for known in mods.iter_mut() {
+        known.carried = None;
+    }
+}
+
+// Whether one of these names a provision.
+fn name_any(mods: &[KnownMod]) -> bool
+    ensures { result ≡ list_any (λ m. names_provision m.body) mods.now }
+{
+    for known in mods {
+        if known.body.source().provision.is_some() {
+            return true;
+        }
+    }
+    false
 }
 
 impl Known {
+    /// Whether a modification of the work names the provision that makes it. It takes no memory.
+    pub fn names_any(&self) -> bool
+        ensures { result ≡ names_any self.now }
+    {
+        name_any(self.mods.as_slice())
+    }
+
+    /// The same work with nothing carried. It takes no memory.
+    pub fn alone(self) -> Known
+        ensures { result ≡ alone self }
+    {
+        let mut known = self;
+        let_go(known.mods.items.as_mut_slice());
+        known.source_days.items.clear();
+        known
+    }
+
     /// The same work as it is known; its texts and nodes are shared.
     pub fn copy(&self, alloc: Global) -> Result<Known, Memory>
         ensures { IfOk result (λ copy. copy ≡ self.now) }
@@ -73,6 +121,7 @@ impl Known {
             viewpoint: self.viewpoint,
             front: self.front,
             mods: self.mods.copy(alloc)?,
+            source_days: self.source_days.copy()?,
         })
     }
 }

@@ -1,6 +1,6 @@
 use Rattle.std.proofs.Common.{rules, ◌≡◌, ◌∙◌, ap, drop}
 use Rattle.law_register.specs.Register.LawList.{laws}
-use Rattle.source_provisions.specs.Line.{line_of}
+use Rattle.law_register.specs.Provisions.Line.{line_of}
 use Rattle.held_provisions.specs.Placing.{works_of}
 use Rattle.held_provisions.proofs.Placed.{whole_line}
 use Rattle.held_provisions.proofs.lines.line_of_register.Goals as goal

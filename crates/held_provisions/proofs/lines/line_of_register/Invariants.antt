@@ -2,7 +2,7 @@
 use Rattle.std.proofs.Common.{◌≡◌, drop}
 use Rattle.law_register.specs.Register.LawList.{laws}
 use Rattle.held_provisions.specs.Placing.{works_of}
-use Rattle.source_provisions.specs.Line.{line_of}
+use Rattle.law_register.specs.Provisions.Line.{line_of}
 use Rattle.held_provisions.proofs.lines.line_of_register.Given as goal
 
 abbrev pub invariant-loop-index : goal.invariant-loop-index

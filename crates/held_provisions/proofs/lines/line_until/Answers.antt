@@ -2,7 +2,7 @@ use Rattle.std.proofs.Common.{rules, ◌≡◌, ◌∙◌, ap, drop, take}
 use Rattle.law_register.specs.Register.LawList.{laws}
 use Rattle.held_provisions.specs.Placing.{works_of}
 use Rattle.held_provisions.proofs.Until.{line_told}
-use Rattle.source_provisions.specs.Line.{line_of}
+use Rattle.law_register.specs.Provisions.Line.{line_of}
 use Rattle.held_provisions.proofs.lines.line_until.Goals as goal
 
 pub returns : goal.returns

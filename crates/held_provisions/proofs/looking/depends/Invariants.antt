@@ -1,7 +1,7 @@
 -- None of those passed comes from there, so the rest decides.
 use Rattle.std.proofs.Common.{◌≡◌, drop, map}
 use Rattle.std.specs.List.{list_any}
-use Rattle.source_provisions.specs.Depending.{comes_from}
+use Rattle.law_register.specs.Provisions.Depending.{comes_from}
 use Rattle.held_provisions.proofs.looking.depends.Given as goal
 
 abbrev pub invariant-loop-one : goal.invariant-loop-one

@@ -3,13 +3,12 @@ use Rattle.std.proofs.lemmas.List.{drop_more, map_push}
 use Rattle.std.specs.List.{sum_by}
 use Rattle.law_register.specs.declared.register.known.Known.{Known}
 use Rattle.law_register.specs.Answer.Soundness.{IsSound}
-use Rattle.held_provisions.specs.declared.made.Made.{Made}
-use Rattle.held_provisions.specs.Making.{days_made, known_made, table_made}
-use Rattle.held_provisions.specs.Sources.{IsKeptFor}
-use Rattle.held_provisions.proofs.MadeAll.{all_first, all_later, all_one_more, are_ahead, have_later}
+use Rattle.law_register.specs.Answer.Standing.{alone}
+use Rattle.law_register.specs.Provisions.Costs.{full}
+use Rattle.law_register.specs.Provisions.Line.{work_in}
+use Rattle.version_cache.specs.declared.work_tables.WorkTables.{WorkTables}
+use Rattle.held_provisions.proofs.MadeAll.{IsMade, all_first, all_later, all_one_more, are_sources, have_first, have_later, known_made}
 use Rattle.held_provisions.proofs.Spent.{spent_by, spent_on}
-use Rattle.source_provisions.specs.Costs.{full}
-use Rattle.source_provisions.specs.Line.{work_in}
 use Rattle.held_provisions.proofs.making.make_all.Goals as goal
 
 pub make-requires-clause-there : goal.make-requires-clause-there
@@ -22,6 +21,15 @@ make-requires-clause-there g c =
     let cut : drop i all ≡ known ∷ drop (i + 1) all = drop_more all i known within ∙ ap (λ (k : Known). k ∷ drop (i + 1) all) (sym c.known-item.is) in
     all_first (λ (k : Known). work_in k.act.work line ≡ Some k) known (drop (i + 1) all) (drop i all) cut c.loop-known.invariant.there
 
+pub make-requires-clause-alone : goal.make-requires-clause-alone
+make-requires-clause-alone g c =
+    let all : List Known = c.args.needed.now in
+    let i : ℕ = c.loop-known.known-index in
+    let known : Known = c.known-item.result in
+    let within : i < length all = search rules in
+    let cut : drop i all ≡ known ∷ drop (i + 1) all = drop_more all i known within ∙ ap (λ (k : Known). k ∷ drop (i + 1) all) (sym c.known-item.is) in
+    all_first (λ (k : Known). alone k ≡ k) known (drop (i + 1) all) (drop i all) cut c.loop-known.invariant.alone
+
 pub make-requires-clause-sources : goal.make-requires-clause-sources
 make-requires-clause-sources g c =
     let line : List Known = map g.T.InLine.known_of c.args.works.now in
@@ -30,8 +38,8 @@ make-requires-clause-sources g c =
     let known : Known = c.known-item.result in
     let within : i < length all = search rules in
     let cut : drop i all ≡ known ∷ drop (i + 1) all = drop_more all i known within ∙ ap (λ (k : Known). k ∷ drop (i + 1) all) (sym c.known-item.is) in
-    are_ahead line c.loop-known.made.items c.as_slice.result.now (drop i all) (drop (i + 1) all) known cut c.as_slice.ensures.value
-    c.loop-known.invariant.right c.loop-known.invariant.ahead
+    are_sources line known c.loop-known.made c.loop-known.invariant.right
+    (have_first line (map known_made c.loop-known.made.made.items) (drop i all) (drop (i + 1) all) known cut c.loop-known.invariant.ahead)
 
 pub make-requires-clause-sound : goal.make-requires-clause-sound
 make-requires-clause-sound g c =
@@ -71,8 +79,8 @@ loop-known-preserved g c =
     let all : List Known = c.args.needed.now in
     let i : ℕ = c.loop-known.known-index in
     let known : Known = c.known-item.result in
-    let made : List Made = c.loop-known.made.items in
-    let next : Made = c.in_ok-next.next in
+    let made : List WorkTables = c.loop-known.made.made.items in
+    let next : WorkTables = c.in_ok-next.next in
     let within : i < length all = search rules in
     let cut : drop i all ≡ known ∷ drop (i + 1) all = drop_more all i known within ∙ ap (λ (k : Known). k ∷ drop (i + 1) all) (sym c.known-item.is) in
     let more : map known_made c.push.new.self.items ≡ map known_made made ++ known ∷ [] =
@@ -83,11 +91,10 @@ loop-known-preserved g c =
           ∙ append_assoc (map known_made made) (known ∷ []) (drop (i + 1) all)
           ∙ ap (λ (ks : List Known). map known_made made ++ ks) (sym cut)
           ∙ c.loop-known.invariant.known;
-      right =
-          all_one_more (IsKeptFor known_made table_made days_made line) made c.push.new.self.items next c.in_ok-push.ensures.items
-          c.loop-known.invariant.right c.in_ok-next.ensures.right;
+      right = all_one_more (IsMade line) made c.push.new.self.items next c.in_ok-push.ensures.items c.loop-known.invariant.right c.in_ok-next.ensures.right;
       there = all_later (λ (k : Known). work_in k.act.work line ≡ Some k) known (drop (i + 1) all) (drop i all) cut c.loop-known.invariant.there;
       ahead = have_later line (map known_made made) (map known_made c.push.new.self.items) (drop i all) (drop (i + 1) all) known cut more c.loop-known.invariant.ahead;
+      alone = all_later (λ (k : Known). alone k ≡ k) known (drop (i + 1) all) (drop i all) cut c.loop-known.invariant.alone;
       sound = all_later IsSound known (drop (i + 1) all) (drop i all) cut c.loop-known.invariant.sound;
       steps =
           spent_on cost known (drop (i + 1) all) (drop i all) c.loop-known.steps c.make.new.steps (c.args.steps.now + sum_by cost all) cut

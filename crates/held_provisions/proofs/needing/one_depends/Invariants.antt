@@ -1,7 +1,7 @@
 -- None of those passed depends on the work, so the rest decides.
 use Rattle.std.proofs.Common.{◌≡◌, drop, map}
 use Rattle.std.specs.List.{list_any}
-use Rattle.source_provisions.specs.Depending.{depends}
+use Rattle.law_register.specs.Provisions.Depending.{depends}
 use Rattle.held_provisions.proofs.needing.one_depends.Given as goal
 
 abbrev pub invariant-loop-one : goal.invariant-loop-one

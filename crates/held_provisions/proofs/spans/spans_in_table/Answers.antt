@@ -5,7 +5,7 @@ use Rattle.law_register.specs.Answer.Versions.{version_view}
 use Rattle.held_provisions.specs.Kept as kept
 use Rattle.held_provisions.specs.Kept.{stands_by_version}
 use Rattle.held_provisions.specs.Walking.{spans_after}
-use Rattle.source_provisions.specs.Spans.{spans_of}
+use Rattle.law_register.specs.Provisions.Spans.{spans_of}
 use Rattle.version_cache.specs.Seen.{revision_view, table_view}
 use Rattle.held_provisions.proofs.Walked.{same_reading, walked, walked_all}
 use Rattle.held_provisions.proofs.spans.spans_in_table.Goals as goal

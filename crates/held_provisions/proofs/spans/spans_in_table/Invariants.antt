@@ -2,7 +2,7 @@
 use Rattle.std.proofs.Common.{◌≡◌, ◌++◌, drop, option_map}
 use Rattle.held_provisions.specs.Kept as kept
 use Rattle.held_provisions.specs.Walking.{spans_after}
-use Rattle.source_provisions.specs.Spans.{spans_of}
+use Rattle.law_register.specs.Provisions.Spans.{spans_of}
 use Rattle.version_cache.specs.Seen.{revision_view, table_view}
 use Rattle.held_provisions.proofs.spans.spans_in_table.Given as goal
 

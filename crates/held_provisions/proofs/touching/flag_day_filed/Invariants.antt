@@ -1,6 +1,6 @@
 -- The first day of those passed, from the last on.
 use Rattle.std.proofs.Common.{◌≡◌, drop, map}
-use Rattle.source_provisions.specs.Touching as spec
+use Rattle.law_register.specs.Provisions.Touching as spec
 use Rattle.held_provisions.proofs.touching.flag_day_filed.Given as goal
 
 abbrev pub invariant-loop-index : goal.invariant-loop-index

@@ -1,5 +1,7 @@
-use Rattle.std.proofs.Common.{◌≡◌, ◌∙◌, sym, ap, subst, arith, Option, Some}
+use Rattle.std.proofs.Common.{◌≡◌, ◌∙◌, ◌++◌, ◌∷◌, [], sym, ap, subst, arith, Option, Some}
 use Rattle.law_register.specs.declared.register.known.Known.{Known}
+use Rattle.law_register.specs.Register.LawList.{front}
+use Rattle.law_register.proofs.CarryingNothing.{known_at_alone}
 use Rattle.law_register.proofs.Grown.{if_ok}
 use Rattle.version_cache.specs.Seen.{work_view}
 use Rattle.version_cache.specs.Works.{IsFor, IsForIf, WorkValue, work_of}
@@ -19,12 +21,14 @@ returns-clause-right g c =
 pub returns-clause-made : goal.returns-clause-made
 returns-clause-made g c =
     if_ok c.make.result (λ made. work_view made ≡ work_of c.in_ok-known.known) _
-    (λ made is. is ∙ ap work_of (sym (ap (λ (w : WorkValue). w.known) is))) c.make.ensures.made
+    (λ made is. is ∙ ap work_of (sym (ap (λ (w : WorkValue). w.known) is ∙ known_at_alone (c.args.register.now.entries ++ c.args.entry.now ∷ []) c.args.act.now.work
+    (front (c.args.register.now.entries ++ c.args.entry.now ∷ [])) c.in_ok-known.known c.in_ok-known.ensures.known))) c.make.ensures.made
 
 pub returns-clause-known : goal.returns-clause-known
 returns-clause-known g c =
     if_ok c.make.result (λ made. work_view made ≡ work_of c.in_ok-known.known) _
-    (λ made is. c.in_ok-known.ensures.known ∙ ap Some (sym (ap (λ (w : WorkValue). w.known) is))) c.make.ensures.made
+    (λ made is. c.in_ok-known.ensures.known ∙ ap Some (sym (ap (λ (w : WorkValue). w.known) is ∙ known_at_alone (c.args.register.now.entries ++ c.args.entry.now ∷ []) c.args.act.now.work
+    (front (c.args.register.now.entries ++ c.args.entry.now ∷ [])) c.in_ok-known.known c.in_ok-known.ensures.known))) c.make.ensures.made
 
 pub returns-clause-steps : goal.returns-clause-steps
 returns-clause-steps g c = omega (arith, c.make.ensures.steps, c.bare_acts_stay.ensures.costs (Some 0))

@@ -4,6 +4,8 @@ use Rattle.law_register.specs.Answer.Renewing.{both_costs}
 use Rattle.law_register.specs.Answer.Touched.{touched_days, work_entered}
 use Rattle.law_register.specs.Register.KnownNext.{known_now, up_to}
 use Rattle.law_register.specs.Register.LawList.{front, law_of}
+use Rattle.law_register.specs.Answer.Standing.{alone}
+use Rattle.law_register.proofs.CarryingNothing.{known_at_alone}
 use Rattle.law_register.proofs.Grown.{if_ok}
 use Rattle.version_cache.specs.Seen.{work_revision_view, work_view}
 use Rattle.version_cache.specs.Works.{AreRightUntil, IsFor, IsForIf, WorkRevisionValue, renewed, work_revision_of}
@@ -57,9 +59,17 @@ returns-clause-right g c =
 
 pub returns-clause-made : goal.returns-clause-made
 returns-clause-made g c =
+    let es = c.args.register.now.entries in
+    let e = c.args.entry.now in
+    let w = c.args._work.now in
     let kept = work_view c.args.kept.now in
-    if_ok c.revise.result (λ r. work_revision_view r ≡ work_revision_of kept c.in_ok-known.known c.in_ok-day.day) _
-    (λ r is. is ∙ ap₂ (work_revision_of kept) (sym (ap (λ (v : WorkRevisionValue). v.known) is)) c.in_ok-day.ensures) c.revise.ensures.revision
+    let new = c.in_ok-known.known in
+    let is : known_now (es ++ e ∷ []) w ≡ Some new =
+    subst (λ (x : List ℕ). known_now (es ++ e ∷ []) x ≡ Some new)
+    (ap (λ (k : Known). k.act.work) c.known-old.ensures ∙ kept_named es w kept c.requires.right) c.in_ok-known.ensures.known in
+    let itself : alone new ≡ new = known_at_alone (es ++ e ∷ []) w (front (es ++ e ∷ [])) new is in
+    if_ok c.revise.result (λ r. work_revision_view r ≡ work_revision_of kept new c.in_ok-day.day) _
+    (λ r made. made ∙ ap₂ (work_revision_of kept) (sym (ap (λ (v : WorkRevisionValue). v.known) made ∙ itself)) c.in_ok-day.ensures) c.revise.ensures.revision
 
 pub returns-clause-known : goal.returns-clause-known
 returns-clause-known g c =
@@ -72,7 +82,8 @@ returns-clause-known g c =
     subst (λ (x : List ℕ). known_now (es ++ e ∷ []) x ≡ Some new)
     (ap (λ (k : Known). k.act.work) c.known-old.ensures ∙ kept_named es w kept c.requires.right) c.in_ok-known.ensures.known in
     if_ok c.revise.result (λ r. work_revision_view r ≡ work_revision_of kept new c.in_ok-day.day) _
-    (λ r made. is ∙ ap Some (sym (ap (λ (v : WorkRevisionValue). v.known) made))) c.revise.ensures.revision
+    (λ r made.
+    is ∙ ap Some (sym (ap (λ (v : WorkRevisionValue). v.known) made ∙ known_at_alone (es ++ e ∷ []) w (front (es ++ e ∷ [])) new is))) c.revise.ensures.revision
 
 pub returns-clause-steps : goal.returns-clause-steps
 returns-clause-steps g c =

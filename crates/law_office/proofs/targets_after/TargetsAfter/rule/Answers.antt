@@ -1,6 +1,8 @@
 use Rattle.std.proofs.Common.{◌∙◌, sym, subst, option_map, Option, List}
 use Rattle.frbr_names.specs.ExpressionViews.{expression_view}
 use Rattle.law_register.specs.Register.KnownNext.{known_now}
+use Rattle.law_register.specs.Register.LawList.{front}
+use Rattle.law_register.proofs.CarryingNothing.{known_at_alone}
 use Rattle.version_cache.specs.Works.{WorkValue}
 use Rattle.version_cache.proofs.Answered.{for_itself}
 use Rattle.law_office.specs.Tables.{Matches}
@@ -16,7 +18,7 @@ rule-requires c =
     let self = c.self.inside in
     let es = with_entry self.register.now.entries (option_map (λ e. e.now) self.entry) in
     let work = c.args.target.now.work.text.now in
-    for_itself (known_now es work) (then_view c.in-Some.kept)
+    for_itself (known_now es work) (then_view c.in-Some.kept) (known_at_alone es work (front es))
     (subst (λ (k : Option WorkValue). Matches (known_now es work) k) (sym c.in-Some.ensures) (c.self.invariant.right work))
 
 pub returns-in-Some : goal.returns-in-Some

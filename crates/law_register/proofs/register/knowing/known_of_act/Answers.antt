@@ -1,4 +1,4 @@
-use Rattle.std.proofs.Common.{◌∙◌, ap, List, take, Option, Some, option_map}
+use Rattle.std.proofs.Common.{◌∙◌, ap, ℕ, List, [], take, Option, Some, option_map}
 use Rattle.indexmap.specs.IndexMap.{get_by}
 use Rattle.desk_base.specs.declared.id.Id.{Id}
 use Rattle.law_register.specs.declared.law.act.Act.{Act}
@@ -21,7 +21,9 @@ returns-in_ok-known_mods-in-Some c =
     let T = take v (laws E) in
     let known = c.in_ok-known-in-Some in
     let mark : Id → Option IdMark = λ i. get_by (is_same_id i) known.known.marks in
-    let as_known : Act → List KnownMod → Option Known = λ act mods. Some (record { act = act; enacted = n; viewpoint = v; front = c.args.front; mods = mods }) in
-    ap (λ act. as_known act c.in_ok-known_mods-in-Some.field-0) c.in_ok-copy-in-Some.ensures
-    ∙ ap (as_known c.in-Some.act.now) (c.in_ok-known_mods-in-Some.ensures ∙ ap (known_marks E mark) known.ensures.ids ∙ work_known E w T mark known.ensures.marks)
+    let as_known : Act → List KnownMod → List ℕ → Option Known =
+    λ act mods days. Some (record { act = act; enacted = n; viewpoint = v; front = c.args.front; mods = mods; source_days = days }) in
+    ap (λ act. as_known act c.in_ok-known_mods-in-Some.field-0 c.new.result) c.in_ok-copy-in-Some.ensures
+    ∙ ap (as_known c.in-Some.act.now c.in_ok-known_mods-in-Some.field-0) c.new.ensures
+    ∙ ap (λ (mods : List KnownMod). as_known c.in-Some.act.now mods []) (c.in_ok-known_mods-in-Some.ensures ∙ ap (known_marks E mark) known.ensures.ids ∙ work_known E w T mark known.ensures.marks)
     ∙ ap (λ act. known_by w v c.args.front T (option_map (λ (a : Act). (n, a)) act)) c.in-Some.ensures

@@ -43,4 +43,4 @@ returns-clause-right c =
     (sym (revision_is t c.count_rows_before-kept.result (length (rows_before t (rows_view c.args.self.now.rows.items))) (rows_view c.args.rows.items)
     (rows_on known c.args.self.now.reading (breakpoints_from known t))
     (c.count_rows_before-kept.ensures.count ∙ ap (λ (xs : List Row). length (rows_before t (rows_view xs))) c.as_slice.ensures.value) c.requires.rows))
-    (revised_right known (table_view c.args.self.now) t c.requires.right)
+    (revised_right known (table_view c.args.self.now) c.requires.sound.steady t c.requires.right)

@@ -7,12 +7,12 @@ use Rattle.version_cache.specs.Seen.{revision_view, work_view}
 use Rattle.version_cache.proofs.OneVersion.{revised_like}
 use Rattle.version_cache.proofs.work_tables.WorkTables.revise_efficacy.Goals as goal
 
-pub revise-requires-clause-right : goal.revise-requires-clause-right
-revise-requires-clause-right g c = c.requires.right.right Efficacy
+pub revise_on-requires-clause-right : goal.revise_on-requires-clause-right
+revise_on-requires-clause-right g c = c.requires.right.right Efficacy
 
 pub returns-then-has_efficacy-clause-steps : goal.returns-then-has_efficacy-clause-steps
 returns-then-has_efficacy-clause-steps g c =
-    subst (λ r. c.revise.new.steps ≤ c.args.steps.now + revision_cost c.args.known.now r c.args.day) (c.requires.right.readings Efficacy) c.revise.ensures.steps
+    subst (λ r. c.revise_on.new.steps ≤ c.args.steps.now + revision_cost c.args.known.now r c.args.day) (c.requires.right.readings Efficacy) c.revise_on.ensures.steps
 
 pub returns-else-has_efficacy-clause-revision : goal.returns-else-has_efficacy-clause-revision
 returns-else-has_efficacy-clause-revision g c =

@@ -1,6 +1,0 @@
--- The days passed, and the rest.
-use Rattle.std.proofs.Common.{◌≡◌, ◌++◌}
-use Rattle.held_provisions.proofs.holding.listed.Given as goal
-
-abbrev pub invariant-loop-day : goal.invariant-loop-day
-invariant-loop-day l = l.items.items ++ l.day-iterator ≡ l.days.keys
