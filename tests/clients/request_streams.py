@@ -7,7 +7,7 @@ import tempfile
 import checks
 from checks import SAID, check, said_over_a_folder, said_to_a_full_device, to_a_full_device
 from clients.messages import WORDS, at_most, batch, bytewise, check_written, closed, cut_at, drained
-from rows import histories, queries, refusals, wide
+from rows import held, histories, queries, refusals, wide
 
 
 def short_streams():
@@ -26,7 +26,7 @@ def told(rows):
 
 def whole_histories():
     """Each in one piece, and byte by byte; of the longest so the heads and the ends of bodies."""
-    for name, rows in [*histories.HISTORIES.items(), *wide.HISTORIES.items()]:
+    for name, rows in [*histories.HISTORIES.items(), *wide.HISTORIES.items(), *held.HISTORIES.items()]:
         given, wanted = told(rows)
         check_written(name, batch(given), (0, wanted))
         by_bytes = cut_at(*near_ends(rows)) if rows in (histories.LARGEST, wide.WIDEST) else bytewise
@@ -100,7 +100,7 @@ def streams():
     """Each stream of these rows in one piece: its name, the stream, the status and what is to be written."""
     for name, (given, wanted, status) in histories.SHORT.items():
         yield name, given, (status, wanted)
-    for name, rows in [*histories.HISTORIES.items(), *wide.HISTORIES.items()]:
+    for name, rows in [*histories.HISTORIES.items(), *wide.HISTORIES.items(), *held.HISTORIES.items()]:
         given, wanted = told(rows)
         yield name, given, (0, wanted)
     yield from refused()

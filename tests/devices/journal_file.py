@@ -11,7 +11,7 @@ import checks
 from checks import check, to_a_full_device
 from clients.messages import at_most, check_written, response
 from models import entry_bytes, failing_keepers
-from rows import histories, wide
+from rows import held, histories, wide
 
 JOURNAL = "lawdesk.jnl"
 MAGIC = b"AKNLAW01"
@@ -46,7 +46,7 @@ def entries_of(rows):
 
 def runs_of_one_request():
     """Each request of a history by a run of its own is answered as all of them by one, and the register is that of them all."""
-    for name, rows in [*histories.HISTORIES.items(), *wide.HISTORIES.items()]:
+    for name, rows in [*histories.HISTORIES.items(), *wide.HISTORIES.items(), *held.HISTORIES.items()]:
         with checks.folder() as folder:
             for given, wanted in rows:
                 check_written(f"{name}, a run for each request", called(folder, "batch", given), (0, wanted))

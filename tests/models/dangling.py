@@ -3,7 +3,7 @@ anew, in the text of its work as it is on the day that the reference names. A la
 """
 import re
 
-from models.held import breakpoints, known, level, provision_of
+from models.held import breakpoints, known, level, trees
 
 EXPRESSION = re.compile(r"(/akn/.*)/([a-z]{3})@(\d{4}-\d\d-\d\d)?(?:/!main)?(?:/?~([A-Za-z0-9_-]+))?")
 
@@ -21,14 +21,20 @@ class Texts:
     """The texts of a law in force: of each work on any day, or as it was enacted."""
 
     def __init__(self, law):
-        self.works, self.made = known(law), {}
+        self.works, self.texts, self.made = known(law), {}, {}
+
+    def text(self, uri, day):
+        """The provisions of a work on a day, or as it was enacted where there is none. The texts of a day are reckoned once."""
+        if not day:
+            return self.works[uri].enacted
+        if day not in self.texts:
+            self.texts[day] = trees(self.works, "force", day)
+        return self.texts[day][uri][0]
 
     def on(self, uri, day):
         """The eIds of a text with the references of each provision."""
         if (uri, day) not in self.made:
-            work = self.works[uri]
-            body = work.replay(work.due("force", day, lambda source: True))[0] if day else [provision_of(node, "", False) for node in work.act["body"]]
-            self.made[uri, day] = [(eid, provision.refs) for eid, provision in named(body)]
+            self.made[uri, day] = [(eid, provision.refs) for eid, provision in named(self.text(uri, day))]
         return self.made[uri, day]
 
     def cause(self, ref):

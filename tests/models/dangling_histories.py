@@ -2,7 +2,6 @@
 the index that a desk has kept up to date since its first entry, over a keeper that fails here and there, and beside the tables of reports over a
 register that is kept.
 """
-import datetime
 import time
 
 import checks
@@ -12,42 +11,28 @@ from devices.journal_file import called
 from models import held_histories
 from models.dangling import Texts
 from models.failing_keepers import FAULT, open_line, opened
+from models.held_histories import ALL_DAYS, around
 from models.office_tables import Keeper
 from rows.dangling import dangling
 from rows.dossiers import node
-from rows.register import NONE, add, drop, file
+from rows.register import NONE
 from rows.reports import reported, text_of
 from rows.sessions import lines_of
 
-WORKS, COMMANDS, HISTORIES, KEPT = 6, 16, 300, 40
+WORKS, COMMANDS, HISTORIES, KEPT, NAMED = 6, 16, 300, 40, (0, 0.5, 0.9)
 CAUSES = {1: "UnknownWork", 3: "NotYetEnacted", 4: "OtherLanguage", 5: "UnknownPortion"}
 PORTIONS = ["sec_1", "sec_2", "sec_3", "sec_3__para_a", "sec_3__para_b", "sec_9"]
 
 
-def around(days):
-    """Days, each with the one before it and the one after it."""
-    one = datetime.timedelta(days=1)
-    parsed = [datetime.date.fromisoformat(day) for day in days]
-    return sorted({str(day + shift * one) for day in parsed for shift in (-1, 0, 1)})
+class Course(held_histories.Drafting):
+    """A history with references. In some no source names a provision."""
 
-
-VERSIONS = around({*held_histories.DAYS, *held_histories.ACT_DAYS})
-
-
-class Course(held_histories.Course):
-    """A history with references, and with a draft beside it. What is law behind each line stands in `laws`."""
-
-    def __init__(self, seed):
-        self.laws, self.drafted, self.added = [], [], 0
-        super().__init__(seed, WORKS, COMMANDS, least=WORKS)
-
-    def source(self):
-        """A source that names no provision."""
-        return {"href": self.draw.choice(self.uris), "place": self.draw.randrange(4)}
+    def __init__(self, seed, named):
+        super().__init__(seed, WORKS, COMMANDS, least=WORKS, named=named)
 
     def ref(self):
         uri = self.draw.choice([*self.uris, *self.uris, NONE])
-        version = self.draw.choice([*VERSIONS, "", ""])
+        version = self.draw.choice([*ALL_DAYS, "", ""])
         brought = [f"sec_{20 + self.draw.randrange(2, COMMANDS + 2)}", f"sec_{40 + self.draw.randrange(2, COMMANDS + 2)}"]
         portion = self.draw.choice([None, None, *PORTIONS, *brought])
         return f"{uri}/{self.draw.choice(['eng'] * 9 + ['fra'])}@{version}" + (f"/~{portion}" if portion else "")
@@ -63,43 +48,6 @@ class Course(held_histories.Course):
     def new(self, law):
         below = [node("paragraph", "a", content="New a.")] if self.draw.random() < 0.4 else []
         return self.referring([node(num=str(20 + law), content="New.", children=below)])
-
-    def told(self, entry, make, parts, keys):
-        super().told(entry, make, parts, keys)
-        self.laws.append(list(self.law))
-
-    def beside(self, line):
-        """A line of the other drafter, which is no law."""
-        self.lines.append(line)
-        self.laws.append(list(self.law))
-
-    def draft(self):
-        """A step of the other drafter: he adds to his draft, drops the last of it, or files it."""
-        self.number += 1
-        enacted = [uri for uri in self.uris if uri not in self.waiting]
-        kind = self.draw.choice(["add", "add", "drop", "file"])
-        if kind == "drop" and self.drafted:
-            item, _, _ = self.drafted.pop()
-            self.beside(drop("bob", self.number, item))
-        elif kind == "file" and self.drafted:
-            work = self.drafted[-1][1]
-            mods = [said for _, uri, said in self.drafted if uri == work]
-            self.drafted = [one for one in self.drafted if one[1] != work]
-            self.law.append(("record", work, mods))
-            for item, m in enumerate(mods, 1):
-                self.of[len(self.law), item], self.live[len(self.law), item] = (work, next(iter(m))), True
-            self.beside(file("bob", self.number, len(self.law) - 1, work))
-        else:
-            work, said = self.draw.choice(enacted), self.textual(len(self.law) + 1)
-            self.added += 1
-            self.drafted.append((self.added, work, said))
-            self.beside(add("bob", self.number, said, work))
-
-    def enter(self):
-        if self.draw.random() < 0.2:
-            self.draft()
-        else:
-            super().enter()
 
 
 def asked_days(course, texts, count):
@@ -145,7 +93,7 @@ def kept_up_to_date(seed=None, histories=HISTORIES, count=4):
     seed = time.time_ns() % 1_000_000_000 if seed is None else seed
     compared, told = 0, 0
     for k in range(histories):
-        lines, wanted = by_a_desk(Course(f"{seed} {k}"), None if k % 10 == 0 else count)
+        lines, wanted = by_a_desk(Course(f"{seed} {k}", NAMED[k % 3]), None if k % 10 == 0 else count)
         status, got = lines_of(lines)
         check(f"what dangles in course {k} of seed {seed}: the status, and how many lines", (status, len(got) >= len(lines)), (0, True))
         wrong = [(line, said, want) for line, said, want in zip(lines, got, wanted) if is_wrong(said, want)]
@@ -160,7 +108,7 @@ def reported_as_kept(seed=None, histories=KEPT, count=4):
     seed = time.time_ns() % 1_000_000_000 if seed is None else seed
     compared = 0
     for k in range(histories):
-        course = Course(f"{seed} {k}")
+        course = Course(f"{seed} {k}", NAMED[k % 3])
         cuts = sorted(course.draw.sample(range(1, len(course.lines) + 1), 2))
         with checks.folder() as folder:
             for first, last in zip([0, *cuts], cuts):

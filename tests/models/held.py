@@ -5,6 +5,7 @@ A law is a list of law entries: ("enact", act), ("record", work, modifications),
 ("restore", id), each part as a command spells it; an id is a pair of numbers.
 """
 import datetime
+import functools
 
 from models.bearing import EFFICACY, FORCE, includes
 from models.table_costs import bounds, days_of, kind_of, on_of, own_day
@@ -22,6 +23,12 @@ class Provision:
 
     def __init__(self, wid, element, num, content, children, refs):
         self.wid, self.element, self.num, self.content, self.children, self.refs = wid, element, num, content, children, refs
+
+
+def day_of(iri):
+    """The day of an IRI, which is the first of January where that gives a year alone."""
+    given = iri.split("/")[4]
+    return given if len(given) > 4 else f"{given}-01-01"
 
 
 def level(element, num):
@@ -68,9 +75,50 @@ def copied(provisions):
     return [Provision(p.wid, p.element, p.num, p.content, copied(p.children), p.refs) for p in provisions]
 
 
+def parted(body, id, said):
+    """A text in which a provision is split, at a child or at an occurrence, or the cause that holds that back."""
+    found = among(body, said["destination"]["wId"])
+    if not found:
+        return "TargetMissing"
+    stands, place = found
+    target = stands[place]
+    if "child" in said:
+        cut, first = len(target.content), next((k for k, child in enumerate(target.children) if child.wid == said["child"]), None)
+        if first is None:
+            return "AnchorMissing"
+    else:
+        cut, first = target.content.find(said["old"]), 0
+        if cut < 0:
+            return "OldTextMissing"
+    wid = f"m{id[0]}-{id[1]}__{level(target.element, said['num'])}"
+    stands.insert(place + 1, Provision(wid, target.element, said["num"], target.content[cut:], target.children[first:], []))
+    target.content, target.children = target.content[:cut], target.children[:first]
+    return "NumberTaken" if number_taken(body) else body
+
+
+def taken_in(body, said):
+    """A text in which a provision takes in the one behind it, or the cause that holds that back."""
+    found = among(body, said["destination"]["wId"])
+    if not found or not among(body, said["second"]):
+        return "TargetMissing"
+    stands, place = found
+    if place + 1 == len(stands) or stands[place + 1].wid != said["second"]:
+        return "AnchorMissing"
+    first, second = stands[place], stands.pop(place + 1)
+    if first.element != second.element:
+        return "KindsDiffer"
+    first.content += said.get("separator", "") + second.content
+    first.children, first.refs = first.children + second.children, first.refs + second.refs
+    return "NumberTaken" if number_taken(body) else body
+
+
 def edited(body, id, said):
     """The text that an edit makes, or the cause that holds it back."""
     body = copied(body)
+    if said["type"] == "split":
+        return parted(body, id, said)
+    if said["type"] == "join":
+        return taken_in(body, said)
     new = [provision_of(node, f"m{id[0]}-{id[1]}", True) for node in said["new"]] if isinstance(said.get("new"), list) else said.get("new")
     if said["type"] == "renumbering":
         for pair in said["renumber"]:
@@ -95,6 +143,11 @@ def edited(body, id, said):
         return "AnchorMissing"
     elif isinstance(new, str):
         found[0][found[1]].content += new
+    elif said["destination"]["pos"] in ("before", "after"):
+        if not found:
+            return "AnchorMissing"
+        place = found[1] + (said["destination"]["pos"] == "after")
+        found[0][place:place] = new
     else:
         stands = body if wid == "body" else found[0][found[1]].children
         place = 0 if said["destination"]["pos"] == "start" else len(stands)
@@ -114,14 +167,27 @@ class Work:
         self.act, self.mods, self.live = act, {}, {}
         self.uri, self.day = act["FRBRuri"], act["FRBRdate"]
 
-    def directed(self, thing, day):
-        """The modifications of force and efficacy that are directed at a thing and counted on a day, in order."""
-        found = []
+    @functools.cached_property
+    def enacted(self):
+        """The text as it was enacted, which no edit changes: each makes a text of its own."""
+        return [provision_of(node, "", False) for node in self.act["body"]]
+
+    @functools.cached_property
+    def aimed(self):
+        """The modifications of force and efficacy that stand, by the thing at which they are directed, in the order in which they count. No law
+        entry comes to the work once it is asked for."""
+        found = {}
         for id, m in self.mods.items():
             kind, said = kind_of(m)
-            if kind != "textualMod" and self.live[id] and said["destination"] == thing and on_of(said) <= day:
-                found.append((on_of(said), id, kind, said))
-        return sorted(found, key=lambda one: one[:2])
+            if kind != "textualMod" and self.live[id]:
+                found.setdefault(*said["destination"].items(), []).append((on_of(said), id, kind, said))
+        return {thing: sorted(mods, key=lambda one: one[:2]) for thing, mods in found.items()}
+
+    def directed(self, thing, day):
+        """The modifications of force and efficacy that are directed at a thing and counted on a day, in order."""
+        (target,) = thing.items()
+        found = self.aimed.get(target)
+        return [one for one in found if one[0] <= day] if found else []
 
     def changed(self, thing, own, day, kind):
         for _, _, of, said in self.directed(thing, day):
@@ -167,12 +233,12 @@ class Work:
             since = self.since(reading, thing, self.changed(thing, period_of(said["force"]), day, "forceMod"), day)
             if since is not None:
                 href = said["source"]["href"]
-                keys.append((since, href.split("/")[4], href.encode(), said["source"]["place"], id))
+                keys.append((since, day_of(href), href.encode(), said["source"]["place"], id))
         return [key[-1] for key in sorted(keys)]
 
     def replay(self, ids):
         """The text, what was applied, and what was not with its cause."""
-        body, applied, unapplied = [provision_of(node, "", False) for node in self.act["body"]], [], []
+        body, applied, unapplied = self.enacted, [], []
         for id in ids:
             outcome = edited(body, id, kind_of(self.mods[id])[1])
             if isinstance(outcome, str):
@@ -294,13 +360,18 @@ def shown(work, reading, day, provisions, flags, above):
     return told
 
 
-def answer(law, uri, reading, day, viewpoint):
-    """The answer about a work on a day, at a viewpoint."""
-    works = known(law[:viewpoint])
-    body, applied, unapplied, flags = trees(works, reading, day)[uri]
+def answer_by(works, made, uri, reading, day, viewpoint):
+    """The answer about a work on a day, by the texts of all works on it."""
+    body, applied, unapplied, flags = made[uri]
     work, spelled = works[uri], "{}.{}".format
     return {
         "applied": [spelled(*id) for id in applied], "bears": work.bears(reading, "body", day),
         "body": shown(work, reading, day, body, flags, ""), "expression": f"{uri}/eng@{day}", "reading": reading,
         "unapplied": [{"cause": cause, "id": spelled(*id)} for id, cause in unapplied], "viewpoint": viewpoint,
     }
+
+
+def answer(law, uri, reading, day, viewpoint):
+    """The answer about a work on a day, at a viewpoint."""
+    works = known(law[:viewpoint])
+    return answer_by(works, trees(works, reading, day), uri, reading, day, viewpoint)

@@ -1,16 +1,15 @@
 """What bears where provisions of later acts make modifications, as `models.held` reckons it: the histories of `rows.held` as they were written by
 hand, and of random histories that between two breakpoints a text stands still, and that before its touched day a work stays as it was.
 """
-import datetime
 import json
 import time
 
 from checks import check
 from models import held, held_histories
+from models.held_histories import ALL_DAYS, READINGS
 from rows import held as rows
 
 HISTORIES = 12
-READINGS = ("force", "efficacy")
 
 
 def law_of(history):
@@ -24,26 +23,19 @@ def eids(law, work, reading, day, viewpoint):
 
 def written():
     """The histories that were written by hand."""
-    law = law_of(rows.MADE_LATER)
-    for viewpoint, there in rows.THIRD_IS_THERE.items():
-        for reading in READINGS:
-            got = ["sec_3" in eids(law, rows.ONE, reading, day, viewpoint) for day in rows.DAYS]
-            check(f"a repeal that is made later, viewpoint {viewpoint}, {reading}", got, there)
-    for number, want in rows.TOUCHED.items():
-        check(f"a repeal that is made later, touched by law {number}", held.touched(law[:number - 1], law[number - 1]), want)
+    for name, (history, days, is_there) in rows.STORIES.items():
+        for viewpoint, row in is_there.items():
+            for reading, there in rows.by_reading(row):
+                got = ["sec_3" in eids(law_of(history), rows.ONE, reading, day, viewpoint) for day in days]
+                check(f"{name}, viewpoint {viewpoint}, {reading}", got, there)
+    for name, touched in rows.TOUCHED.items():
+        law = law_of(rows.STORIES[name][0])
+        for number, want in touched.items():
+            check(f"{name}, touched by law {number}", held.touched(law[:number - 1], law[number - 1]), want)
     law = law_of(rows.MADE_EARLIER)
     for reading in READINGS:
         got = [eids(law, rows.SOURCE, reading, day, 3) for day in ("2011-01-31", "2011-02-01")]
         check(f"a repeal that an earlier act makes, {reading}", got, [["sec_9"], []])
-
-
-def around(days):
-    one = datetime.timedelta(days=1)
-    parsed = [datetime.date.fromisoformat(day) for day in days]
-    return sorted({str(day + shift * one) for day in parsed for shift in (-1, 0, 1)})
-
-
-ALL_DAYS = around({*held_histories.DAYS, *held_histories.ACT_DAYS})
 
 
 def told(works, uri, made):

@@ -10,6 +10,7 @@ import time
 from checks import TABLES, check, over_a_folder, to_a_full_device
 from models import table_histories
 from models.table_costs import cost
+from rows import held
 from rows.dossiers import force, form, node, repeal, to
 from rows.histories import CHANGES, CORRECTED_CHANGE, PARTS, lettered
 from rows.register import FIRST, ONE, SECOND, SECTIONS, THIRD, again, answer, correct, enact, law, record, refused, restore, withdraw
@@ -74,6 +75,12 @@ def costs():
             check(f"the cost of {name}, {reading}", cost(orders, touched), want)
         both = sum(cost(told_orders(commands, work, viewpoint, reading), touched) for reading in ("force", "efficacy"))
         check(f"the cost of {name}, as a command of a desk", both, 2 * want)
+    for name, wanted in held.COSTS.items():
+        for number, want in wanted.items():
+            commands = [line for line, _ in held.STORIES[name][0][:number]]
+            got = sum(cost(told_orders(commands, work, number, reading), day)
+                      for work, day in held.TOUCHED[name][number] for reading in held.READINGS)
+            check(f"the cost of law entry {number} of {name}, of all works that it touches", got, want)
 
 
 def agreements():

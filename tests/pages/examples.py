@@ -42,7 +42,7 @@ def protocol():
 def desk():
     """The streams that docs/START.md sends to a desk."""
     given, wanted = b"", b""
-    for name in ("desk", "desk.acts"):
+    for name in ("desk", "desk.acts", "desk.made"):
         check(f"the page of {name}", f"./lawdesk batch < examples/{name}.http".encode() in read("docs", "START.md"), True)
         given, wanted = given + read("examples", name + ".http"), wanted + read("examples", name + ".out")
         check_written(f"the example {name}", batch(given), (0, wanted))

@@ -14,6 +14,7 @@ from clients.messages import command, compact
 from devices.journal_file import JOURNAL, NEW, called, kept
 from rows import dangling
 from rows.dossiers import SOURCE, efficacy, force, inserted, joined, node, repeal, split, substituted, textual, to
+from rows.held import TABLES as OF_PROVISIONS
 from rows.histories import QUERY_NAMES
 from rows.register import NONE, ONE, SECTIONS, TWO, add, correct, enact, file, record, restore, withdraw
 
@@ -215,7 +216,7 @@ def reported(folder, words, given=b""):
 
 def of_registers():
     """Each table is exactly the wanted bytes, is read back as its rows, and leaves the file as it was."""
-    for name, commands, words, table in LIVES + PAIRS + LEFT_OVERS + dangling.ROWS:
+    for name, commands, words, table in LIVES + PAIRS + LEFT_OVERS + dangling.ROWS + OF_PROVISIONS:
         with checks.folder() as folder:
             given = b"".join(command(line) for line in commands)
             called(folder, "batch", given)

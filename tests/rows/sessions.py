@@ -5,7 +5,7 @@ import time
 
 from checks import DESK, check, over_a_folder, to_a_full_device
 from models import entry_bytes, failing_desks, failing_keepers as keepers_that_fail
-from rows import dossiers, register
+from rows import dossiers, held, register
 
 
 def told(name, lines):
@@ -50,6 +50,22 @@ def ends():
         check(f"a register is given {given}", (done.returncode, done.stdout), (0, want))
     check("a register over a full device", to_a_full_device([DESK], b"front\n"), 4)
     check("a register over a folder as standard input", over_a_folder([DESK]), (3, b""))
+
+
+def touched_line(works):
+    """The line of works that a command touches, each with its day."""
+    return " ".join(["touched", *(f"{uri} {day}" for uri, day in works)])
+
+
+def touched_works():
+    """The works that law entries touch, asked before each comes; then of one that came, of one that is refused, and of no command."""
+    for name, wanted in held.TOUCHED.items():
+        lines = []
+        for number, (line, _) in enumerate(held.STORIES[name][0], 1):
+            lines += [(f"touched {line}", touched_line(wanted[number]))] if number in wanted else []
+            lines.append((line, register.law(number)))
+        refused = register.withdraw("ada", len(lines) + 1, "9.9")
+        told(f"touched works, {name}", [*lines, (f"touched {line}", "none"), (f"touched {refused}", "none"), ("touched {", "no such line")])
 
 
 def lines_of(given):

@@ -5,7 +5,7 @@ use Rattle.law_register.specs.declared.answer.question.Reading.{Reading}
 use Rattle.law_register.specs.declared.register.entry.Entry.{Entry}
 use Rattle.law_register.specs.declared.register.known.Known.{Known}
 use Rattle.law_register.specs.Answer.Answers.{answer_on}
-use Rattle.law_register.specs.Register.KnownNext.{known_now}
+use Rattle.law_register.specs.Provisions.Carrying.{held_now}
 use Rattle.desk_trial.specs.Knowing.{answer_line}
 
 -- the question for the text of a work on a day, at the viewpoint of what is known of it
@@ -32,6 +32,6 @@ abbrev pub line_if : List ℕ → Option Known → Reading → ℕ → List ℕ
 line_if work None reading day = none_line
 line_if work (Some known) reading day = line_on work known reading day
 
--- the answer on a day at the front, by what entries make known of a work
+-- the answer on a day at the front, by what entries make known of a work, with what it carries
 abbrev pub told_on : List Entry → List ℕ → Reading → ℕ → List ℕ
-told_on entries work reading day = line_if work (known_now entries work) reading day
+told_on entries work reading day = line_if work (held_now entries work) reading day

@@ -4,15 +4,17 @@ ghost use Rattle.std.specs.Prelude.{◌≡◌, ◌++◌, IfOk, OnOk, codes, stri
 ghost use Rattle.desk_base.specs.Days.{day_text};
 ghost use Rattle.desk_base.specs.Ids.{id_text};
 ghost use Rattle.law_register.specs.Answer.Answers.{asked_day};
-ghost use Rattle.law_register.specs.Register.KnownIds as known;
+ghost use Rattle.law_register.specs.Provisions.Carrying as known;
 ghost use Rattle.desk_trial.specs.Bearing as spec;
 
 use act_tree::{BuildFail, Tree};
-use desk_base::{Day, Id, Memory};
+use desk_base::{Day, Id, Memory, Steps};
 use frbr_names::WorkName;
-use law_register::{Known, Question, Register, Replayer};
+use held_provisions::FromLine;
+use law_register::{Known, Question, Register, Replayer, known_held};
 use replay_core::FromEnacted;
 use std::alloc::Global;
+use std::sync::ledger::Ledger;
 use viewpoints::known_at;
 
 // Adds a day to the line.
@@ -62,17 +64,18 @@ fn none_line(alloc: Global) -> Result<String, Memory>
     Ok(String::from_str(alloc, "none")?)
 }
 
-/// The line of the days on which the text of a work may change, as a viewpoint knows it.
-pub fn told_of_days(
+/// The line of the days on which the text of a work may change, as a viewpoint knows it, by what the work carries of provisions.
+pub fn told_of_days<L: Ledger>(
     alloc: Global,
     register: &Register,
     work: &WorkName,
     viewpoint: u32,
+    steps: &mut Steps<L>,
 ) -> Result<Vec<u8>, Memory>
     ensures { IfOk result
-        (λ line. line.items ≡ spec.days_line (known.known_at register.now.entries work.now viewpoint)) }
+        (λ line. line.items ≡ spec.days_line (known.known_held register.now.entries work.now viewpoint)) }
 {
-    let line = match known_at(alloc, register, work, viewpoint)? {
+    let line = match known_held(alloc, &FromLine, register, work, viewpoint, steps)? {
         Some(known) => days_line(alloc, FromEnacted.breakpoints(alloc, &known)?.as_slice())?,
         None => none_line(alloc)?,
     };
@@ -90,15 +93,17 @@ fn asked_day(question: &Question, known: &Known) -> Day
 }
 
 /// The line of the modifications that bear on the day of a question, in their order.
-pub fn told_of_order(
+pub fn told_of_order<L: Ledger>(
     alloc: Global,
     register: &Register,
     question: &Question,
+    steps: &mut Steps<L>,
 ) -> Result<Vec<u8>, Memory>
     ensures { IfOk result (λ line. line.items ≡ spec.order_line question.now
-        (known.known_at register.now.entries question.now.work question.now.viewpoint)) }
+        (known.known_held register.now.entries question.now.work question.now.viewpoint)) }
 {
-    let line = match known_at(alloc, register, &question.work, question.viewpoint)? {
+    let work = &question.work;
+    let line = match known_held(alloc, &FromLine, register, work, question.viewpoint, steps)? {
         Some(known) => {
             let day = asked_day(question, &known);
             let ids = FromEnacted.order_at(alloc, &known, question.reading, day)?;

@@ -1,7 +1,7 @@
 //! What a drafter sees: his draft, and what will be answered once it is filed.
 
 ghost use Rattle.std.specs.Prelude.{◌≡◌, IfOk, IsSome};
-ghost use Rattle.law_register.specs.Answer.Previews.{preview_at};
+ghost use Rattle.law_register.specs.Answer.Previewing.{preview_at};
 ghost use Rattle.desk_trial.specs.Knowing as spec;
 
 use crate::answering::answer_line;

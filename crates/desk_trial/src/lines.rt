@@ -8,6 +8,7 @@ use crate::drafting::told_of_drafter;
 use crate::knowing::told_of_known;
 use crate::questions::{read_known, read_question};
 use crate::replies::front_line;
+use crate::touching::told_of_touched;
 use desk_base::{Memory, Steps};
 use frbr_names::WorkName;
 use law_register::{Desk, Question, Register};
@@ -31,28 +32,30 @@ fn told_of_asked<D: Desk, L: Ledger>(
     match word {
         "ask" => told_of_question(alloc, desk, question, steps),
         "value" => told_by_value(alloc, desk, question, steps),
-        "order" => told_of_order(alloc, desk.register(), question),
+        "order" => told_of_order(alloc, desk.register(), question, steps),
         "flag" => told_of_flag(alloc, desk.register(), question),
         _ => no_such_line(alloc),
     }
 }
 
 // What is told of a work at a viewpoint, by the word before them.
-fn told_of_work(
+fn told_of_work<L: Ledger>(
     alloc: Global,
     register: &Register,
     word: &str,
     (work, viewpoint): (WorkName, u32),
+    steps: &mut Steps<L>,
 ) -> Result<Vec<u8>, Memory> {
     match word {
         "known" => told_of_known(alloc, register, &work, viewpoint),
-        "days" => told_of_days(alloc, register, &work, viewpoint),
+        "days" => told_of_days(alloc, register, &work, viewpoint, steps),
         _ => no_such_line(alloc),
     }
 }
 
-// What is told of bytes, or of the bytes of an entry, by the word before them. `None`: the line asks for neither.
-fn told_as_bytes(
+// What is told of bytes, of the bytes of an entry, or of a command that does not come yet, by the word before them. `None`: the line asks for
+// none of these.
+fn told_of_entries(
     alloc: Global,
     register: &Register,
     word: &str,
@@ -61,6 +64,7 @@ fn told_as_bytes(
     match word {
         "decode" => told_of_bytes(alloc, rest),
         "bytes" => told_of_entry(alloc, register, rest),
+        "touched" => told_of_touched(alloc, register, rest),
         _ => Ok(None),
     }
 }
@@ -79,7 +83,7 @@ fn told_of_words<D: Desk, L: Ledger>(
             no_such_line(alloc)
         };
     };
-    if let Some(told) = told_as_bytes(alloc, desk.register(), word, words)? {
+    if let Some(told) = told_of_entries(alloc, desk.register(), word, words)? {
         return Ok(told);
     }
     if let Some(told) = told_of_drafter(alloc, desk, word, words, steps)? {
@@ -89,7 +93,7 @@ fn told_of_words<D: Desk, L: Ledger>(
         return told_of_asked(alloc, desk, word, &question, steps);
     }
     match read_known(alloc, words)? {
-        Some(known) => told_of_work(alloc, desk.register(), word, known),
+        Some(known) => told_of_work(alloc, desk.register(), word, known, steps),
         None => no_such_line(alloc),
     }
 }

@@ -16,6 +16,7 @@ mod settings;
 mod stop;
 mod store;
 mod tabling;
+mod touching;
 mod trial_keeper;
 
 ghost use Rattle.std.specs.Prelude.{◌≡◌};

@@ -13,10 +13,11 @@ ghost use Rattle.desk_trial.specs.Tabling as spec;
 use crate::answering::answer_line;
 use desk_base::{Clock, Day, Memory, Steps};
 use frbr_names::{WorkName, parse_work};
+use held_provisions::FromLine;
 use law_keeper::Keeper;
 use law_office::Office;
 use law_register::{
-    Answer, AskFault, Desk, Known, Question, Reading, Register, Replayer, Version, known_at,
+    Answer, AskFault, Desk, Known, Question, Reading, Register, Replayer, Version, known_held,
 };
 use replay_core::FromEnacted;
 use std::alloc::Global;
@@ -147,15 +148,24 @@ fn no_table(alloc: Global) -> Result<Vec<u8>, Memory>
 }
 
 // The line of what the table of an office gives on a day.
-fn told_by_table<K: Keeper, C: Clock>(
+fn told_by_table<K: Keeper, C: Clock, L: Ledger>(
     alloc: Global,
     office: &Office<'_, '_, K, C>,
     asked: &DatedWork,
+    steps: &mut Steps<L>,
 ) -> Result<Vec<u8>, Memory>
     ensures { IfOk result (λ line. line.items
         ≡ spec.told_on office.now.entries asked.now.work asked.now.reading asked.now.day) }
 {
-    match known_at(alloc, office.register(), &asked.work, office.front())? {
+    let register = office.register();
+    match known_held(
+        alloc,
+        &FromLine,
+        register,
+        &asked.work,
+        office.front(),
+        steps,
+    )? {
         Some(known) => match office.table(&asked.work, asked.reading) {
             Some(table) => line_of_table(alloc, &known, table, asked),
             None => no_table(alloc),
@@ -174,7 +184,14 @@ fn told_by_replay<L: Ledger>(
     ensures { IfOk result (λ line. line.items
         ≡ spec.told_on register.now.entries asked.now.work asked.now.reading asked.now.day) }
 {
-    match known_at(alloc, register, &asked.work, register.front())? {
+    match known_held(
+        alloc,
+        &FromLine,
+        register,
+        &asked.work,
+        register.front(),
+        steps,
+    )? {
         Some(known) => line_of_replay(alloc, &known, asked, steps),
         None => no_table(alloc),
     }
@@ -189,7 +206,7 @@ fn told_of_dated<K: Keeper, C: Clock, L: Ledger>(
     steps: &mut Steps<L>,
 ) -> Result<Option<Vec<u8>>, Memory> {
     match word {
-        "table" => Ok(Some(told_by_table(alloc, office, asked)?)),
+        "table" => Ok(Some(told_by_table(alloc, office, asked, steps)?)),
         "replay" => Ok(Some(told_by_replay(alloc, office.register(), asked, steps)?)),
         _ => Ok(None),
     }

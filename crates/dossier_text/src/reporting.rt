@@ -18,6 +18,7 @@ use akn_json::{
     read_dossier,
 };
 use desk_base::{Day, Memory, Steps};
+use held_provisions::FromLine;
 use law_register::{Answer, AskFault, EnterFault, Question, Reading, Register, Replayer, Rule};
 use std::alloc::Global;
 use std::mem::forget;
@@ -58,7 +59,7 @@ fn report_asked<L: Ledger, P: Replayer>(
 ) -> Result<Report, Memory>
     ensures { IfOk result (λ report. report_view report ≡ told_answer (answer_at register.entries question)) }
 {
-    let told = answer_replayed(alloc, replayer, &register, &question, steps);
+    let told = answer_replayed(alloc, replayer, &FromLine, &register, &question, steps);
     forget(register);
     report_answer(alloc, told)
 }

@@ -12,7 +12,7 @@ use Rattle.law_register.specs.declared.register.known.KnownMod.{KnownMod}
 use Rattle.law_register.specs.Answer.Breakpoints.{has_day}
 use Rattle.law_register.specs.Law.Sources.{source_of}
 use Rattle.law_register.specs.Provisions.Carrying.{carried_of, carrying, days_in, mod_carrying, stands_in_spans}
-use Rattle.law_register.specs.Provisions.Depending.{WorkDays, breakpoints_of, comes_from, days_along, depends, source_days}
+use Rattle.law_register.specs.Provisions.Depending.{WorkDays, breakpoints_of, comes_from, days_along, source_days}
 use Rattle.law_register.specs.Provisions.Line.{IsLine, work_in}
 use Rattle.law_register.specs.Provisions.Looking.{looked_at}
 use Rattle.law_register.specs.Provisions.Spans.{spans_of}

@@ -1,7 +1,9 @@
 pub mod Alongside
 pub mod AscendingDays
 pub mod CarriedAlike
+pub mod Concerned
 pub mod Costed
+pub mod DaysStay
 pub mod Flagged
 pub mod FlagsAlike
 pub mod FoundWorks
@@ -10,8 +12,11 @@ pub mod LinesTold
 pub mod MadeAll
 pub mod MadeRight
 pub mod NeededAhead
+pub mod Partial
 pub mod Placed
 pub mod SourceDays
 pub mod Spent
+pub mod Stays
+pub mod Touched
 pub mod Until
 pub mod Walked

@@ -7,8 +7,9 @@ use Rattle.law_register.specs.declared.answer.question.Reading.{Reading}
 use Rattle.law_register.specs.declared.answer.question.Reading.TheVariants.{Force, Efficacy}
 use Rattle.law_register.specs.declared.register.known.Known.{Known}
 use Rattle.law_register.specs.declared.register.known.KnownMod.{KnownMod}
+use Rattle.law_register.specs.Answer.Applied.{begins_with, ids_applied}
 use Rattle.law_register.specs.Answer.Breakpoints.{breakpoints}
-use Rattle.law_register.specs.Answer.Costs.{begins_with, ids_applied, revision_cost}
+use Rattle.law_register.specs.Answer.Costs.{revision_cost}
 use Rattle.law_register.specs.Answer.Renewing.{both_costs}
 use Rattle.law_register.specs.Answer.Replay.{replay_on}
 use Rattle.law_register.specs.Answer.Standing.{alone, mod_alone}

@@ -4,6 +4,7 @@
 mod carrying;
 mod in_line;
 mod knowing;
+pub mod laws;
 mod lines;
 mod looking;
 mod making;
@@ -15,7 +16,7 @@ mod touching;
 
 pub use carrying::carry;
 pub use in_line::InLine;
-pub use knowing::known_held;
+pub use knowing::FromLine;
 pub use lines::{line_at, line_of_register, line_with};
 pub use looking::{depends, looked_at};
 pub use source::Source;

@@ -1,15 +1,15 @@
 //! Touching: the works that an entry touches, each from a day on: its own work, and those that depend on what it reaches.
 
-ghost use Rattle.std.specs.Prelude.{◌≡◌, ◌||◌, ◌++◌, ◌∷◌, [], IfOk, List, OnOk, None, Some, if◌then◌else◌, map, true};
-ghost use Rattle.law_register.specs.Answer.Touched.{sooner, with_day};
+ghost use Rattle.std.specs.Prelude.{◌≡◌, ◌||◌, ◌++◌, [], IfOk, List, OnOk, None, Some, if◌then◌else◌, map, true};
+ghost use Rattle.law_register.specs.Answer.Touched.{sooner, touched_day, with_day};
 ghost use Rattle.law_register.specs.Register.Drafts.{draft_of, items_of};
 ghost use Rattle.law_register.specs.Register.KnownIds.{facts_of};
 ghost use Rattle.law_register.specs.Register.LawList.{law_of, laws};
 ghost use Rattle.law_register.specs.Register.Verdicts.{is_accepted, verdict};
 ghost use Rattle.law_register.specs.declared.register.entry.Entry.{Entry as EntryValue};
 ghost use Rattle.held_provisions.specs.Reaching as reaching;
+ghost use Rattle.held_provisions.specs.Reaching.{AreEnough};
 ghost use Rattle.law_register.specs.Provisions.Depending.{depends_in};
-ghost use Rattle.law_register.specs.Provisions.Line.{line};
 ghost use Rattle.law_register.specs.Provisions.Touching as spec;
 
 use crate::InLine;
@@ -55,18 +55,15 @@ fn is_concerned(register: &Register, entry: &Entry, work: &WorkName) -> bool
     }
 }
 
-fn own(
-    alloc: Global,
-    register: &Register,
-    entry: &Entry,
-    work: &WorkName,
-) -> Result<Option<Day>, Memory>
-    ensures { IfOk result (λ day. day ≡ spec.own register.now.entries entry.now work.now) }
+// The day that the ids of a work touch which an entry changes, where it touches this day.
+fn own(register: &Register, entry: &Entry, touched: &Option<Day>, work: &WorkName) -> Option<Day>
+    requires { touched.now ≡ touched_day register.now.entries entry.now }
+    ensures { result ≡ spec.own register.now.entries entry.now work.now }
 {
     if is_concerned(register, entry, work) {
-        touched_day(alloc, register, entry)
+        *touched
     } else {
-        Ok(None)
+        None
     }
 }
 
@@ -254,13 +251,15 @@ fn reached_next<O: InLine, N: InLine>(
     old: &[O],
     new: &[N],
     ahead: &[Reached],
+    day: &Option<Day>,
     work: &WorkName,
 ) -> Result<Reached, Memory>
+    requires { day.now ≡ touched_day register.now.entries entry.now }
     ensures { IfOk result (λ next. next ≡ reaching.reached_next register.now.entries entry.now
         (map O.known_of old.now) (map N.known_of new.now) ahead.now work.now) }
 {
     let touched = sooner(
-        own(alloc, register, entry, work)?,
+        own(register, entry, day, work),
         first_reached(old, new, work, ahead),
     );
     Ok(Reached {
@@ -275,16 +274,27 @@ fn reached_along<O: InLine, N: InLine>(
     alloc: Global,
     register: &Register,
     entry: &Entry,
+    day: &Option<Day>,
     old: &[O],
     new: &[N],
 ) -> Result<Vec<Reached>, Memory>
+    requires { day.now ≡ touched_day register.now.entries entry.now }
     ensures { IfOk result (λ along. along.items ≡ reaching.reached_after register.now.entries entry.now
         (map O.known_of old.now) (map N.known_of new.now) [] (map N.known_of new.now)) }
 {
     let mut ahead = Vec::new(alloc);
     for one in new {
         let work = &one.known().act.work;
-        let next = reached_next(alloc, register, entry, old, new, ahead.as_slice(), work)?;
+        let next = reached_next(
+            alloc,
+            register,
+            entry,
+            old,
+            new,
+            ahead.as_slice(),
+            day,
+            work,
+        )?;
         ahead.push(next)?;
     }
     Ok(ahead)
@@ -310,19 +320,20 @@ fn days_told(alloc: Global, along: &[Reached]) -> Result<Touched, Memory>
 }
 
 /// The works that an entry touches which comes behind those of a register, each with its touched day, in the order of the line, where
-/// these are the lines without it and with it.
+/// these have of the lines without it and with it all works that name a provision, and the one that it concerns.
 pub fn touched_in_lines<O: InLine, N: InLine>(
     alloc: Global,
     register: &Register,
     entry: &Entry,
+    day: Option<Day>,
     old: &[O],
     new: &[N],
 ) -> Result<Touched, Memory>
-    requires old { map O.known_of old.now ≡ line (laws register.now.entries) }
-    requires new { map N.known_of new.now ≡ line (laws (register.now.entries ++ entry.now ∷ [])) }
+    requires day { day ≡ touched_day register.now.entries entry.now }
+    requires lines { AreEnough register.now.entries entry.now (map O.known_of old.now) (map N.known_of new.now) }
     ensures { IfOk result (λ touched. touched ≡ spec.touched_works register.now.entries entry.now) }
 {
-    let along = reached_along(alloc, register, entry, old, new)?;
+    let along = reached_along(alloc, register, entry, &day, old, new)?;
     days_told(alloc, along.as_slice())
 }
 
@@ -335,5 +346,6 @@ pub fn touched_works(alloc: Global, register: &Register, entry: &Entry) -> Resul
 {
     let old = line_of_register(alloc, register)?;
     let new = line_with(alloc, register, entry)?;
-    touched_in_lines(alloc, register, entry, old.as_slice(), new.as_slice())
+    let day = touched_day(alloc, register, entry)?;
+    touched_in_lines(alloc, register, entry, day, old.as_slice(), new.as_slice())
 }

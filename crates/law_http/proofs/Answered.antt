@@ -10,7 +10,7 @@ use Rattle.law_register.proofs.Equality.{commands_decide}
 use Rattle.law_register.proofs.Puts.{bytes_same, left_true, number_same, right_true}
 use Rattle.desk_base.specs.Crashes.{AreCrashes, Crashes}
 use Rattle.law_register.specs.Answer.Asking.{answer_at}
-use Rattle.law_register.specs.Answer.Previews.{preview_at}
+use Rattle.law_register.specs.Answer.Previewing.{preview_at}
 use Rattle.law_register.specs.Desk.States.{DeskState, Found}
 use Rattle.law_register.specs.declared.answer.past_key.PastKey.{PastKey}
 use Rattle.law_register.specs.Law.Same.{same_command}

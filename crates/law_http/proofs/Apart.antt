@@ -4,7 +4,8 @@ use Rattle.std.specs.Prelude.{◌≢◌}
 use Rattle.desk_base.specs.Crashes.{Crashes}
 use Rattle.law_register.proofs.Apart.{same_answer, same_draft, same_preview}
 use Rattle.law_register.specs.Answer.Asking.{answer_at}
-use Rattle.law_register.specs.Answer.Previews.{own_entries, preview_at}
+use Rattle.law_register.specs.Answer.Previewing.{preview_at}
+use Rattle.law_register.specs.Answer.Previews.{own_entries}
 use Rattle.law_register.specs.Desk.States.{DeskState, Found}
 use Rattle.law_register.specs.declared.answer.past_key.PastKey.{PastKey}
 use Rattle.law_register.specs.Register.Drafts.{draft_of}

@@ -8,7 +8,7 @@ use Rattle.law_register.specs.declared.desk.command_fault.CommandFault.{CommandF
 use Rattle.law_register.specs.declared.desk.command_fault.CommandFault.TheVariants as fails
 use Rattle.law_register.specs.declared.register.verdict.Reply.{Reply as Outcome}
 use Rattle.law_register.specs.Answer.Asking.{answer_at}
-use Rattle.law_register.specs.Answer.Previews.{preview_at}
+use Rattle.law_register.specs.Answer.Previewing.{preview_at}
 use Rattle.law_register.specs.Register.Drafts.{draft_of}
 use Rattle.law_register.specs.Register.LawList.{front}
 use Rattle.law_http.specs.Asking.{asking_of, question_at, question_previewed}

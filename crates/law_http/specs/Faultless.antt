@@ -3,7 +3,7 @@
 use Rattle.std.specs.Prelude.{◌≡◌, ℕ, Bool, List, [], ◌∷◌, ◌++◌, Option, None, Some, Result, Ok, Err, IsFalse, ⊤}
 use Rattle.desk_base.specs.Clocks.{later_days}
 use Rattle.law_register.specs.Answer.Asking.{answer_at}
-use Rattle.law_register.specs.Answer.Previews.{preview_at}
+use Rattle.law_register.specs.Answer.Previewing.{preview_at}
 use Rattle.law_register.specs.Register.Drafts.{draft_of}
 use Rattle.law_register.specs.Register.Entering.{entered}
 use Rattle.law_register.specs.Register.LawList.{front}

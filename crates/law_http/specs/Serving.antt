@@ -6,7 +6,7 @@ use Rattle.serde_json.specs.Written.{compact_text}
 use Rattle.desk_base.specs.Crashes.{Crashes}
 use Rattle.law_register.specs.Answer.Asking.{answer_at}
 use Rattle.law_register.specs.Answer.PastAsking.{keys_asked, past_cost}
-use Rattle.law_register.specs.Answer.Previews.{preview_at, previewing_at}
+use Rattle.law_register.specs.Answer.Previewing.{preview_at, previewing_at}
 use Rattle.law_register.specs.Desk.Commands.{Ends, HasCommandCause, LeavesBetween, LeavesNoMore, mark_of, marks_after, spending}
 use Rattle.law_register.specs.Desk.States.{DeskState, Found, IsDurable, IsSound, standing}
 use Rattle.law_register.specs.Register.Drafts.{draft_of}

@@ -6,7 +6,7 @@ use Rattle.desk_base.specs.declared.memory.Memory.{Memory}
 use Rattle.law_register.specs.Answer.Answers.{Answers}
 use Rattle.law_register.specs.Answer.Asking.{answer_at}
 use Rattle.law_register.specs.Answer.PastAsking.{AreKeysAfter}
-use Rattle.law_register.specs.Answer.Previews.{preview_at, previewing_at}
+use Rattle.law_register.specs.Answer.Previewing.{preview_at, previewing_at}
 use Rattle.law_register.specs.Desk.Commands.{LeavesNoMore, spending}
 use Rattle.law_register.specs.Desk.States.{DeskState, Found, standing}
 use Rattle.law_register.specs.Register.Drafts.{draft_of}
@@ -21,7 +21,6 @@ use Rattle.law_register.specs.declared.desk.command_fault.CommandFault.{CommandF
 use Rattle.law_register.specs.declared.register.draft.DraftItem.{DraftItem}
 use Rattle.law_register.specs.declared.register.entry.Entry.{Entry}
 use Rattle.law_register.specs.declared.register.verdict.Reply.{Reply as Outcome}
-use Rattle.akn_json.specs.declared.asked.Asked.{Asked}
 use Rattle.law_http.specs.Asking.{question_at, question_previewed}
 use Rattle.law_http.specs.Responses.{Says, first_lines}
 use Rattle.law_http.specs.Serving.{Does, SaysOutcome, Stays, answer_reply, answering_cost, draft_reply, front_reply, keys_answered}

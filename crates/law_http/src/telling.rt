@@ -4,7 +4,7 @@ ghost use Rattle.std.specs.Prelude.{◌≡◌, ◌≤◌, ◌+◌, true};
 ghost use Rattle.law_register.specs.Answer.Answers.{Answers};
 ghost use Rattle.law_register.specs.Answer.Asking.{answer_at};
 ghost use Rattle.law_register.specs.Answer.PastAsking.{AreKeysAfter};
-ghost use Rattle.law_register.specs.Answer.Previews.{preview_at, previewing_at};
+ghost use Rattle.law_register.specs.Answer.Previewing.{preview_at, previewing_at};
 ghost use Rattle.law_register.specs.Desk.Commands.{LeavesNoMore};
 ghost use Rattle.law_register.specs.Law.Spelling.{is_well_spelled};
 ghost use Rattle.law_register.specs.Register.LawList.{front};

@@ -3,6 +3,7 @@ use Rattle.std.proofs.Common.{◌≡◌, ◌⊎◌, inl, inr, ⊎_elim, ◌∙�
 use Rattle.std.specs.Prelude.{IfSome}
 use Rattle.desk_base.specs.Crashes as crash
 use Rattle.indexmap.specs.IndexMap.{IndexMap}
+use Rattle.indexmap.specs.IndexSet.{IndexSet}
 use Rattle.law_journal.specs.Grammar.{Listing}
 use Rattle.law_keeper.specs.Keepers.{Holding, IsHolding, LeavesOnly}
 use Rattle.law_keeper.specs.declared.readiness.Readiness.{Readiness}
@@ -21,12 +22,12 @@ use Rattle.law_office.proofs.Loading.{spellings_last}
 use Rattle.law_office.proofs.Openings.{opened_more}
 
 -- a list that spells entries is opened as these, with the one that is pending or without it
-spelled_found : {S : Type 0} (register : Contents) (tables : IndexMap (List ℕ) WorkTables S) (index : Kept) (pending : Option Pending)
-    → opened (spellings register.entries) ≡ Ok register.entries → IfSome pending (IsPendingOn register tables index) → (list : Listing)
+spelled_found : {S R : Type 0} (register : Contents) (tables : IndexMap (List ℕ) WorkTables S) (naming : IndexSet (List ℕ) R) (index : Kept)
+    (pending : Option Pending) → opened (spellings register.entries) ≡ Ok register.entries → IfSome pending (IsPendingOn register tables naming index) → (list : Listing)
     → Spells register.entries (pending_of pending) list → IsFoundOf register.entries (pending_of pending) (opened_of list)
-spelled_found register tables index None opens may list spells = ap opened_of spells ∙ opens
-spelled_found register tables index (Some p) opens may list (inl without) = inl (ap opened_of without ∙ opens)
-spelled_found register tables index (Some p) opens may list (inr with) =
+spelled_found register tables naming index None opens may list spells = ap opened_of spells ∙ opens
+spelled_found register tables naming index (Some p) opens may list (inl without) = inl (ap opened_of without ∙ opens)
+spelled_found register tables naming index (Some p) opens may list (inr with) =
     inr (ap opened_of (with ∙ ap Ok (sym (spellings_last register.entries p.entry)))
     ∙ opened_more register.entries p.entry opens may.follows may.kept)
 
@@ -69,7 +70,7 @@ rests_on h readiness old new is held =
 -- what is found after a crash, by the book
 module _ (book : Book) (right : IsRight book) where
   spelled_of : (list : Listing) → SpellsBook book list → IsFoundOf book.register.entries (pending_of book.pending) (opened_of list)
-  spelled_of = spelled_found book.register book.tables book.refs book.pending right.opens right.pending
+  spelled_of = spelled_found book.register book.tables book.naming book.refs book.pending right.opens right.pending
 
   pub found_now : (h : Holding) (readiness : Readiness) → HoldsBook h readiness book → h.tells
       → IsFoundOf book.register.entries (pending_of book.pending) (opened_of h.list)

@@ -16,6 +16,8 @@ use Rattle.law_register.specs.declared.register.entry.Entry.{Entry}
 use Rattle.law_register.specs.declared.register.rules.Rule.TheVariants.{WorkExists}
 use Rattle.law_register.specs.Register.Drafts.{draft_of, items_of}
 use Rattle.law_register.specs.Register.KnownIds.{enacted, enacted_by, enacted_from, enacted_or, known_by}
+use Rattle.law_register.specs.Provisions.Carrying.{held_now}
+use Rattle.law_register.specs.Provisions.Line.{line as line_of_laws}
 use Rattle.law_register.specs.Register.KnownNext.{known_now}
 use Rattle.law_register.specs.Register.LawList.{acts_by, acts_of, front, law_command, laws, works_enacted}
 use Rattle.law_register.specs.Register.Verdicts.{is_legal, work_exists}
@@ -24,6 +26,7 @@ use Rattle.law_register.proofs.Next.{now_known}
 use Rattle.law_register.proofs.Puts.{bytes_are, bytes_either, bytes_same}
 use Rattle.law_register.proofs.Snoc.{acts_more, laws_more}
 use Rattle.law_office.specs.declared.line.DatedWork.{DatedWork}
+use Rattle.law_office.proofs.AskedFor.{none_known}
 use Rattle.law_office.specs.Line.{AreInLine, dated_work}
 
 -- the acts that law entries enact, with one entry more
@@ -53,18 +56,18 @@ one_act_more es i e next =
 
 -- how often a work stands among others
 
-unfoldable one : List ℕ → List ℕ → ℕ
+unfoldable pub one : List ℕ → List ℕ → ℕ
 one w t = cond (bytes_eq w t) 1 0
 
-one_same : (w t : List ℕ) → bytes_eq w t ≡ true → one w t ≡ 1
+pub one_same : (w t : List ℕ) → bytes_eq w t ≡ true → one w t ≡ 1
 unfolding one
 one_same w t same = ap (λ b. cond b 1 0) same
 
-one_other : (w t : List ℕ) → bytes_eq w t ≡ false → one w t ≡ 0
+pub one_other : (w t : List ℕ) → bytes_eq w t ≡ false → one w t ≡ 0
 unfolding one
 one_other w t other = ap (λ b. cond b 1 0) other
 
-abbrev AreOnce : List (List ℕ) → Type 0
+abbrev pub AreOnce : List (List ℕ) → Type 0
 AreOnce works = (w : List ℕ) → sum_by (one w) works ≤ 1
 
 -- a work that no law entry enacts does not stand among those that law entries enact
@@ -127,7 +130,7 @@ not_found : (found : Option (ℕ × Act)) → option_map (λ (f : ℕ × Act). W
 not_found None is = refl
 not_found (Some f) is = absurd (let no : Some (WorkExists f.0) ≡ None = is in cc)
 
-enacted_once : (es : List Entry) → is_legal es ≡ true → AreOnce (works_enacted (laws es))
+pub enacted_once : (es : List Entry) → is_legal es ≡ true → AreOnce (works_enacted (laws es))
 enacted_once es legal = legally (λ (xs : List Entry). AreOnce (works_enacted (laws xs))) more (λ w. let none : 0 ≤ 1 = omega arith in none) es legal
   where
     more : (xs : List Entry) (e : Entry) → AreOnce (works_enacted (laws xs)) → IsNew xs e.drafter e.request e.command e.law
@@ -189,7 +192,7 @@ none_kept (e ∷ es) w none = by (bytes_eq w e.0) refl (none_kept es w)
 -- one of works in line is known, and does not stand among those before it
 module _ (es : List Entry) (legal : is_legal es ≡ true) (works before : List (List ℕ)) (work : List ℕ) (rest : List (List ℕ))
     (line : AreInLine es works) (cut : works ≡ before ++ work ∷ rest) where
-  times : (w : List ℕ) → sum_by (one w) (works_enacted (laws es)) ≡ sum_by (one w) before + (one w work + sum_by (one w) rest)
+  pub times : (w : List ℕ) → sum_by (one w) (works_enacted (laws es)) ≡ sum_by (one w) before + (one w work + sum_by (one w) rest)
   times w =
       sym (sum_by-IsPermutation (one w) (works_enacted (laws es)) works (all_in_line es works line))
       ∙ ap (sum_by (one w)) cut
@@ -199,8 +202,9 @@ module _ (es : List Entry) (legal : is_legal es ≡ true) (works before : List (
   itself : one work work ≡ 1
   itself = one_same work work (bytes_are work work refl)
 
-  pub is_known : known_now es work ≢ None
-  is_known = among_known es work (omega (arith, times work, itself))
+  pub is_known : held_now es work ≢ None
+  is_known unknown =
+      among_known es work (omega (arith, times work, itself)) (none_known (line_of_laws (take (front es) (laws es))) (known_now es work) unknown)
 
   pub is_new : {V : Type 0} (kept : List (List ℕ × V)) → keys_of kept ≡ before → lookup (bytes_eq work) kept ≡ None
   is_new kept keys =

@@ -8,15 +8,28 @@ mod Reserving
 mod Puts
 mod Prepared
 mod Booked
-mod Asked
+mod AskedFor
+mod KeptOf
+mod Moved
+mod Lined
+mod Recorded
+mod Resting
+mod Committing
+mod Gathered
+mod Concerning
+mod Enough
 mod Adding
+mod Ahead
+mod HasSources
 mod InLine
-mod Following
 mod Openings
 pub mod Images
 mod Keeping
 mod Histories
 mod Marking
+mod Naming
+mod Noted
+mod Tabled
 mod Ending
 mod Legality
 pub mod Sends

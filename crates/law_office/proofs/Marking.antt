@@ -2,6 +2,7 @@
 use Rattle.std.proofs.Common.{◌≡◌, ◌∙◌, sym, ap, subst, ℕ, ◌+◌, ◌-◌, ◌^◌, max, min, true, false, List, [], ◌∷◌, ◌++◌, length, Option, None, Some, Result, Ok, Err, inl, inr, arith}
 use Rattle.std.specs.Prelude.{IfSome, IsSome}
 use Rattle.indexmap.specs.IndexMap.{IndexMap}
+use Rattle.indexmap.specs.IndexSet.{IndexSet}
 use Rattle.std.proofs.lemmas.List.{length-append}
 use Rattle.law_register.specs.declared.desk.command_fault.CommandFault.{CommandFault}
 use Rattle.law_register.specs.declared.desk.command_fault.CommandFault.TheVariants as fails
@@ -65,17 +66,17 @@ rose_none marks count none = start (2 ^ 64 - 1) (length marks) (ap length none)
     start : (most n : ℕ) → n ≡ 0 → count ≡ max count (min (count + n) most)
     start most n is = omega (arith, is)
 
-may_follow : {S : Type 0} (register : Contents) (tables : IndexMap (List ℕ) WorkTables S) (index : Kept) (pending : Option Pending)
-    → IfSome pending (IsPendingOn register tables index) → IfSome (pending_of pending) (MayFollow register.entries)
-may_follow register tables index None may = tt
-may_follow register tables index (Some p) may = may.follows
+may_follow : {S R : Type 0} (register : Contents) (tables : IndexMap (List ℕ) WorkTables S) (naming : IndexSet (List ℕ) R) (index : Kept) (pending : Option Pending)
+    → IfSome pending (IsPendingOn register tables naming index) → IfSome (pending_of pending) (MayFollow register.entries)
+may_follow register tables naming index None may = tt
+may_follow register tables naming index (Some p) may = may.follows
 
 -- a desk is sound whose book is right and marked
 pub sound_of : (book : Book) (faults : ℕ) (days : Option (ℕ → ℕ)) (origin : List ℕ) → IsRight book
     → IsMarked (pending_of book.pending) book.marks.items
     → IsSound (record { entries = book.register.entries; pending = pending_of book.pending; marks = book.marks.items; faults = faults; days = days; origin = origin })
 sound_of book faults days origin right marked = record {
-  pending = may_follow book.register book.tables book.refs book.pending right.pending;
+  pending = may_follow book.register book.tables book.naming book.refs book.pending right.pending;
   marked = marked;
   marks = right.marks;
 }

@@ -4,6 +4,7 @@ use Rattle.std.proofs.lemmas.Bool.Decides.{nat_tests}
 use Rattle.std.proofs.lemmas.List.{append_assoc}
 use Rattle.law_register.specs.declared.answer.question.Reading.{Reading}
 use Rattle.law_register.specs.declared.answer.question.Reading.TheVariants.{Force}
+use Rattle.law_register.specs.declared.law.act.Act.{Act}
 use Rattle.law_register.specs.declared.register.known.Known.{Known}
 use Rattle.law_register.specs.Answer.Breakpoints.{breakpoints}
 use Rattle.law_register.specs.Answer.Replay.{replay_on}
@@ -42,11 +43,12 @@ later_days t (day ∷ days) = by (nat_le t day) refl (later_days t days)
 abbrev pub made_row : List ℕ → Known → Option ℕ → TreeValue → RefRow
 made_row work known from tree = record { work = work; act_day = known.act.day; from = from; refs = text_refs tree }
 
-pub handed_as : (work : List ℕ) (said known : Known) (from : Option ℕ) (tree text : TreeValue) → tree ≡ text → said ≡ known
+pub handed_as : (work : List ℕ) (said known : Known) (from : Option ℕ) (tree text : TreeValue) → tree ≡ text → said.act ≡ known.act
     → made_row work said from tree ≡ made_row work known from text
-handed_as work said known from tree text same is = ap₂ (λ (k : Known) (t : TreeValue). made_row work k from t) is same
+handed_as work said known from tree text same is =
+    ap₂ (λ (a : Act) (t : TreeValue). (let row : RefRow = record { work = work; act_day = a.day; from = from; refs = text_refs t } in row)) is same
 
-pub handed_on_day : (work : List ℕ) (said known : Known) (day : ℕ) (tree : TreeValue) → tree ≡ (replay_on known Force day).tree → said ≡ known
+pub handed_on_day : (work : List ℕ) (said known : Known) (day : ℕ) (tree : TreeValue) → tree ≡ (replay_on known Force day).tree → said.act ≡ known.act
     → made_row work said (Some day) tree ≡ row_on work known day
 unfolding refs_in_force
 handed_on_day work said known day tree same is = handed_as work said known (Some day) tree (replay_on known Force day).tree same is
@@ -100,17 +102,25 @@ module _ (work : List ℕ) (known : Known) where
       (handed_after touched (breakpoints_from known touched) ∙ ap (map (row_on work known)) (later_days touched (breakpoints known)))
 
 -- the rows of a revision of force
-pub revision_rows : (kept : WorkValue) (revision : WorkRevisionValue) (touched : ℕ) (force : RevisionValue) → IsFor revision.known (renewed kept revision)
-    → revision ≡ work_revision_of kept revision.known (Some touched) → Some force ≡ option_map (λ both. both.0) revision.tables
-    → force.rows ≡ rows_on revision.known Force (breakpoints_from revision.known touched)
-revision_rows kept revision touched force right made is =
+pub revision_rows : (kept : WorkValue) (held : Known) (revision : WorkRevisionValue) (touched : ℕ) (force : RevisionValue) → IsFor held (renewed kept revision)
+    → revision ≡ work_revision_of kept held (Some touched) → Some force ≡ option_map (λ both. both.0) revision.tables
+    → force.rows ≡ rows_on held Force (breakpoints_from held touched)
+revision_rows kept held revision touched force right made is =
     let tables = ap (λ (r : WorkRevisionValue). r.tables) made in
     let same = is ∙ ap (option_map (λ (both : RevisionValue × RevisionValue). both.0)) tables in
     let reading : kept.force.reading ≡ Force =
     subst (λ (t : Option (RevisionValue × RevisionValue)). (table_in Force (renewed_by kept revision.known revision.names revision.days t)).reading ≡ Force) tables (right.tables.readings Force) in
     ap (λ (o : Option RevisionValue). rows_in o) same
-    ∙ ap (λ (r : Reading). rows_on revision.known r (breakpoints_from revision.known touched)) reading
+    ∙ ap (λ (r : Reading). rows_on held r (breakpoints_from held touched)) reading
   where
     rows_in : Option RevisionValue → List RowValue
     rows_in None = []
     rows_in (Some r) = r.rows
+
+-- a revision from a day on has one of force
+pub some_force : (kept : WorkValue) (held : Known) (revision : WorkRevisionValue) (touched : ℕ) → revision ≡ work_revision_of kept held (Some touched)
+    → None ≡ option_map (λ both. both.0) revision.tables → ⊥
+some_force kept held revision touched made none =
+    let no : None ≡ option_map (λ (both : RevisionValue × RevisionValue). both.0) (work_revision_of kept held (Some touched)).tables =
+    none ∙ ap (λ (r : WorkRevisionValue). option_map (λ (both : RevisionValue × RevisionValue). both.0) r.tables) made in
+    cc

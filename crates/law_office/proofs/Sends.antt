@@ -38,6 +38,7 @@ use Rattle.law_register.specs.contracts.register.known.Known as known
 use Rattle.law_register.specs.contracts.register.known.KnownMod as known_mod
 use Rattle.law_register.specs.contracts.register.register.Register as register
 use Rattle.indexmap.proofs.map.IndexMap.TheSendSync as index_map
+use Rattle.indexmap.proofs.set.IndexSet.TheSendSync as index_set
 use Rattle.lru.proofs.cache.LruCache.TheSendSync as lru
 use Rattle.law_register.proofs.answer.past_key.PastKey.TheSendSync as past_key
 use Rattle.law_register.proofs.desk.fault_mark.FaultMark.TheSendSync as fault_mark
@@ -128,7 +129,7 @@ pub past_tables_send : (T : RattleType) → IsSend T → IsSend (past_tables.the
 past_tables_send T t = search (past_table_send, past_key.the_send, past_key.the_sync, lru.the_send, sendable, crosses) depth 30 fits 30000
 
 pub book_field_send : IsSend (book.the_field).row
-book_field_send = search (register_send, pending_send, fault_mark.the_send, work.the_send, work_tables_send, table.the_send, past_tables_send, ref_index.the_send, index_map.the_send, sendable, crosses) depth 30 fits 30000
+book_field_send = search (register_send, pending_send, fault_mark.the_send, work.the_send, work_tables_send, table.the_send, past_tables_send, ref_index.the_send, index_map.the_send, index_set.the_send, sendable, crosses) depth 30 fits 30000
 
 pub book_send : IsSend book.the_row
 book_send = search (book_field_send, sendable) depth 10

@@ -1,14 +1,13 @@
 -- What a reference names, by what is kept of its work: the rule that it breaks is the one that the register's answer breaks.
-use Rattle.std.proofs.Common.{◌≡◌, ◌∙◌, sym, ap, ap₂, subst, refl, ℕ, suc, ◌+◌, ◌<◌, ◌≤◌, Bool, true, false, not, cond, ◌||◌, nat_lt, length, List, [], ◌∷◌, ◌++◌, Option, Some, None, is_some, option_map, Result, Ok, Err, arith}
+use Rattle.std.proofs.Common.{◌≡◌, ◌∙◌, sym, ap, ap₂, subst, refl, ℕ, suc, ◌+◌, ◌<◌, Bool, true, false, not, cond, ◌||◌, nat_lt, length, List, [], ◌∷◌, take, Option, Some, None, is_some, option_map, arith}
 use Rattle.std.specs.Str.{bytes_eq}
 use Rattle.std.proofs.lemmas.Bool.Decides.{nat_tests}
 use Rattle.std.proofs.lemmas.List.Folds.{list_any-append}
 use Rattle.eid_paths.specs.declared.numbering.Numbering.{Numbering}
 use Rattle.act_tree.specs.Branches.{Branch, Branches, branch, no_branches, more_branches}
 use Rattle.act_tree.specs.Eids.{eid_below}
-use Rattle.act_tree.specs.Faults.{all_eids, all_owns, eids_of}
+use Rattle.act_tree.specs.Faults.{all_eids, all_owns}
 use Rattle.act_tree.specs.Provisions.{Provision}
-use Rattle.act_tree.specs.Trees.{TreeValue}
 use Rattle.act_tree.specs.Wids.{is_among}
 use Rattle.act_tree.specs.declared.tree.Tree.{Tree}
 use Rattle.act_tree.specs.EidsOfWids.{has_eid}
@@ -17,30 +16,32 @@ use Rattle.act_tree.proofs.Texts.{bytes_eq_sym}
 use Rattle.act_tree.proofs.Ways.{has_eid_is}
 use Rattle.frbr_names.specs.Expressions.{Expression}
 use Rattle.law_register.specs.declared.answer.queries.QueryRule.{QueryRule}
-use Rattle.law_register.specs.declared.answer.queries.QueryRule.TheVariants.{UnknownWork, ViewpointAhead, NotYetEnacted, OtherLanguage, UnknownPortion}
+use Rattle.law_register.specs.declared.answer.queries.QueryRule.TheVariants.{UnknownWork, ViewpointAhead, NotYetEnacted, OtherLanguage}
 use Rattle.law_register.specs.declared.answer.question.Question.{Question}
 use Rattle.law_register.specs.declared.answer.question.Reading.{Reading}
-use Rattle.law_register.specs.declared.answer.question.Reading.TheVariants.{Force}
 use Rattle.law_register.specs.declared.law.act.Act.{Act}
 use Rattle.law_register.specs.declared.law.command.Command.{Command}
 use Rattle.law_register.specs.declared.law.command.Command.TheVariants.{Enact, Record, Correct, Withdraw, Restore, DraftAdd, DraftDrop, File}
 use Rattle.law_register.specs.declared.register.entry.Entry.{Entry}
 use Rattle.law_register.specs.declared.register.known.Known.{Known}
-use Rattle.law_register.specs.Answer.Answers.{all_shown, answer_of_text, answer_part, asked_day, asked_part, first_rule, found_portion, is_too_early, or_else, portion_among, portion_in, shown_as, unless_broken}
+use Rattle.law_register.specs.Answer.Answers.{all_shown, answer_of_text, answer_part, asked_day, asked_part, found_portion, is_too_early, or_else, portion_among, portion_in, shown_as, unless_broken}
 use Rattle.law_register.specs.Answer.Flags.{flag_below, root_flag}
-use Rattle.law_register.specs.Answer.Replay.{VersionValue, as_enacted, replay_on}
+use Rattle.law_register.specs.Answer.Replay.{VersionValue, as_enacted}
+use Rattle.law_register.specs.Provisions.Carrying.{carrying, held_now}
+use Rattle.law_register.specs.Provisions.Line.{line}
 use Rattle.law_register.specs.Answer.Shown.{Shown}
 use Rattle.law_register.specs.Register.KnownIds.{enacted, enacted_by, enacted_from, enacted_or, known_by}
-use Rattle.law_register.specs.Register.KnownNext.{bare, known_now, up_to}
+use Rattle.law_register.specs.Register.KnownNext.{bare, known_now}
 use Rattle.law_register.specs.Register.LawList.{front, laws}
 use Rattle.law_register.specs.Register.Verdicts.{is_legal}
 use Rattle.law_register.proofs.Next.{now_known}
 use Rattle.law_refs.specs.Missing.{missing, question_for, refused_by}
 use Rattle.version_cache.specs.Answering.{answer_dated, answer_kept}
-use Rattle.version_cache.specs.Works.{IsAlike, IsForIf, WorkValue}
+use Rattle.version_cache.specs.Tables.{version_on}
+use Rattle.version_cache.specs.Works.{IsForIf, WorkValue}
 use Rattle.version_cache.proofs.Answered.{answered}
 use Rattle.law_office.specs.Targets.{portion_rule, rule_broken, version_named}
-use Rattle.law_office.proofs.Asked.{unknown_answer}
+use Rattle.law_office.proofs.AskedFor.{unknown_answer}
 
 some_or : (a b : Option (Branch Shown)) → is_some (or_else a b) ≡ (is_some a || is_some b)
 some_or None b = refl
@@ -94,7 +95,10 @@ module _ (known : Known) (version : VersionValue) (q : Question) where
   text_rule = part_rule q.portion
 
 -- the first rule that is broken, where the work was enacted by then
-module _ (known : Known) (n : ℕ) (target : Expression) where
+module _ (work : WorkValue) (n : ℕ) (target : Expression) where
+  abbrev known : Known
+  known = work.known
+
   abbrev asked : Question
   asked = question_for n target
 
@@ -107,23 +111,23 @@ module _ (known : Known) (n : ℕ) (target : Expression) where
       (unless_broken
       (cond unknown (Some (UnknownWork asked.work))
       (cond ahead (Some (ViewpointAhead n)) (others (is_too_early target.version known.act) (bytes_eq target.language known.act.language))))
-      (answer_dated known asked asked.version))
+      (answer_dated work asked asked.version))
 
-  dated : (version : Option ℕ) → target.version ≡ version → refused_by (answer_dated known asked version) ≡ portion_rule (version_named known version).tree target.portion
+  dated : (version : Option ℕ) → target.version ≡ version → refused_by (answer_dated work asked version) ≡ portion_rule (version_named work version).tree target.portion
   dated None is = text_rule (bare known) (as_enacted known.act) asked
-  dated (Some day) is = text_rule known (replay_on known Force day) asked
+  dated (Some day) is = text_rule known (version_on work.force day) asked
 
-  in_language : (b : Bool) → refused_by (unless_broken (others false b) (answer_dated known asked asked.version))
-      ≡ cond (not b) (Some 4) (portion_rule (version_named known target.version).tree target.portion)
+  in_language : (b : Bool) → refused_by (unless_broken (others false b) (answer_dated work asked asked.version))
+      ≡ cond (not b) (Some 4) (portion_rule (version_named work target.version).tree target.portion)
   in_language true = dated target.version refl
   in_language false = refl
 
-  in_time : (b : Bool) → refused_by (unless_broken (others b (bytes_eq target.language known.act.language)) (answer_dated known asked asked.version))
-      ≡ cond b (Some 3) (cond (not (bytes_eq target.language known.act.language)) (Some 4) (portion_rule (version_named known target.version).tree target.portion))
+  in_time : (b : Bool) → refused_by (unless_broken (others b (bytes_eq target.language known.act.language)) (answer_dated work asked asked.version))
+      ≡ cond b (Some 3) (cond (not (bytes_eq target.language known.act.language)) (Some 4) (portion_rule (version_named work target.version).tree target.portion))
   in_time true = refl
   in_time false = in_language (bytes_eq target.language known.act.language)
 
-  kept_rule : nat_lt n known.enacted ≡ false → refused_by (answer_kept known n asked) ≡ rule_broken known target
+  kept_rule : nat_lt n known.enacted ≡ false → refused_by (answer_kept work n asked) ≡ rule_broken work target
   kept_rule late =
       let now : nat_lt n n ≡ false = grind (arith, nat_tests) in
       ap (λ (b : Bool). said b (nat_lt n n)) late ∙ ap (said false) now ∙ in_time (is_too_early target.version known.act)
@@ -178,21 +182,22 @@ enacted_by_front es w known is = by (enacted w (laws es)) refl (sym (now_known e
         grind (arith, nat_tests, same, within)
 
 -- what breaks a target, by what is kept of its work
-pub missing_kept : (es : List Entry) (target : Expression) (work : WorkValue) → is_legal es ≡ true → IsForIf (known_now es target.work.text) work
-    → rule_broken work.known target ≡ missing es target
+pub missing_kept : (es : List Entry) (target : Expression) (work : WorkValue) → is_legal es ≡ true → IsForIf (held_now es target.work.text) work
+    → rule_broken work target ≡ missing es target
 unfolding missing
 missing_kept es target work legal right =
     sym
     (ap refused_by (answered es (question_for (front es) target) work legal (omega arith) right)
-    ∙ kept_rule work.known (front es) target (from (known_now es target.work.text) refl right))
+    ∙ kept_rule work (front es) target (from (known_now es target.work.text) refl right))
   where
-    from : (now : Option Known) → known_now es target.work.text ≡ now → IsForIf now work → nat_lt (front es) work.known.enacted ≡ false
+    from : (now : Option Known) → known_now es target.work.text ≡ now
+        → IsForIf (option_map (carrying (line (take (front es) (laws es)))) now) work → nat_lt (front es) work.known.enacted ≡ false
     from None is right = absurd right
     from (Some known) is right =
         subst (λ (n : ℕ). nat_lt (front es) n ≡ false) (sym right.alike.enacted) (enacted_by_front es target.work.text known is)
 
 -- and where nothing is known of it
-pub missing_unknown : (es : List Entry) (target : Expression) → is_legal es ≡ true → known_now es target.work.text ≡ None → Some 1 ≡ missing es target
+pub missing_unknown : (es : List Entry) (target : Expression) → is_legal es ≡ true → held_now es target.work.text ≡ None → Some 1 ≡ missing es target
 unfolding missing
 missing_unknown es target legal unknown =
     sym (ap refused_by (unknown_answer es (question_for (front es) target) target.work.text legal unknown (omega arith) refl))

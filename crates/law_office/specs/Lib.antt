@@ -1,12 +1,16 @@
 pub mod Acting
+pub mod Asked
 pub mod Crashing
 pub mod Fits
 pub mod Line
 pub mod Lists
+pub mod Movements
 pub mod Moving
+pub mod Noting
 pub mod Offices
 pub mod Opening
 pub mod RefRows
 pub mod References
+pub mod Sources
 pub mod Tables
 pub mod Targets

@@ -2,6 +2,7 @@
 use Rattle.std.specs.Prelude.{ℕ, true, ◌≡◌, ◌≢◌, ◌≤◌, ◌+◌, ◌-◌, ◌^◌, List, [], ◌∷◌, length, All, Option, Some, None, IfSome, IsSome, Ok, max, min}
 use Rattle.std.specs.Option.{option_map}
 use Rattle.indexmap.specs.IndexMap.{IndexMap, spare}
+use Rattle.indexmap.specs.IndexSet.{IndexSet}
 use Rattle.law_journal.specs.Grammar.{Listing}
 use Rattle.law_keeper.specs.Keepers.{Holding, IsSettled, IsWithOrWithout}
 use Rattle.law_keeper.specs.declared.readiness.Readiness.{Readiness}
@@ -16,9 +17,10 @@ use Rattle.law_refs.specs.Index.{Kept}
 use Rattle.law_refs.specs.OfRegister.{IsIndexOf}
 use Rattle.version_cache.specs.declared.work_tables.WorkTables.{WorkTables}
 use Rattle.viewpoints.specs.Right as viewpoints
+use Rattle.law_office.specs.Noting.{AreNoted}
 use Rattle.law_office.specs.Opening.{opened, spellings}
 use Rattle.law_office.specs.References.{index_after, index_with, judging_with}
-use Rattle.law_office.specs.Tables.{AreChangesOf, AreTablesOf, kept_in, table_on}
+use Rattle.law_office.specs.Tables.{AreChangesOf, AreTablesOf, applied, kept_in, table_on}
 use Rattle.law_office.specs.declared.book.Book.{Book}
 use Rattle.law_office.specs.declared.book.Pending.{Pending}
 
@@ -75,24 +77,27 @@ abbrev pub judging_in : {K C : Type 0} → OfficeState K C → List Entry → En
 judging_in office = judging_with (length office.entries) office.refs office.later
 
 -- an entry that is pending may stand behind the others, there is room for it, its bytes are those that spell it, it keeps
--- the rules of the format, and its changes are those that it makes of what is kept, where there is room for one work more
-pub record IsPendingOn {S : Type 0} (register : Contents) (tables : IndexMap (List ℕ) WorkTables S) (index : Kept) (p : Pending)
-    : Type 0 where
+-- the rules of the format, its changes are those that it makes of what is kept, where there is room for one work more, and each work that
+-- names a provision then is noted
+pub record IsPendingOn {S R : Type 0} (register : Contents) (tables : IndexMap (List ℕ) WorkTables S) (naming : IndexSet (List ℕ) R)
+    (index : Kept) (p : Pending) : Type 0 where
   pub follows : MayFollow register.entries p.entry
   pub room : 1 ≤ register.spare
   pub bytes : p.bytes.items ≡ spelling p.entry
   pub kept : keeps_rules p.entry ≡ true
   pub changes : AreChangesOf register.entries p.entry (kept_in tables) index p.changes
   pub space : 1 ≤ spare tables
+  pub noted : AreNoted naming (applied p.changes (kept_in tables))
 
 -- the book of an office is right in itself: its entries are those that an opening finds in what spells them, what is
 -- pending is right, its marks were made when so many entries stood as there are, or fewer, and what it keeps of works, of
--- past viewpoints and of references is for its entries
+-- past viewpoints and of references is for its entries; each work that names a provision is noted
 pub record IsRight (book : Book) : Type 0 where
   pub opens : opened (spellings book.register.entries) ≡ Ok book.register.entries
-  pub pending : IfSome book.pending (IsPendingOn book.register book.tables book.refs)
+  pub pending : IfSome book.pending (IsPendingOn book.register book.tables book.naming book.refs)
   pub marks : All (λ mark. mark.entries ≤ length book.register.entries) book.marks.items
   pub tables : AreTablesOf book.register.entries (kept_in book.tables)
+  pub named : AreNoted book.naming (kept_in book.tables)
   pub past : viewpoints.IsRight table_on book.register.entries book.past
   pub refs : IsIndexOf book.register.entries book.refs
 

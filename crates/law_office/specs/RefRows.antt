@@ -1,5 +1,5 @@
 -- The rows of references that are handed in of tables.
-use Rattle.std.specs.Prelude.{ℕ, Bool, true, nat_lt, List, ◌∷◌, filter, map, Option, Some, None}
+use Rattle.std.specs.Prelude.{ℕ, Bool, true, nat_lt, List, filter, map, Option, Some, None}
 use Rattle.law_refs.specs.Missing.{text_refs}
 use Rattle.law_refs.specs.declared.ref_row.RefRow.{RefRow}
 use Rattle.version_cache.specs.Tables.{RowValue}

@@ -1,18 +1,21 @@
 -- What an office keeps of works, and what becomes of it once an entry stands behind the others.
-use Rattle.std.specs.Prelude.{ℕ, ◌≡◌, true, List, [], ◌∷◌, ◌++◌, map, Option, Some, None, IfSome, option_map, if◌then◌else◌}
+use Rattle.std.specs.Prelude.{ℕ, ◌≡◌, ◌≢◌, true, List, [], ◌∷◌, ◌++◌, map, Option, Some, None, IfSome, option_map, if◌then◌else◌}
 use Rattle.std.specs.Str.{bytes_eq}
 use Rattle.indexmap.specs.IndexMap.{IndexMap, get_by}
 use Rattle.law_register.specs.declared.register.entry.Entry.{Entry}
 use Rattle.law_register.specs.declared.register.known.Known.{Known}
 use Rattle.law_register.specs.Answer.Replay.{VersionValue}
-use Rattle.law_register.specs.Answer.Touched.{touched_day}
+use Rattle.law_register.specs.Provisions.Carrying.{held_now}
+use Rattle.law_register.specs.Provisions.Depending.{depends}
+use Rattle.law_register.specs.Provisions.Line.{line}
 use Rattle.law_register.specs.Register.KnownNext.{known_now}
+use Rattle.law_register.specs.Register.LawList.{laws}
 use Rattle.version_cache.specs.declared.table.Table.{Table}
 use Rattle.version_cache.specs.declared.work_revision.WorkRevision.{WorkRevision}
 use Rattle.version_cache.specs.declared.work_tables.WorkTables.{WorkTables}
 use Rattle.version_cache.specs.Seen.{table_view, work_revision_view, work_view}
 use Rattle.version_cache.specs.Tables.{version_on}
-use Rattle.version_cache.specs.Works.{AreRevisionsOf, IsForIf, WorkRevisionValue, WorkValue, renewed, work_revision_of}
+use Rattle.version_cache.specs.Works.{AreRevisionsOf, IsForIf, WorkRevisionValue, WorkValue, renewed}
 use Rattle.law_refs.specs.Index.{Kept as IndexValue}
 use Rattle.law_refs.specs.OfRegister.{IsIndexOf}
 use Rattle.law_office.specs.References.{index_after}
@@ -33,7 +36,7 @@ Matches known (Some kept) = IsForIf known kept
 
 -- what is kept of each work is for what these entries make known of it
 abbrev pub AreTablesOf : List Entry → Kept → Type 0
-AreTablesOf entries kept = (work : List ℕ) → Matches (known_now entries work) (kept work)
+AreTablesOf entries kept = (work : List ℕ) → Matches (held_now entries work) (kept work)
 
 -- the version that a table gives on a day
 abbrev pub table_on : Table → ℕ → VersionValue
@@ -87,24 +90,14 @@ pub record AreChangesOf (entries : List Entry) (entry : Entry) (kept : Kept) (in
   pub right : AreTablesOf (entries ++ entry ∷ []) (applied changes kept)
   pub refs : IsIndexOf (entries ++ entry ∷ []) (index_after changes.refs index)
 
--- a work that is revised is this one, and its revision is that which an entry makes of what is kept of it behind these entries
-pub record IsMadeBy (entries : List Entry) (entry : Entry) (work : List ℕ) (kept : WorkValue) (revised : List ℕ × WorkRevisionValue)
-    : Type 0 where
-  pub name : revised.0 ≡ work
-  pub fits : AreRevisionsOf kept revised.1.tables
-  pub right : IsForIf (known_now (entries ++ entry ∷ []) work) (renewed kept revised.1)
-  pub made : revised.1 ≡ work_revision_of kept revised.1.known (touched_day entries entry)
-  pub known : known_now (entries ++ entry ∷ []) work ≡ Some revised.1.known
-
--- so it is where something is kept of the work, and else no work is revised
-abbrev pub IsMadeIf : List Entry → Entry → List ℕ → Option WorkValue → Option (List ℕ × WorkRevisionValue) → Type 0
-IsMadeIf entries entry work None None = Unit {0}
-IsMadeIf entries entry work None (Some revised) = ⊥
-IsMadeIf entries entry work (Some kept) None = ⊥
-IsMadeIf entries entry work (Some kept) (Some revised) = IsMadeBy entries entry work kept revised
-
 -- one work more is kept, if it is known, for what is known of it
 pub record AddsWork (known : Option Known) (work : List ℕ) (old new : Kept) : Type 0 where
   pub made : Option WorkValue
   pub matches : Matches known made
   pub kept : (w : List ℕ) → new w ≡ with_enacted (option_map (λ m. (work, m)) made) w (old w)
+
+-- what is kept so far is for what these entries make known, and all works on which one depends are kept
+pub record AreAhead (entries : List Entry) (work : List ℕ) (kept : Kept) : Type 0 where
+  pub right : (name : List ℕ) (one : WorkValue) → kept name ≡ Some one → IsForIf (held_now entries name) one
+  pub there : (known : Known) → known_now entries work ≡ Some known → (name : List ℕ)
+      → depends (line (laws entries)) known name ≡ true → kept name ≢ None

@@ -18,7 +18,7 @@ ghost use Rattle.law_office.specs.Moving.{IsStanding, Leaves, Moves};
 ghost use Rattle.law_office.specs.Offices.{IsPendingOn, IsRight, judging_of, standing_of};
 
 use crate::book::{Book, Changes, Pending};
-use crate::changes::make_changes;
+use crate::noting::make_noted;
 use crate::sent::Sent;
 use desk_base::{Clock, LoadFault, Memory, Steps};
 use entry_codec::encode;
@@ -224,7 +224,8 @@ fn keep<K: Keeper, L: Ledger>(
     }
 }
 
-// Spells an entry for which there is room, and makes its changes. The book stays, but for what its tables go on from.
+// Spells an entry for which there is room, and makes its changes. The book stays, but for what its tables go on from, and for the works
+// that are noted.
 fn prepare<L: Ledger>(
     alloc: Global,
     book: &mut Book,
@@ -242,17 +243,18 @@ fn prepare<L: Ledger>(
     ensures end { book.new.end ≡ book.old.end }
     ensures moves { Moves book.old book.new }
     ensures right { IsRight book.new }
-    ensures pending { IfOk result (λ made. IsPendingOn book.new.register book.new.tables book.new.refs
+    ensures pending { IfOk result (λ made. IsPendingOn book.new.register book.new.tables book.new.naming book.new.refs
         (record { entry = entry.now; bytes = made.0; changes = made.1 })) }
     ensures steps { steps.new ≤ steps.old + (entry_cost book.old.register.entries entry.now
         + judged_for book.old.refs book.old.register.entries entry.now) }
 {
     laws::accepted_can_be_spelled(&book.register, entry);
     let bytes = encode(alloc, entry)?;
-    let changes = make_changes(
+    let changes = make_noted(
         alloc,
         &book.register,
         &mut book.tables,
+        &mut book.naming,
         &book.refs,
         entry,
         steps,
@@ -271,7 +273,7 @@ fn append<K: Keeper>(
 ) -> Result<Reply, CommandFault>
     requires stands { IsStanding K.holding K.readiness keeper.old book.old }
     requires settled { book.old.pending ≡ None }
-    requires follows { IsPendingOn book.old.register book.old.tables book.old.refs pending }
+    requires follows { IsPendingOn book.old.register book.old.tables book.old.naming book.old.refs pending }
     requires accepted { verdict book.old.register.entries pending.entry.drafter pending.entry.request
         pending.entry.command ≡ Accepted pending.entry.law reply }
     ensures acts { Acts pending.entry book.old book.new result }

@@ -1,8 +1,8 @@
 //! Book: what an office writes down: its register, how far its keeper is known to go, what is pending, the marks of
-//! faults, what it keeps of works, so that it need not be replayed, and its index of references.
+//! faults, what it keeps of works, so that it need not be replayed, which of them may name a provision, and its index of references.
 
 use frbr_names::WorkName;
-use indexmap::IndexMap;
+use indexmap::{IndexMap, IndexSet};
 use law_refs::{RefIndex, RefRevision};
 use law_register::{Entry, FaultMark, Register};
 use version_cache::{Table, WorkRevision, WorkTables};
@@ -10,6 +10,9 @@ use viewpoints::PastTables;
 
 /// What is kept of the works that law entries enact, by their names.
 pub type KeptWorks = IndexMap<WorkName, WorkTables>;
+
+/// Works that may name a provision, each once.
+pub type Naming = IndexSet<WorkName>;
 
 /// What becomes of what is kept once an entry stands behind the others. A clause sees what is kept then (`applied`).
 #[derive(Drop)]
@@ -46,6 +49,8 @@ pub struct Book {
     pub marks: Vec<FaultMark>,
     /// What is kept of each work that these entries enact.
     pub tables: KeptWorks,
+    /// The works that may name a provision: each of which what is kept names one is among these.
+    pub naming: Naming,
     /// What is kept of past viewpoints.
     pub past: PastTables<Table>,
     /// The references of these works, each with the rule that its target breaks.

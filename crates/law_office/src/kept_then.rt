@@ -26,7 +26,7 @@ impl<'a> KeptThen<'a> {
     ghost use Rattle.std.specs.Prelude.{◌≡◌};
     ghost use Rattle.act_tree.specs.Seen.{tree_view};
     ghost use Rattle.frbr_names.specs.ExpressionViews.{expression_view};
-    ghost use Rattle.version_cache.specs.Works.{IsFor};
+    ghost use Rattle.law_register.specs.Answer.Replay.{as_enacted};
     ghost use Rattle.law_office.specs.Targets as spec;
     ghost use Rattle.law_office.specs.Targets.{then_view};
 
@@ -42,8 +42,8 @@ impl<'a> KeptThen<'a> {
 
     // The text of a version then. Nothing is replayed.
     fn text(&self, version: Option<Day>) -> &Tree
-        requires { IsFor (then_view self.now).known (then_view self.now) }
-        ensures { tree_view result.now ≡ (spec.version_named (then_view self.now).known version).tree }
+        requires { (then_view self.now).force.enacted ≡ as_enacted (then_view self.now).known.act }
+        ensures { tree_view result.now ≡ (spec.version_named (then_view self.now) version).tree }
     {
         match version {
             Some(day) => &self.kept.on_after(self.revision, Reading::Force, day).tree,
@@ -53,8 +53,8 @@ impl<'a> KeptThen<'a> {
 
     /// The number of the first rule that what is named of the work breaks then. It takes no memory.
     pub(crate) fn rule(&self, target: &ExpressionIri<'_>) -> Option<u8>
-        requires { IsFor (then_view self.now).known (then_view self.now) }
-        ensures { result ≡ spec.rule_broken (then_view self.now).known (expression_view target.now) }
+        requires { (then_view self.now).force.enacted ≡ as_enacted (then_view self.now).known.act }
+        ensures { result ≡ spec.rule_broken (then_view self.now) (expression_view target.now) }
     {
         let act = &self.known().act;
         if is_too_early(target.version, act) {

@@ -3,17 +3,21 @@
 #![tactic(auto)]
 
 mod acting;
+mod asked;
 mod book;
 mod changes;
 mod kept_then;
 pub mod laws;
 mod line;
+mod moving;
+mod noting;
 mod office;
 mod opening;
 mod ref_rows;
 mod references;
 mod renewing;
 mod sent;
+mod sources_then;
 mod spelled;
 mod tabling;
 mod target_rules;
@@ -21,6 +25,6 @@ mod targets_after;
 mod text_refs;
 mod writing;
 
-pub use book::{Book, Changes, KeptWorks, Pending};
+pub use book::{Book, Changes, KeptWorks, Naming, Pending};
 pub use office::{Closed, Office, OpenRefused};
 pub use opening::Opened;

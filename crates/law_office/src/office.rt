@@ -13,7 +13,7 @@ ghost use Rattle.law_register.specs.Desk.Commands.{EndsWithin, HasCommandCause, 
 ghost use Rattle.law_register.specs.Desk.History.{history_of};
 ghost use Rattle.law_register.specs.Desk.States.{Found, IsDurable, IsFoundOf, IsSound, standing};
 ghost use Rattle.law_register.specs.Law.Spelling.{is_well_spelled};
-ghost use Rattle.law_register.specs.Register.KnownNext.{known_now};
+ghost use Rattle.law_register.specs.Provisions.Carrying.{held_now};
 ghost use Rattle.law_register.specs.Register.LawList.{front};
 ghost use Rattle.law_register.specs.declared.register.known.Known.{Known as KnownValue};
 ghost use Rattle.std.specs.Map.{keys_of};
@@ -30,9 +30,11 @@ ghost use Rattle.law_office.specs.Opening.{HasRefusalCause, Refuses, StaysUnless
 use crate::acting::command as do_command;
 use crate::book::Book;
 use crate::sent::Sent;
+use desk_base::laws::day_is_numbered;
 use desk_base::{Clock, Day, Memory, Steps};
 use draft_sessions::{draft_of, preview};
 use frbr_names::WorkName;
+use held_provisions::FromLine;
 use law_keeper::Keeper;
 use law_refs::Dangling;
 use law_refs::laws::what_dangles_is_listed;
@@ -238,9 +240,9 @@ impl<'k, 'c, K: Keeper, C: Clock> Office<'k, 'c, K, C> {
     /// The table of a work in a reading: its versions by day, as they are known at the front. `None`: no law entry enacts the work. It
     /// takes no memory.
     pub fn table(&self, work: &WorkName, reading: Reading) -> Option<&Table>
-        ensures found { is_some result ≡ is_some (known_now self.now.entries work.now) }
+        ensures found { is_some result ≡ is_some (held_now self.now.entries work.now) }
         ensures reading { IfSome result (λ table. (table_view table.now).reading ≡ reading) }
-        ensures right { IfSome result (λ table. (known : KnownValue) → known_now self.now.entries work.now ≡ Some known
+        ensures right { IfSome result (λ table. (known : KnownValue) → held_now self.now.entries work.now ≡ Some known
             → tables.IsRight known (table_view table.now)) }
     {
         match self.book.tables.get(work) {
@@ -254,6 +256,7 @@ impl<'k, 'c, K: Keeper, C: Clock> Office<'k, 'c, K, C> {
     pub fn dangling(&self, alloc: Global, day: Day) -> Result<Dangling, Memory>
         ensures { IfOk result (λ found. IsDangling self.now.entries day found) }
     {
+        day_is_numbered(day);
         what_dangles_is_listed(&self.book.refs);
         self.book.refs.dangling(alloc, day)
     }
@@ -269,7 +272,7 @@ impl<'k, 'c, K: Keeper, C: Clock> Office<'k, 'c, K, C> {
 // The refusal of a question for a work that is not known.
 #[tactic(auto, unfolding(law_register::specs::Answer::Asking::answer_at))]
 fn refuse_unknown(register: &Register, question: &Question) -> Result<Answer, AskFault>
-    requires unknown { known_now register.now.entries question.now.work ≡ None }
+    requires unknown { held_now register.now.entries question.now.work ≡ None }
     requires ahead { front register.now.entries ≤ question.now.viewpoint }
     ensures { Answers result (answer_at register.now.entries question.now) }
 {
@@ -370,9 +373,14 @@ impl<'k, 'c, K: Keeper, C: Clock> Desk for Office<'k, 'c, K, C> {
             (keys_asked self.old.entries question.now self.old.past) self.new.past }
         ensures steps { steps.new ≤ steps.old + past_cost self.old.entries question.now self.old.past }
     {
-        self.book
-            .past
-            .answer_past(alloc, &FromEnacted, &self.book.register, question, steps)
+        self.book.past.answer_past(
+            alloc,
+            &FromEnacted,
+            &FromLine,
+            &self.book.register,
+            question,
+            steps,
+        )
     }
 
     fn preview<L: Ledger>(
@@ -383,7 +391,15 @@ impl<'k, 'c, K: Keeper, C: Clock> Desk for Office<'k, 'c, K, C> {
         steps: &mut Steps<L>,
     ) -> Result<Answer, AskFault> {
         let register = &self.book.register;
-        preview(alloc, &FromEnacted, register, drafter, question, steps)
+        preview(
+            alloc,
+            &FromEnacted,
+            &FromLine,
+            register,
+            drafter,
+            question,
+            steps,
+        )
     }
 
     fn draft(&self, alloc: Global, drafter: &Drafter) -> Result<Draft, Memory> {

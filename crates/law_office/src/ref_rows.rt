@@ -2,6 +2,7 @@
 
 ghost use Rattle.std.specs.Prelude.{◌≡◌, ◌++◌, ◌∷◌, [], Some, IfOk, OnOk};
 ghost use Rattle.act_tree.specs.Seen.{tree_view};
+ghost use Rattle.law_register.specs.declared.register.known.Known.{Known as KnownValue};
 ghost use Rattle.law_refs.specs.Handing as handing;
 ghost use Rattle.law_refs.specs.Missing as missing;
 ghost use Rattle.version_cache.specs.Rows.{row_view, rows_view};
@@ -95,8 +96,8 @@ pub(crate) fn add_made(
     made: &WorkTables,
     found: &mut RefRows,
 ) -> Result<(), Memory>
-    requires { work_view made.now ≡ work_of (work_view made.now).known }
-    ensures { OnOk result (found.new ≡ found.old ++ handing.rows_made work.now (work_view made.now).known) }
+    ensures { (held : KnownValue) → work_view made.now ≡ work_of held
+        → OnOk result (found.new ≡ found.old ++ handing.rows_made work.now held) }
 {
     let known = made.known();
     found.push(row_of(alloc, work, known, None, &made.enacted().tree)?)?;
@@ -113,13 +114,10 @@ pub(crate) fn add_revised(
     touched: Day,
     found: &mut RefRows,
 ) -> Result<(), Memory>
-    requires fits { AreRevisionsOf (work_view kept.now) (work_revision_view revision.now).tables }
-    requires right { IsFor (work_revision_view revision.now).known
-        (renewed (work_view kept.now) (work_revision_view revision.now)) }
-    requires made { work_revision_view revision.now
-        ≡ work_revision_of (work_view kept.now) (work_revision_view revision.now).known (Some touched) }
-    ensures { OnOk result (found.new
-        ≡ found.old ++ handing.rows_from work.now touched (work_revision_view revision.now).known) }
+    requires { AreRevisionsOf (work_view kept.now) (work_revision_view revision.now).tables }
+    ensures { (held : KnownValue) → IsFor held (renewed (work_view kept.now) (work_revision_view revision.now))
+        → work_revision_view revision.now ≡ work_revision_of (work_view kept.now) held (Some touched)
+        → OnOk result (found.new ≡ found.old ++ handing.rows_from work.now touched held) }
 {
     let known = revision.known();
     let version = kept.on_after(Some(revision), Reading::Force, touched);

@@ -1,112 +1,71 @@
 //! The index of references, as an entry or an opening leaves it. It is made before the keeper is asked.
 
-ghost use Rattle.std.specs.Prelude.{◌≡◌, ◌+◌, ◌≤◌, ◌++◌, ◌∷◌, [], None, Some, IfOk};
+ghost use Rattle.std.specs.Prelude.{◌≡◌, ◌+◌, ◌≤◌, ◌++◌, ◌∷◌, [], false, true, None, IfOk, OnOk, map, option_map};
+ghost use Rattle.std.specs.List.{AllByRecursion};
 ghost use Rattle.std.specs.Map.{keys_of};
-ghost use Rattle.law_refs.specs.Handing.{judged_at_opening, rows_made, rows_opened};
-ghost use Rattle.law_refs.specs.Index.{revised as index_revised, revision_steps};
-ghost use Rattle.law_refs.specs.Missing.{missing};
+ghost use Rattle.law_register.specs.Provisions.Carrying.{held_now};
+ghost use Rattle.law_register.specs.Register.Indexes.{act_of};
+ghost use Rattle.law_register.specs.Register.Verdicts.{is_legal};
+ghost use Rattle.law_refs.specs.Handing.{judged_at_opening, judged_for, moved_by, rows_enacted, rows_if, rows_of_entry, rows_opened, rows_touched, work_enacted};
+ghost use Rattle.law_refs.specs.Names.{is_among};
 ghost use Rattle.law_refs.specs.OfRegister.{IsIndexOf};
-ghost use Rattle.law_refs.specs.Right.{IsRightBut};
-ghost use Rattle.version_cache.specs.Seen.{work_revision_view, work_view};
-ghost use Rattle.version_cache.specs.Works.{AreRevisionsOf, IsFor, renewed, work_of, work_revision_of};
+ghost use Rattle.version_cache.specs.Seen.{work_revision_view};
 ghost use Rattle.law_office.specs.Line.{AreInLine};
+ghost use Rattle.law_office.specs.Asked.{AreOnce};
+ghost use Rattle.law_office.specs.Movements.{AreMoved, IsAccepted, IsMadeIf, IsMove, days_moved};
 ghost use Rattle.law_office.specs.References as spec;
 ghost use Rattle.law_office.specs.Tables.{enacted_view, kept_in, revised_view};
 ghost use Rattle.law_office.specs.Targets.{AreAfter};
 
 use crate::book::KeptWorks;
+use crate::moving::Moved;
 use crate::ref_rows::{add_made, add_revised};
 use crate::targets_after::TargetsAfter;
 use desk_base::{Day, Memory, Steps};
 use frbr_names::WorkName;
 use law_refs::laws::{
-    an_opening_hands_in, an_opening_judges, new_index_is_of_no_entries,
-    revision_follows_the_register,
+    an_entry_hands_in, an_opening_hands_in, an_opening_judges, new_index_is_of_no_entries,
+    revision_follows_the_register, what_did_not_move_stays_right,
+    what_moves_no_work_leaves_the_index,
 };
 use law_refs::{RefIndex, RefRevision, RefRows, Works};
+use law_register::laws::entries_are_legal;
 use law_register::{Entry, Register};
 use std::alloc::Global;
 use std::sync::ledger::Ledger;
 use version_cache::{WorkRevision, WorkTables};
 
-fn one_work(alloc: Global, work: &WorkName) -> Result<Works, Memory>
-    ensures { IfOk result (λ works. works ≡ work.now ∷ []) }
-{
-    let mut works = Works::new(alloc);
-    works.insert(work.copy()?)?;
-    Ok(works)
-}
-
-// The revision of an index, where this work moved and these rows are handed in.
-fn revise_index<L: Ledger>(
+// Adds the name of a work that is revised from a day on, and the rows of the references that it hands in from it; none, where no day is
+// touched.
+fn gather_one(
     alloc: Global,
-    index: &RefIndex,
+    _register: &Register,
+    _entry: &Entry,
+    tables: &KeptWorks,
     work: &WorkName,
-    rows: &RefRows,
-    targets: &TargetsAfter<'_>,
-    steps: &mut Steps<L>,
-) -> Result<RefRevision, Memory>
-    requires { IsRightBut (missing targets.now) (work.now ∷ []) index.now }
-    ensures revision { IfOk result
-        (λ revision. revision ≡ index_revised (missing targets.now) (work.now ∷ []) rows.now index.now) }
-    ensures steps { steps.new ≤ steps.old + revision_steps (work.now ∷ []) rows.now index.now }
+    revision: &WorkRevision,
+    works: &mut Works,
+    rows: &mut RefRows,
+) -> Result<(), Memory>
+    requires fresh { AllByRecursion (λ name. is_among name works.old ≡ false)
+        (spec.work_moved work.now (work_revision_view revision.now)) }
+    requires moved { spec.IsMovedAs (kept_in tables.now work.now)
+        (held_now (_register.now.entries ++ _entry.now ∷ []) work.now) (work_revision_view revision.now) }
+    ensures works { OnOk result (works.new ≡ works.old ++ spec.work_moved work.now (work_revision_view revision.now)) }
+    ensures rows { OnOk result (rows.new ≡ rows.old ++ rows_if
+        (λ held. spec.rows_moved work.now held (work_revision_view revision.now))
+        (held_now (_register.now.entries ++ _entry.now ∷ []) work.now)) }
 {
-    let moved = one_work(alloc, work)?;
-    index.revise(alloc, rows, &moved, targets, steps)
-}
-
-/// The revision of the index with an entry that enacts a work, of which this is to be kept.
-pub(crate) fn refs_enacted<L: Ledger>(
-    alloc: Global,
-    register: &Register,
-    tables: &KeptWorks,
-    index: &RefIndex,
-    entry: &Entry,
-    enacted: &(WorkName, WorkTables),
-    steps: &mut Steps<L>,
-) -> Result<RefRevision, Memory>
-    requires after { AreAfter (register.now.entries ++ entry.now ∷ []) (Some (enacted_view enacted.now)) None (kept_in tables.now) }
-    requires made { work_view enacted.now.1 ≡ work_of (work_view enacted.now.1).known }
-    requires still { IsRightBut (missing (register.now.entries ++ entry.now ∷ [])) (enacted.now.0 ∷ []) index.now }
-    ensures revision { IfOk result (λ revision. revision ≡ spec.index_enacted (register.now.entries ++ entry.now ∷ [])
-        enacted.now.0 (work_view enacted.now.1).known index.now) }
-    ensures steps { steps.new ≤ steps.old
-        + revision_steps (enacted.now.0 ∷ []) (rows_made enacted.now.0 (work_view enacted.now.1).known) index.now }
-{
-    let mut rows = RefRows::new(alloc);
-    add_made(alloc, &enacted.0, &enacted.1, &mut rows)?;
-    let targets = TargetsAfter::enacting(register, entry, tables, enacted);
-    revise_index(alloc, index, &enacted.0, &rows, &targets, steps)
-}
-
-// The revision of the index with an entry that touches this day in a work, of which what is kept is revised so.
-fn refs_touched<L: Ledger>(
-    alloc: Global,
-    register: &Register,
-    tables: &KeptWorks,
-    index: &RefIndex,
-    entry: &Entry,
-    kept: &WorkTables,
-    revised: &(WorkName, WorkRevision),
-    day: Day,
-    steps: &mut Steps<L>,
-) -> Result<RefRevision, Memory>
-    requires after { AreAfter (register.now.entries ++ entry.now ∷ []) None (Some (revised_view revised.now)) (kept_in tables.now) }
-    requires fits { AreRevisionsOf (work_view kept.now) (work_revision_view revised.now.1).tables }
-    requires right { IsFor (work_revision_view revised.now.1).known
-        (renewed (work_view kept.now) (work_revision_view revised.now.1)) }
-    requires made { work_revision_view revised.now.1
-        ≡ work_revision_of (work_view kept.now) (work_revision_view revised.now.1).known (Some day) }
-    requires still { IsRightBut (missing (register.now.entries ++ entry.now ∷ [])) (revised.now.0 ∷ []) index.now }
-    ensures revision { IfOk result (λ revision. Some revision ≡ spec.index_touched (register.now.entries ++ entry.now ∷ [])
-        revised.now.0 (work_revision_view revised.now.1).known (Some day) index.now) }
-    ensures steps { steps.new ≤ steps.old
-        + spec.touched_steps revised.now.0 (work_revision_view revised.now.1).known (Some day) index.now }
-{
-    let mut rows = RefRows::new(alloc);
-    add_revised(alloc, &revised.0, kept, &revised.1, day, &mut rows)?;
-    let targets = TargetsAfter::revising(register, entry, tables, revised);
-    revise_index(alloc, index, &revised.0, &rows, &targets, steps)
+    let Some(day) = touched_in(revision) else {
+        return Ok(());
+    };
+    match tables.get(work) {
+        Some(kept) => {
+            works.insert(work.copy()?)?;
+            add_revised(alloc, work, kept, revision, day, rows)
+        }
+        None => Ok(()),
+    }
 }
 
 // The day from which on a revision makes the tables of a work anew, if it makes any.
@@ -119,35 +78,124 @@ fn touched_in(revision: &WorkRevision) -> Option<Day>
     }
 }
 
-/// The revision of the index with an entry with which what is kept of a work is revised so. `None`: no day is touched.
-pub(crate) fn refs_revised<L: Ledger>(
+// The same of all works that are revised.
+fn gather_revised(
+    alloc: Global,
+    _register: &Register,
+    _entry: &Entry,
+    tables: &KeptWorks,
+    revised: &[(WorkName, WorkRevision)],
+    works: &mut Works,
+    rows: &mut RefRows,
+) -> Result<(), Memory>
+    requires fresh { AllByRecursion (λ t. is_among t.0 works.old ≡ false) (days_moved (map revised_view revised.now)) }
+    requires once { AreOnce (map (λ t. t.0) (days_moved (map revised_view revised.now))) }
+    requires moves { AllByRecursion (IsMove _register.now.entries _entry.now (kept_in tables.now)) (map revised_view revised.now) }
+    ensures works { OnOk result (works.new
+        ≡ works.old ++ map (λ t. t.0) (days_moved (map revised_view revised.now))) }
+    ensures rows { OnOk result (rows.new ≡ rows.old
+        ++ rows_touched (_register.now.entries ++ _entry.now ∷ []) (days_moved (map revised_view revised.now))) }
+{
+    for (work, revision) in revised {
+        gather_one(
+            alloc, _register, _entry, tables, work, revision, works, rows,
+        )?;
+    }
+    Ok(())
+}
+
+// The same of the work that is enacted, if one is: all its rows.
+fn gather_enacted(
+    alloc: Global,
+    _register: &Register,
+    _entry: &Entry,
+    enacted: &Option<(WorkName, WorkTables)>,
+    works: &mut Works,
+    rows: &mut RefRows,
+) -> Result<(), Memory>
+    requires none { works.old ≡ [] }
+    requires made { IsMadeIf (_register.now.entries ++ _entry.now ∷ []) (act_of _entry.now.command) (option_map enacted_view enacted.now) }
+    ensures works { OnOk result (works.new ≡ works.old ++ work_enacted (act_of _entry.now.command)) }
+    ensures rows { OnOk result (rows.new ≡ rows.old
+        ++ rows_enacted (_register.now.entries ++ _entry.now ∷ []) (act_of _entry.now.command)) }
+{
+    match enacted {
+        Some((work, made)) => {
+            works.insert(work.copy()?)?;
+            add_made(alloc, work, made, rows)
+        }
+        None => Ok(()),
+    }
+}
+
+// The revision of the index with an entry that moves these works, and hands in these rows.
+fn revise_moved<L: Ledger>(
     alloc: Global,
     register: &Register,
     tables: &KeptWorks,
     index: &RefIndex,
     entry: &Entry,
-    kept: &WorkTables,
-    revised: &(WorkName, WorkRevision),
+    moved: &Moved,
+    works: &Works,
+    rows: &RefRows,
+    steps: &mut Steps<L>,
+) -> Result<RefRevision, Memory>
+    requires legal { is_legal (register.now.entries ++ entry.now ∷ []) ≡ true }
+    requires index { IsIndexOf register.now.entries index.now }
+    requires moved { AreMoved register.now.entries entry.now (kept_in tables.now)
+        (option_map enacted_view moved.now.enacted) (map revised_view moved.now.revised.items) }
+    requires works { works.now ≡ moved_by register.now.entries entry.now }
+    requires rows { rows.now ≡ rows_of_entry register.now.entries entry.now }
+    ensures index { IfOk result (λ revision. IsIndexOf (register.now.entries ++ entry.now ∷ []) revision) }
+    ensures steps { steps.new ≤ steps.old + judged_for index.now register.now.entries entry.now }
+{
+    an_entry_hands_in();
+    what_did_not_move_stays_right();
+    revision_follows_the_register();
+    let targets = TargetsAfter::moving(register, entry, tables, moved);
+    index.revise(alloc, rows, works, &targets, steps)
+}
+
+/// The revision of the index with an entry that moves works. `None`: it moves none from a day on.
+pub(crate) fn refs_moved<L: Ledger>(
+    alloc: Global,
+    register: &Register,
+    tables: &KeptWorks,
+    index: &RefIndex,
+    entry: &Entry,
+    moved: &Moved,
     steps: &mut Steps<L>,
 ) -> Result<Option<RefRevision>, Memory>
-    requires after { AreAfter (register.now.entries ++ entry.now ∷ []) None (Some (revised_view revised.now)) (kept_in tables.now) }
-    requires fits { AreRevisionsOf (work_view kept.now) (work_revision_view revised.now.1).tables }
-    requires right { IsFor (work_revision_view revised.now.1).known
-        (renewed (work_view kept.now) (work_revision_view revised.now.1)) }
-    requires made { work_revision_view revised.now.1 ≡ work_revision_of (work_view kept.now)
-        (work_revision_view revised.now.1).known (spec.touched_in (work_revision_view revised.now.1)) }
-    requires still { IsRightBut (missing (register.now.entries ++ entry.now ∷ [])) (revised.now.0 ∷ []) index.now }
-    ensures revision { IfOk result (λ revision. revision ≡ spec.index_touched (register.now.entries ++ entry.now ∷ [])
-        revised.now.0 (work_revision_view revised.now.1).known (spec.touched_in (work_revision_view revised.now.1)) index.now) }
-    ensures steps { steps.new ≤ steps.old + spec.touched_steps revised.now.0
-        (work_revision_view revised.now.1).known (spec.touched_in (work_revision_view revised.now.1)) index.now }
+    requires accepted { IsAccepted register.now.entries entry.now }
+    requires index { IsIndexOf register.now.entries index.now }
+    requires moved { AreMoved register.now.entries entry.now (kept_in tables.now)
+        (option_map enacted_view moved.now.enacted) (map revised_view moved.now.revised.items) }
+    ensures index { IfOk result (λ refs. IsIndexOf (register.now.entries ++ entry.now ∷ []) (spec.index_after refs index.now)) }
+    ensures steps { steps.new ≤ steps.old + judged_for index.now register.now.entries entry.now }
 {
-    match touched_in(&revised.1) {
-        Some(day) => Ok(Some(refs_touched(
-            alloc, register, tables, index, entry, kept, revised, day, steps,
-        )?)),
-        None => Ok(None),
+    entries_are_legal(register);
+    what_moves_no_work_leaves_the_index();
+    let mut works = Works::new(alloc);
+    let mut rows = RefRows::new(alloc);
+    gather_enacted(
+        alloc,
+        register,
+        entry,
+        &moved.enacted,
+        &mut works,
+        &mut rows,
+    )?;
+    let revised = moved.revised.as_slice();
+    gather_revised(
+        alloc, register, entry, tables, revised, &mut works, &mut rows,
+    )?;
+    if works.as_slice().is_empty() {
+        return Ok(None);
     }
+    let revision = revise_moved(
+        alloc, register, tables, index, entry, moved, &works, &rows, steps,
+    )?;
+    Ok(Some(revision))
 }
 
 /// The index of the works of a register, of which this is kept and these are the rows. A new index has no work, so that none of those
@@ -159,7 +207,7 @@ pub(crate) fn index_of<L: Ledger>(
     rows: &RefRows,
     steps: &mut Steps<L>,
 ) -> Result<RefIndex, Memory>
-    requires after { AreAfter register.now.entries None None (kept_in tables.now) }
+    requires after { AreAfter register.now.entries None [] (kept_in tables.now) }
     requires line { AreInLine register.now.entries (keys_of tables.now.entries) }
     requires rows { rows.now ≡ rows_opened register.now.entries (keys_of tables.now.entries) }
     ensures index { IfOk result (IsIndexOf register.now.entries) }

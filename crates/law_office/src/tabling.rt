@@ -4,7 +4,8 @@ ghost use Rattle.std.specs.Prelude.{◌≡◌, ◌≢◌, ◌+◌, ◌≤◌, �
 ghost use Rattle.std.specs.List.{sum_by};
 ghost use Rattle.std.specs.Map.{keys_of};
 ghost use Rattle.law_register.specs.Answer.Renewing.{costs_from, opening_cost};
-ghost use Rattle.law_register.specs.Register.KnownNext.{known_now};
+ghost use Rattle.law_register.specs.declared.register.known.Known.{Known as KnownValue};
+ghost use Rattle.law_register.specs.Provisions.Carrying.{held_now};
 ghost use Rattle.indexmap.specs.IndexMap.{spare};
 ghost use Rattle.law_refs.specs.Handing.{judged_at_opening, rows_if, rows_made, rows_opened};
 ghost use Rattle.law_refs.specs.OfRegister.{IsIndexOf};
@@ -14,49 +15,78 @@ ghost use Rattle.viewpoints.specs.Right as viewpoints;
 ghost use Rattle.law_keeper.specs.Keepers.{Keeps, LeavesOldOrSame};
 ghost use Rattle.law_register.specs.declared.desk.open_fault.OpenFault.TheVariants as fails;
 ghost use Rattle.law_office.specs.Line.{AreInLine};
+ghost use Rattle.law_office.specs.Noting.{AreNoted};
 ghost use Rattle.law_office.specs.Offices.{HoldsBook, IsRight};
 ghost use Rattle.law_office.specs.Opening as spec;
 ghost use Rattle.law_office.specs.Opening.{HasOpenCause, Opens, StaysUnlessFailed, TakesRefused, cost_opened, opened_of};
-ghost use Rattle.law_office.specs.Tables.{AddsWork, AreTablesOf, Matches, kept_in, table_on, with_enacted};
+ghost use Rattle.law_office.specs.Tables.{AddsWork, AreAhead, AreTablesOf, Matches, kept_in, table_on, with_enacted};
 
-use crate::book::{Book, KeptWorks};
+use crate::book::{Book, KeptWorks, Naming};
 use crate::line::{DatedWork, line_of};
+use crate::noting::naming_of;
 use crate::opening::Opened;
 use crate::ref_rows::add_made;
 use crate::references::index_of;
 use crate::renewing::add;
+use crate::sources_then::SourcesThen;
 use desk_base::{Memory, Steps};
 use frbr_names::WorkName;
+use held_provisions::carry;
 use indexmap::IndexMap;
 use law_keeper::Keeper;
 use law_refs::{RefIndex, RefRows};
-use law_register::laws::entries_are_legal;
-use law_register::{OpenFault, Register, known_at};
+use law_register::laws::{entries_are_legal, known_works_carry_nothing};
+use law_register::{Known, OpenFault, Register, known_at};
 use replay_core::FromEnacted;
+use source_provisions::laws::laws_have_lines;
 use std::alloc::Global;
 use std::sync::ledger::Ledger;
 use version_cache::{Table, WorkTables};
 use viewpoints::PastTables;
 
+// What is known of a work, with what it carries by what is kept of those on which it depends.
+fn held_of(
+    alloc: Global,
+    register: &Register,
+    tables: &KeptWorks,
+    work: &WorkName,
+) -> Result<Option<Known>, Memory>
+    requires ahead { AreAhead register.now.entries work.now (kept_in tables.now) }
+    ensures { IfOk result (λ held. held ≡ held_now register.now.entries work.now) }
+{
+    match known_at(alloc, register, work, register.front())? {
+        Some(known) => {
+            known_works_carry_nothing();
+            laws_have_lines();
+            let sources = SourcesThen {
+                tables,
+                enacted: None,
+                revised: &[],
+            };
+            Ok(Some(carry(alloc, &FromEnacted, &sources, known)?))
+        }
+        None => Ok(None),
+    }
+}
+
 // What is to be kept of a work, if it is known.
 fn make_work<L: Ledger>(
     alloc: Global,
     register: &Register,
+    tables: &KeptWorks,
     work: &WorkName,
     steps: &mut Steps<L>,
 ) -> Result<Option<WorkTables>, Memory>
+    requires ahead { AreAhead register.now.entries work.now (kept_in tables.now) }
     ensures made { IfOk result
-        (λ made. Matches (known_now register.now.entries work.now) (option_map work_view made)) }
+        (λ made. Matches (held_now register.now.entries work.now) (option_map work_view made)) }
     ensures is { IfOk result
-        (λ made. option_map work_view made ≡ option_map work_of (known_now register.now.entries work.now)) }
-    ensures itself { IfOk result
-        (λ made. option_map work_view made ≡ option_map (λ kept. work_of kept.known) (option_map work_view made)) }
-    ensures known { IfOk result
-        (λ made. option_map (λ kept. kept.known) (option_map work_view made) ≡ known_now register.now.entries work.now) }
-    ensures steps { steps.new ≤ steps.old + costs_from (known_now register.now.entries work.now) 0 }
+        (λ made. option_map work_view made ≡ option_map work_of (held_now register.now.entries work.now)) }
+    ensures steps { steps.new ≤ steps.old + costs_from (held_now register.now.entries work.now) 0 }
 {
-    match known_at(alloc, register, work, register.front())? {
-        Some(known) => Ok(Some(WorkTables::make(alloc, &FromEnacted, known, steps)?)),
+    entries_are_legal(register);
+    match held_of(alloc, register, tables, work)? {
+        Some(held) => Ok(Some(WorkTables::make(alloc, &FromEnacted, held, steps)?)),
         None => Ok(None),
     }
 }
@@ -70,12 +100,11 @@ fn add_with_rows(
     made: WorkTables,
 ) -> Result<(), Memory>
     requires space { 1 ≤ spare tables.old }
-    requires made { work_view made ≡ work_of (work_view made).known }
     ensures kept { OnOk result ((w : List ℕ) → kept_in tables.new w
         ≡ with_enacted (Some (work, work_view made)) w (kept_in tables.old w)) }
     ensures key { OnOk result (kept_in tables.old work ≡ None
         → keys_of tables.new.entries ≡ keys_of tables.old.entries ++ work ∷ []) }
-    ensures rows { OnOk result (rows.new ≡ rows.old ++ rows_made work (work_view made).known) }
+    ensures rows { (held : KnownValue) → work_view made ≡ work_of held → OnOk result (rows.new ≡ rows.old ++ rows_made work held) }
 {
     match add_made(alloc, &work, &made, rows) {
         Ok(()) => {
@@ -99,17 +128,18 @@ fn add_work<L: Ledger>(
     rows: &mut RefRows,
     steps: &mut Steps<L>,
 ) -> Result<(), Memory>
-    ensures kept { OnOk result (AddsWork (known_now register.now.entries work.now) work.now
+    requires ahead { AreAhead register.now.entries work.now (kept_in tables.old) }
+    ensures kept { OnOk result (AddsWork (held_now register.now.entries work.now) work.now
         (kept_in tables.old) (kept_in tables.new)) }
-    ensures key { OnOk result (known_now register.now.entries work.now ≢ None → kept_in tables.old work.now ≡ None
+    ensures key { OnOk result (held_now register.now.entries work.now ≢ None → kept_in tables.old work.now ≡ None
         → keys_of tables.new.entries ≡ keys_of tables.old.entries ++ work.now ∷ []) }
     ensures rows { OnOk result
-        (rows.new ≡ rows.old ++ rows_if (rows_made work.now) (known_now register.now.entries work.now)) }
-    ensures steps { steps.new ≤ steps.old + costs_from (known_now register.now.entries work.now) 0 }
+        (rows.new ≡ rows.old ++ rows_if (rows_made work.now) (held_now register.now.entries work.now)) }
+    ensures steps { steps.new ≤ steps.old + costs_from (held_now register.now.entries work.now) 0 }
 {
     tables.reserve(1)?;
     let name = work.copy()?;
-    match make_work(alloc, register, work, steps)? {
+    match make_work(alloc, register, tables, work, steps)? {
         Some(made) => add_with_rows(alloc, tables, rows, name, made),
         None => {
             drop(name);
@@ -134,7 +164,7 @@ fn add_all<L: Ledger>(
     ensures keys { OnOk result (keys_of tables.new.entries ≡ map (λ d. d.work) line.now) }
     ensures rows { OnOk result (rows.new ≡ rows_opened register.now.entries (map (λ d. d.work) line.now)) }
     ensures steps { steps.new ≤ steps.old
-        + sum_by (λ work. costs_from (known_now register.now.entries work) 0) (map (λ d. d.work) line.now) }
+        + sum_by (λ work. costs_from (held_now register.now.entries work) 0) (map (λ d. d.work) line.now) }
 {
     entries_are_legal(register);
     for dated in line {
@@ -186,22 +216,46 @@ fn make_index<L: Ledger>(
     Ok((tables, index))
 }
 
-// What is kept of works, of past viewpoints and of references.
+// The same, with the works that name a provision.
+fn make_named<L: Ledger>(
+    alloc: Global,
+    register: &Register,
+    steps: &mut Steps<L>,
+) -> Result<(KeptWorks, Naming, RefIndex), Memory>
+    ensures right { IfOk result (λ made. AreTablesOf register.now.entries (kept_in made.0)) }
+    ensures line { IfOk result (λ made. AreInLine register.now.entries (keys_of made.0.entries)) }
+    ensures named { IfOk result (λ made. AreNoted made.1 (kept_in made.0)) }
+    ensures index { IfOk result (λ made. IsIndexOf register.now.entries made.2) }
+    ensures steps { steps.new ≤ steps.old + (opening_cost register.now.entries + judged_at_opening register.now.entries) }
+{
+    let (tables, refs) = make_index(alloc, register, steps)?;
+    match naming_of(alloc, &tables) {
+        Ok(naming) => Ok((tables, naming, refs)),
+        Err(Memory) => {
+            drop(tables);
+            drop(refs);
+            Err(Memory)
+        }
+    }
+}
+
+// What is kept of works, which of them name a provision, and what is kept of past viewpoints and of references.
 fn make_kept<L: Ledger>(
     alloc: Global,
     register: &Register,
     steps: &mut Steps<L>,
-) -> Result<(KeptWorks, PastTables<Table>, RefIndex), Memory>
+) -> Result<(KeptWorks, Naming, PastTables<Table>, RefIndex), Memory>
     ensures tables { IfOk result (λ kept. AreTablesOf register.now.entries (kept_in kept.0)) }
     ensures line { IfOk result (λ kept. AreInLine register.now.entries (keys_of kept.0.entries)) }
-    ensures none { IfOk result (λ kept. kept.1 ≡ []) }
-    ensures past { IfOk result (λ kept. viewpoints.IsRight table_on register.now.entries kept.1) }
-    ensures index { IfOk result (λ kept. IsIndexOf register.now.entries kept.2) }
+    ensures named { IfOk result (λ kept. AreNoted kept.1 (kept_in kept.0)) }
+    ensures none { IfOk result (λ kept. kept.2 ≡ []) }
+    ensures past { IfOk result (λ kept. viewpoints.IsRight table_on register.now.entries kept.2) }
+    ensures index { IfOk result (λ kept. IsIndexOf register.now.entries kept.3) }
     ensures steps { steps.new ≤ steps.old + (opening_cost register.now.entries + judged_at_opening register.now.entries) }
 {
     let past = PastTables::new(alloc)?;
-    let (tables, refs) = make_index(alloc, register, steps)?;
-    Ok((tables, past, refs))
+    let (tables, naming, refs) = make_named(alloc, register, steps)?;
+    Ok((tables, naming, past, refs))
 }
 
 // The same, where want of memory is told as an opening tells it.
@@ -274,7 +328,7 @@ impl Book {
             + (opening_cost opened.register.entries + judged_at_opening opened.register.entries) }
     {
         match make_kept(alloc, &opened.register, steps) {
-            Ok((tables, past, refs)) => {
+            Ok((tables, naming, past, refs)) => {
                 let Opened { register, end } = opened;
                 Ok(Book {
                     register,
@@ -282,6 +336,7 @@ impl Book {
                     pending: None,
                     marks: Vec::new(alloc),
                     tables,
+                    naming,
                     past,
                     refs,
                 })

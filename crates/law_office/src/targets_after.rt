@@ -1,15 +1,17 @@
 //! TargetsAfter: what references name, by the tables that an entry leaves. A clause sees it as the entries that there are then.
 
-ghost use Rattle.std.specs.Prelude.{◌≡◌, ◌++◌, ◌∷◌, [], None, Some, option_map};
+ghost use Rattle.std.specs.Prelude.{◌≡◌, ◌++◌, ◌∷◌, [], None, map, option_map};
 ghost use Rattle.frbr_names.specs.ExpressionViews.{expression_view};
 ghost use Rattle.law_refs.specs.Missing.{missing};
-ghost use Rattle.version_cache.specs.Seen.{work_revision_view};
+ghost use Rattle.law_office.specs.Movements.{FitOnce, kept_then, then_of};
 ghost use Rattle.law_office.specs.Tables.{enacted_view, kept_in, revised_view};
 ghost use Rattle.law_office.specs.Targets as spec;
 ghost use Rattle.law_office.specs.Targets.{AreAfter};
 
 use crate::book::KeptWorks;
 use crate::kept_then::KeptThen;
+use crate::moving::Moved;
+use crate::sources_then::revision_among;
 use crate::spelled::Spelled;
 use desk_base::{Memory, Steps};
 use frbr_names::{ExpressionIri, WorkName};
@@ -32,11 +34,11 @@ pub(crate) struct TargetsAfter<'a> {
     entry: Option<&'a Entry>,
     tables: &'a KeptWorks,
     enacted: Option<&'a (WorkName, WorkTables)>,
-    revised: Option<&'a (WorkName, WorkRevision)>,
+    revised: &'a [(WorkName, WorkRevision)],
 }
 
 impl<'a> Model for TargetsAfter<'a> {
-    ghost use Rattle.std.specs.Prelude.{List, option_map};
+    ghost use Rattle.std.specs.Prelude.{List, map, option_map};
     ghost use Rattle.law_register.specs.declared.register.entry.Entry.{Entry as EntryValue};
     ghost use Rattle.law_office.specs.Tables.{enacted_view, kept_in, revised_view};
     ghost use Rattle.law_office.specs.Targets.{AreAfter, with_entry};
@@ -52,37 +54,20 @@ impl<'a> Model for TargetsAfter<'a> {
     ghost view = { λ t. with_entry t.register.now.entries (option_map (λ e. e.now) t.entry) };
 
     ghost invariant = { λ t. AreAfter (with_entry t.register.now.entries (option_map (λ e. e.now) t.entry))
-        (option_map (λ e. enacted_view e.now) t.enacted) (option_map (λ r. revised_view r.now) t.revised) (kept_in t.tables.now) };
-}
-
-// The revision of what is kept of a work, if it is the one that is revised.
-fn revision_for<'a>(
-    revised: Option<&'a (WorkName, WorkRevision)>,
-    work: &str,
-) -> Option<&'a WorkRevision>
-    ensures { option_map (λ r. work_revision_view r.now) result
-        ≡ spec.revision_for (option_map (λ r. revised_view r.now) revised.entry) work.now }
-{
-    let (name, revision) = revised?;
-    if name.as_str() == work {
-        Some(revision)
-    } else {
-        None
-    }
+        (option_map (λ e. enacted_view e.now) t.enacted) (map revised_view t.revised.now) (kept_in t.tables.now) };
 }
 
 // What is kept of a work, with the revision of it, if there is one.
 fn kept_revised<'a>(
     tables: &'a KeptWorks,
-    revised: Option<&'a (WorkName, WorkRevision)>,
+    revised: &'a [(WorkName, WorkRevision)],
     work: &str,
 ) -> Option<KeptThen<'a>>
-    requires { spec.FitsKept (option_map (λ r. revised_view r.now) revised) work.now (kept_in tables.now work.now) }
-    ensures { option_map spec.then_view result
-        ≡ spec.with_revised (option_map (λ r. revised_view r.now) revised.entry) work.now (kept_in tables.now work.now) }
+    requires { FitOnce (map revised_view revised.now) (kept_in tables.now) }
+    ensures { option_map spec.then_view result ≡ kept_then (map revised_view revised.now) (kept_in tables.now) work.now }
 {
     let kept = tables.get(Spelled { text: work })?;
-    let revision = revision_for(revised, work);
+    let revision = revision_among(revised, work);
     Some(KeptThen { kept, revision })
 }
 
@@ -90,12 +75,12 @@ fn kept_revised<'a>(
 fn kept_then<'a>(
     tables: &'a KeptWorks,
     enacted: Option<&'a (WorkName, WorkTables)>,
-    revised: Option<&'a (WorkName, WorkRevision)>,
+    revised: &'a [(WorkName, WorkRevision)],
     work: &str,
 ) -> Option<KeptThen<'a>>
-    requires { spec.FitsKept (option_map (λ r. revised_view r.now) revised) work.now (kept_in tables.now work.now) }
-    ensures { option_map spec.then_view result ≡ spec.kept_then (option_map (λ e. enacted_view e.now) enacted.entry)
-        (option_map (λ r. revised_view r.now) revised.entry) (kept_in tables.now) work.now }
+    requires { FitOnce (map revised_view revised.now) (kept_in tables.now) }
+    ensures { option_map spec.then_view result ≡ then_of (option_map (λ e. enacted_view e.now) enacted.entry)
+        (map revised_view revised.now) (kept_in tables.now) work.now }
 {
     let Some((name, kept)) = enacted else {
         return kept_revised(tables, revised, work);
@@ -111,7 +96,7 @@ fn kept_then<'a>(
 impl<'a> TargetsAfter<'a> {
     /// As things stand now.
     pub(crate) fn now(register: &'a Register, tables: &'a KeptWorks) -> TargetsAfter<'a>
-        requires { AreAfter register.now.entries None None (kept_in tables.now) }
+        requires { AreAfter register.now.entries None [] (kept_in tables.now) }
         ensures { result ≡ register.now.entries }
     {
         TargetsAfter {
@@ -119,45 +104,27 @@ impl<'a> TargetsAfter<'a> {
             entry: None,
             tables,
             enacted: None,
-            revised: None,
+            revised: &[],
         }
     }
 
-    /// Behind an entry that enacts a work, of which this is to be kept.
-    pub(crate) fn enacting(
+    /// Behind an entry that moves works.
+    pub(crate) fn moving(
         register: &'a Register,
         entry: &'a Entry,
         tables: &'a KeptWorks,
-        enacted: &'a (WorkName, WorkTables),
+        moved: &'a Moved,
     ) -> TargetsAfter<'a>
-        requires { AreAfter (register.now.entries ++ entry.now ∷ []) (Some (enacted_view enacted.now)) None (kept_in tables.now) }
+        requires { AreAfter (register.now.entries ++ entry.now ∷ []) (option_map enacted_view moved.now.enacted)
+            (map revised_view moved.now.revised.items) (kept_in tables.now) }
         ensures { result ≡ register.now.entries ++ entry.now ∷ [] }
     {
         TargetsAfter {
             register,
             entry: Some(entry),
             tables,
-            enacted: Some(enacted),
-            revised: None,
-        }
-    }
-
-    /// Behind an entry with which what is kept of a work is revised so.
-    pub(crate) fn revising(
-        register: &'a Register,
-        entry: &'a Entry,
-        tables: &'a KeptWorks,
-        revised: &'a (WorkName, WorkRevision),
-    ) -> TargetsAfter<'a>
-        requires { AreAfter (register.now.entries ++ entry.now ∷ []) None (Some (revised_view revised.now)) (kept_in tables.now) }
-        ensures { result ≡ register.now.entries ++ entry.now ∷ [] }
-    {
-        TargetsAfter {
-            register,
-            entry: Some(entry),
-            tables,
-            enacted: None,
-            revised: Some(revised),
+            enacted: moved.enacted.as_ref(),
+            revised: moved.revised.as_slice(),
         }
     }
 

@@ -8,6 +8,7 @@ ghost use Rattle.law_office.specs.Acting.{resolved, resolved_end};
 ghost use Rattle.law_office.specs.Opening.{opened, spellings};
 ghost use Rattle.law_office.specs.Moving.{Moves};
 ghost use Rattle.law_refs.specs.OfRegister.{IsIndexOf};
+ghost use Rattle.law_office.specs.Noting.{AreNoted};
 ghost use Rattle.law_office.specs.Offices.{IsPendingOn, IsRight, index_standing, pending_of};
 ghost use Rattle.law_office.specs.References.{index_after};
 ghost use Rattle.law_office.specs.Tables.{AreTablesOf, kept_in, table_on};
@@ -104,13 +105,14 @@ impl Book {
     // An entry that the keeper has stands behind the others, up to this cursor, and what is kept is for it.
     pub(crate) fn commit(&mut self, pending: Pending, end: u64)
         requires right { IsRight self.old }
-        requires follows { IsPendingOn self.old.register self.old.tables self.old.refs pending }
+        requires follows { IsPendingOn self.old.register self.old.tables self.old.naming self.old.refs pending }
         ensures entries { self.new.register.entries ≡ self.old.register.entries ++ pending.entry ∷ [] }
         ensures opens { opened (spellings self.new.register.entries) ≡ Ok self.new.register.entries }
         ensures end { self.new.end ≡ end }
         ensures pending { self.new.pending ≡ self.old.pending }
         ensures moves { Moves self.old self.new }
         ensures tables { AreTablesOf self.new.register.entries (kept_in self.new.tables) }
+        ensures named { AreNoted self.new.naming (kept_in self.new.tables) }
         ensures refs { self.new.refs ≡ index_after pending.changes.refs self.old.refs }
         ensures index { IsIndexOf self.new.register.entries self.new.refs }
         ensures right { viewpoints.IsRight table_on self.new.register.entries self.new.past }
@@ -128,7 +130,7 @@ impl Book {
     // The keeper has an entry, or has not: it is pending.
     pub(crate) fn leave(&mut self, pending: Pending)
         requires right { IsRight self.old }
-        requires follows { IsPendingOn self.old.register self.old.tables self.old.refs pending }
+        requires follows { IsPendingOn self.old.register self.old.tables self.old.naming self.old.refs pending }
         ensures entries { self.new.register.entries ≡ self.old.register.entries }
         ensures end { self.new.end ≡ self.old.end }
         ensures pending { pending_of self.new.pending ≡ Some pending.entry }

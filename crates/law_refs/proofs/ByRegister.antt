@@ -1,5 +1,5 @@
 -- What an index of a register lists is what dangles by the register alone.
-use Rattle.std.proofs.Common.{◌≡◌, ◌∙◌, ℕ, sym, ap, refl, subst, Bool, true, false, cond, ◌||◌, List, [], ◌∷◌, ◌++◌, map}
+use Rattle.std.proofs.Common.{◌≡◌, ◌∙◌, ℕ, ◌≤◌, sym, ap, refl, subst, Bool, true, false, cond, ◌||◌, List, [], ◌∷◌, ◌++◌, map}
 use Rattle.std.specs.Prelude.{nat_le, Option, Some, None, is_some}
 use Rattle.std.specs.BTreeMap.{is_at}
 use Rattle.std.specs.Cmp.Lexicographic.{slice_cmp}
@@ -16,7 +16,7 @@ use Rattle.std.proofs.lemmas.Map.Text.{is_eq-slice_cmp}
 use Rattle.std.proofs.lemmas.Slice.Eq.{bytes_eq-Decides}
 use Rattle.law_register.specs.declared.register.entry.Entry.{Entry}
 use Rattle.law_register.specs.declared.register.known.Known.{Known}
-use Rattle.law_register.specs.Register.KnownNext.{known_now}
+use Rattle.law_register.specs.Provisions.Carrying.{held_now}
 use Rattle.law_refs.specs.Index.{Kept, kept_of}
 use Rattle.law_refs.specs.Judging.{Answers, judged}
 use Rattle.law_refs.specs.Listed.{all_listed, dangling_on, listed_of}
@@ -43,18 +43,18 @@ refs_judged answers day kept right =
     ap (λ (one : WorkRefs). refs_on day one.rows) (sym right) ∙ latest_anew answers day [] kept.rows
     ∙ sym (judged_unjudged answers (refs_on day kept.rows))
 
-listed_for : (entries : List Entry) (day : ℕ) (work : List ℕ) (known : Known) (kept : WorkRefs)
+listed_for : (entries : List Entry) (day : ℕ) → 1 ≤ day → (work : List ℕ) (known : Known) (kept : WorkRefs)
     → anew_work (missing entries) kept ≡ kept → IsFor known kept → listed_of day work kept ≡ dangling_of entries day work known
 unfolding listed_of dangling_of
-listed_for entries day work known kept right for =
+listed_for entries day real work known kept right for =
     ap (λ start. cond (nat_le start day) (all_listed work (refs_on day kept.rows)) []) for.act_day
     ∙ ap (λ refs. cond (nat_le known.act.day day) (all_listed work refs) [])
-    (refs_judged (missing entries) day kept right ∙ ap (map (judged (missing entries))) (for.texts day))
+    (refs_judged (missing entries) day kept right ∙ ap (map (judged (missing entries))) (for.texts day real))
 
-listed_if : (entries : List Entry) (day : ℕ) (work : List ℕ) (known : Option Known) (kept : WorkRefs)
+listed_if : (entries : List Entry) (day : ℕ) → 1 ≤ day → (work : List ℕ) (known : Option Known) (kept : WorkRefs)
     → anew_work (missing entries) kept ≡ kept → Matches known (Some kept) → listed_of day work kept ≡ dangling_if entries day work known
-listed_if entries day work None kept right none = absurd none
-listed_if entries day work (Some known) kept right for = listed_for entries day work known kept right for
+listed_if entries day real work None kept right none = absurd none
+listed_if entries day real work (Some known) kept right for = listed_for entries day real work known kept right for
 
 -- ---- all works
 
@@ -66,12 +66,12 @@ abbrev others : Kept → Kept
 others [] = []
 others (e ∷ es) = es
 
-listed_all : (entries : List Entry) (day : ℕ) (index : Kept) → AllByRecursion (λ e. Matches (known_now entries e.0) (Some e.1)) index → IsRight (missing entries) index
+listed_all : (entries : List Entry) (day : ℕ) → 1 ≤ day → (index : Kept) → AllByRecursion (λ e. Matches (held_now entries e.0) (Some e.1)) index → IsRight (missing entries) index
     → dangling_on day index ≡ dangling_in entries day (keys_of index)
-listed_all entries day [] each right = refl
-listed_all entries day (e ∷ es) each right =
-    ap (λ here. here ++ dangling_on day es) (listed_if entries day e.0 (known_now entries e.0) e.1 (ap (first_kept e.1) right) each.0)
-    ∙ ap (λ rest. dangling_if entries day e.0 (known_now entries e.0) ++ rest) (listed_all entries day es each.1 (ap others right))
+listed_all entries day real [] each right = refl
+listed_all entries day real (e ∷ es) each right =
+    ap (λ here. here ++ dangling_on day es) (listed_if entries day real e.0 (held_now entries e.0) e.1 (ap (first_kept e.1) right) each.0)
+    ∙ ap (λ rest. dangling_if entries day e.0 (held_now entries e.0) ++ rest) (listed_all entries day real es each.1 (ap others right))
 
 itself : (work : List ℕ) → is_eq (slice_cmp nat_cmp work work) ≡ true
 itself work = is_eq-slice_cmp work work ∙ (bytes_eq-Decides work work).1 refl
@@ -117,12 +117,12 @@ as_known None (Some kept) none = absurd none
 as_known (Some known) None none = absurd none
 as_known (Some known) (Some kept) matches = refl
 
-pub lists_what_dangles : (index : Kept) → IsStrictlySortedBy (slice_cmp nat_cmp) (keys_of index) → (entries : List Entry) (day : ℕ) → IsIndexOf entries index → IsDangling entries day (dangling_on day index)
-lists_what_dangles index sorted entries day of_register = record {
+pub lists_what_dangles : (index : Kept) → IsStrictlySortedBy (slice_cmp nat_cmp) (keys_of index) → (entries : List Entry) (day : ℕ) → 1 ≤ day → IsIndexOf entries index → IsDangling entries day (dangling_on day index)
+lists_what_dangles index sorted entries day real of_register = record {
   works = keys_of index;
-  all = λ work. sym (as_among work (keys_of index)) ∙ sym (is_some-lookup (is_at (slice_cmp nat_cmp work)) index) ∙ as_known (known_now entries work) (kept_of work index) (of_register.kept work);
+  all = λ work. sym (as_among work (keys_of index)) ∙ sym (is_some-lookup (is_at (slice_cmp nat_cmp work)) index) ∙ as_known (held_now entries work) (kept_of work index) (of_register.kept work);
   in_order = sorted;
-  is = listed_all entries day index
-      (each_for (known_now entries) index sorted (λ work kept found. subst (Matches (known_now entries work)) found (of_register.kept work)))
+  is = listed_all entries day real index
+      (each_for (held_now entries) index sorted (λ work kept found. subst (Matches (held_now entries work)) found (of_register.kept work)))
       of_register.right;
 }

@@ -1,6 +1,7 @@
 -- What an entry hands in that comes to stand behind others is what the register has with it.
-use Rattle.std.proofs.Common.{◌≡◌, ◌∙◌, ℕ, ◌+◌, ◌<◌, sym, ap, refl, subst, Bool, true, false, cond, ◌⊎◌, inl, inr, List, [], ◌∷◌, ◌++◌, map, Option, Some, None, arith}
+use Rattle.std.proofs.Common.{◌≡◌, ◌∙◌, ℕ, ◌+◌, ◌<◌, ◌≤◌, sym, ap, ap₂, refl, subst, Bool, true, false, cond, List, [], ◌∷◌, ◌++◌, map, Option, Some, None, option_map}
 use Rattle.std.proofs.lemmas.List.{append-nil}
+use Rattle.std.specs.Option.{option_or}
 use Rattle.std.specs.Str.{bytes_eq}
 use Rattle.law_register.specs.declared.answer.question.Reading.TheVariants.{Force}
 use Rattle.law_register.specs.declared.law.act.Act.{Act}
@@ -9,50 +10,39 @@ use Rattle.law_register.specs.declared.law.command.Command.TheVariants.{Enact, R
 use Rattle.law_register.specs.declared.register.draft.DraftItem.{DraftItem}
 use Rattle.law_register.specs.declared.register.entry.Entry.{Entry}
 use Rattle.law_register.specs.declared.register.known.Known.{Known}
-use Rattle.law_register.specs.Answer.Replay.{VersionValue, replay_on}
-use Rattle.law_register.specs.Answer.Touched.{day_among, touched_day, touched_days, with_day, work_entered}
+use Rattle.law_register.specs.Answer.Replay.{VersionValue}
+use Rattle.law_register.specs.Answer.Touched.{day_among, work_entered}
+use Rattle.law_register.specs.Provisions.Carrying.{carrying, held_now}
+use Rattle.law_register.specs.Provisions.Line.{line}
+use Rattle.law_register.specs.Provisions.Touching.{touched, touched_works}
 use Rattle.law_register.specs.Register.Concerns.{is_named}
 use Rattle.law_register.specs.Register.Drafts.{draft_of}
 use Rattle.law_register.specs.Register.Indexes.{act_of}
-use Rattle.law_register.specs.Register.KnownNext.{known_by_entry, known_next, known_now, known_then, newly_known}
-use Rattle.law_register.specs.Register.LawList.{front, law_command, law_of}
+use Rattle.law_register.specs.Register.KnownNext.{known_by_entry, known_next, known_now, known_then, newly_known, up_to}
+use Rattle.law_register.specs.Register.LawList.{front, law_command, law_of, laws}
 use Rattle.law_register.specs.Register.Verdicts.{is_accepted, is_legal, verdict}
-use Rattle.law_register.proofs.ApartIds.{none_left}
+use Rattle.law_register.proofs.ApartIds.{none_left, none_right}
 use Rattle.law_register.proofs.Grown.{IsAccepted, enact_known}
 use Rattle.law_register.proofs.Next.{entry_apart, entry_next}
-use Rattle.law_register.proofs.Puts.{and_true, bytes_are, bytes_either, bytes_same, left_true, right_true}
+use Rattle.law_register.proofs.Puts.{and_true, bytes_either, bytes_same, left_true, right_true}
 use Rattle.law_register.proofs.Snoc.{legal_more}
-use Rattle.version_cache.specs.Agreement.{Agree}
-use Rattle.version_cache.specs.Steady.{CarrySteadily}
-use Rattle.version_cache.proofs.Agreeing.{agreeing_version}
-use Rattle.version_cache.proofs.OneMore.{one_more_of}
-use Rattle.law_refs.specs.Handing.{moved_by, moved_with, rows_by, rows_from, rows_if, rows_made, rows_of_entry, rows_touched}
+use Rattle.version_cache.specs.Agreement.{IsEarly}
+use Rattle.source_provisions.proofs.Enacted.{itself_untouched}
+use Rattle.source_provisions.proofs.HeldNow.{early_version, held_is, same_act}
+use Rattle.source_provisions.specs.Once.{AreOnce}
+use Rattle.source_provisions.proofs.Once.{touched_once}
+use Rattle.law_refs.specs.Handing.{moved_by, rows_enacted, rows_from, rows_if, rows_made, rows_of_entry, rows_touched, work_enacted}
 use Rattle.law_refs.specs.Index.{first_day}
 use Rattle.law_refs.specs.Missing.{refs_in_force, text_refs}
+use Rattle.law_refs.specs.Names.{is_among}
 use Rattle.law_refs.specs.OfRegister.{FollowsChange, HasSameRefs, IsHandedIn, SameRefs, rows_given}
 use Rattle.law_refs.specs.declared.ref_row.RefRow.{RefRow}
+use Rattle.law_refs.proofs.Opening.{first_both, given_both}
+use Rattle.law_refs.proofs.Revised.{nothing_given}
 use Rattle.law_refs.proofs.Texts.{first_other, from_handed, from_of, made_handed, made_of, now_steady}
-use Rattle.law_refs.proofs.Unmoved.{IsSameView, IsUnmoved, counted_on, unmoved_missing, unmoved_refs}
-
--- ---- views that agree before a day have the same text before it
-
-early_text : (old new : Known) (touched : ℕ) → Agree old new Force (Some touched) → (day : ℕ) → day < touched → replay_on old Force day ≡ replay_on new Force day
-early_text old new touched agree day early = agreeing_version old new Force day agree.act (agree.days day early)
-
-same_view : (old new : Known) → Agree old new Force None → IsSameView old new
-same_view old new agree = record { act = agree.act; texts = λ day. agreeing_version old new Force day agree.act (agree.days day tt) }
-
--- nothing modifies what was just enacted
-enacts_steadily : (number : ℕ) (act : Act) → CarrySteadily (newly_known number act)
-enacts_steadily number act = λ k d less. absurd (let no : k < 0 = less in omega (arith, no))
+use Rattle.law_refs.proofs.Unmoved.{IsUnmoved, unmoved_missing, unmoved_refs}
 
 -- ---- what an entry leaves
-
--- one work that is touched, with its day, and no other
-record IsOne (days : List (List ℕ × ℕ)) : Type 0 where
-  own : List ℕ
-  touched : ℕ
-  is : days ≡ (own, touched) ∷ []
 
 -- a work that is known stays known
 still_known : (n : ℕ) (work : List ℕ) (ls : List Command) (old : Known) → known_by_entry n work ls (Some old) ≡ None → ⊥
@@ -74,128 +64,243 @@ module _ (es : List Entry) (e : Entry) (legal : is_legal es ≡ true) where
   abbrev more : List Entry
   more = es ++ e ∷ []
 
+  abbrev held_old : Option Known → Option Known
+  held_old known = option_map (carrying (line (laws es))) known
+
+  abbrev held_new : Option Known → Option Known
+  held_new known = option_map (carrying (line (laws more))) known
+
   lost_is_not : (work : List ℕ) (old : Known) → known_now es work ≡ Some old → known_now more work ≡ None → ⊥
   lost_is_not work old was none =
       still_known (front es) work (law_of es e) old (sym (entry_next es e work legal ∙ ap (known_next es e work) was) ∙ none)
 
-  -- a work whose day it does not touch, and which it does not make known, is unmoved
-  unmoved : (work : List ℕ) → (known_now es work ≡ None → known_now more work ≡ None) → day_among (touched_days es e) work ≡ None → IsUnmoved (known_now es work) (known_now more work)
-  unmoved work unknown untouched = by (known_now es work) (known_now more work) refl refl
-    where
-      by : (old new : Option Known) → known_now es work ≡ old → known_now more work ≡ new → IsUnmoved old new
-      by None None was is = tt
-      by None (Some new) was is = absurd (let no : None ≡ Some new = sym (unknown was) ∙ is in cc)
-      by (Some old) None was is = absurd (lost_is_not work old was is)
-      by (Some old) (Some new) was is = same_view old new (subst (λ until. Agree old new Force until) untouched (one_more_of es e legal work Force old new was is))
-
-  -- so is one that it does not concern
-  unconcerned : (work : List ℕ) → is_named work (work_entered es (law_of es e)) ≡ false → IsUnmoved (known_now es work) (known_now more work)
-  unconcerned work apart =
-      subst (IsUnmoved (known_now es work)) (sym (entry_apart es e work apart)) (counted_on (front more) (known_now es work))
-
-  -- ---- where it enacts an act
-
-  enact_concerns : (act : Act) → e.command ≡ Enact act → work_entered es (law_of es e) ≡ Some act.work
-  enact_concerns act enacts = ap (λ (command : Command). work_entered es (law_command (draft_of e.drafter es) command)) enacts
-
-  enact_leaves : (act : Act) → e.command ≡ Enact act → (work : List ℕ) → bytes_eq act.work work ≡ false → IsUnmoved (known_now es work) (known_now more work)
-  enact_leaves act enacts work other = unconcerned work (ap (is_named work) (enact_concerns act enacts) ∙ other)
-
-  made_other : (own work : List ℕ) (known : Option Known) → bytes_eq own work ≡ false → first_day work (rows_if (rows_made own) known) ≡ None
-  made_other own work None other = refl
-  made_other own work (Some known) other = first_other own work (rows_made own known) (made_of own known) other
-
-  module _ (act : Act) (enacts : e.command ≡ Enact act) (accepted : IsAccepted es e) where
-    abbrev made : List RefRow
-    made = rows_if (rows_made act.work) (known_now more act.work)
-
-    abbrev IsMade : List ℕ → Type 0
-    IsMade work = IsHandedIn (known_now es work) (known_now more work) (first_day work made) (rows_given work made)
-
-    abbrev IsMadeFor : Option Known → Type 0
-    IsMadeFor known =
-        IsHandedIn (known_now es act.work) known (first_day act.work (rows_if (rows_made act.work) known)) (rows_given act.work (rows_if (rows_made act.work) known))
-
-    own_made : IsMade act.work
-    own_made =
-        subst IsMadeFor (sym (enact_known es e act legal accepted enacts))
-        (made_handed act.work (newly_known (front es + 1) act) (enacts_steadily (front es + 1) act) (known_now es act.work))
-
-    enact_given : (work : List ℕ) → IsMade work
-    enact_given work = by (bytes_eq act.work work) refl
+  -- a work that is not touched, and which the entry does not make known, is unmoved
+  module _ (work : List ℕ) (unknown : known_now es work ≡ None → known_now more work ≡ None) where
+    untouched : touched es e work ≡ None → IsUnmoved (held_now es work) (held_now more work)
+    untouched none =
+        subst (λ held. IsUnmoved held (held_now more work)) (sym (held_is es work))
+        (subst (IsUnmoved (held_old (known_now es work))) (sym (held_is more work)) (by (known_now es work) (known_now more work) refl refl))
       where
-        by : (t : Bool) → bytes_eq act.work work ≡ t → IsMade work
-        by true same = subst IsMade (bytes_same act.work work same) own_made
-        by false other =
-            subst (λ first. IsHandedIn (known_now es work) (known_now more work) first (rows_given work made)) (sym (made_other act.work work (known_now more act.work) other))
-            (unmoved_refs (known_now es work) (known_now more work) (enact_leaves act enacts work other))
-
-  -- ---- where it touches a work, or nothing
-
-  touch_leaves : act_of e.command ≡ None → (work : List ℕ) → known_now es work ≡ None → known_now more work ≡ None
-  touch_leaves none work unknown =
-      entry_next es e work legal ∙ ap (known_next es e work) unknown ∙ none_enacted (front es) work (draft_of e.drafter es) e.command none
-
-  one_touched : (touched_days es e ≡ []) ⊎ IsOne (touched_days es e)
-  unfolding touched_days
-  one_touched = by (work_entered es (law_of es e)) (touched_day es e)
-    where
-      by : (named : Option (List ℕ)) (day : Option ℕ) → (with_day named day ≡ []) ⊎ IsOne (with_day named day)
-      by None day = inl refl
-      by (Some work) None = inl refl
-      by (Some work) (Some day) = inr (record { own = work; touched = day; is = refl })
-
-  from_other : (own work : List ℕ) (touched : ℕ) (known : Option Known) → bytes_eq own work ≡ false → first_day work (rows_if (rows_from own touched) known) ≡ None
-  from_other own work touched None other = refl
-  from_other own work touched (Some known) other = first_other own work (rows_from own touched known) (from_of own known touched) other
-
-  module _ (none : act_of e.command ≡ None) where
-    untouched : (work : List ℕ) → day_among (touched_days es e) work ≡ None → IsUnmoved (known_now es work) (known_now more work)
-    untouched work = unmoved work (touch_leaves none work)
+        by : (old new : Option Known) → known_now es work ≡ old → known_now more work ≡ new → IsUnmoved (held_old old) (held_new new)
+        by None None was is = tt
+        by None (Some new) was is = absurd (let no : None ≡ Some new = sym (unknown was) ∙ is in cc)
+        by (Some old) None was is = absurd (lost_is_not work old was is)
+        by (Some old) (Some new) was is = record {
+          act = same_act es e legal work old new was is;
+          texts = λ day. early_version es e legal work old new was is Force day (subst (IsEarly day) (sym none) tt);
+        }
 
     -- before its touched day a work has the references that it had
-    early_refs : (work : List ℕ) (touched : ℕ) (new : Known) → known_now more work ≡ Some new → day_among (touched_days es e) work ≡ Some touched
-        → (day : ℕ) → day < touched → SameRefs day (known_now es work) new
+    early_refs : (day : ℕ) (new : Known) → known_now more work ≡ Some new → touched es e work ≡ Some day
+        → (early : ℕ) → 1 ≤ early → early < day → SameRefs early (held_now es work) (carrying (line (laws more)) new)
     unfolding refs_in_force
-    early_refs work touched new is among day early = by (known_now es work) refl
+    early_refs day new is among early real less =
+        subst (λ held. SameRefs early held (carrying (line (laws more)) new)) (sym (held_is es work)) (by (known_now es work) refl)
       where
-        by : (old : Option Known) → known_now es work ≡ old → SameRefs day old new
-        by None was = absurd (let no : None ≡ Some new = sym (touch_leaves none work was) ∙ is in cc)
+        by : (old : Option Known) → known_now es work ≡ old → SameRefs early (held_old old) (carrying (line (laws more)) new)
+        by None was = absurd (let no : None ≡ Some new = sym (unknown was) ∙ is in cc)
         by (Some old) was =
             ap (λ (v : VersionValue). text_refs v.tree)
-            (early_text old new touched (subst (λ until. Agree old new Force until) among (one_more_of es e legal work Force old new was is)) day early)
+            (early_version es e legal work old new was is Force early (subst (IsEarly early) (sym among) (real, less)))
 
-    module _ (own : List ℕ) (touched : ℕ) (is : touched_days es e ≡ (own, touched) ∷ []) (still : is_legal more ≡ true) where
-      abbrev rows : List RefRow
-      rows = rows_if (rows_from own touched) (known_now more own)
+  -- ---- the rows of touched works
 
-      among : (work : List ℕ) → day_among (touched_days es e) work ≡ cond (bytes_eq own work) (Some touched) None
-      among work = ap (λ days. day_among days work) is
+  from_other : (own work : List ℕ) (day : ℕ) (known : Option Known) → bytes_eq own work ≡ false → first_day work (rows_if (rows_from own day) known) ≡ None
+  from_other own work day None other = refl
+  from_other own work day (Some known) other = first_other own work (rows_from own day known) (from_of own known day) other
 
-      abbrev IsGiven : List ℕ → Type 0
-      IsGiven work = IsHandedIn (known_now es work) (known_now more work) (first_day work rows) (rows_given work rows)
+  abbrev own_rows : List ℕ → ℕ → List RefRow
+  own_rows work day = rows_if (rows_from work day) (held_now more work)
 
-      abbrev IsGivenFor : Option Known → Type 0
-      IsGivenFor known = IsHandedIn (known_now es own) known (first_day own (rows_if (rows_from own touched) known)) (rows_given own (rows_if (rows_from own touched) known))
+  none_first : (work : List ℕ) (ds : List (List ℕ × ℕ)) → day_among ds work ≡ None → first_day work (rows_touched more ds) ≡ None
+  none_first work [] none = refl
+  none_first work (d ∷ ds) none = by (bytes_eq d.0 work) refl none (none_first work ds)
+    where
+      by : (b : Bool) → bytes_eq d.0 work ≡ b → cond b (Some d.1) (day_among ds work) ≡ None
+          → (day_among ds work ≡ None → first_day work (rows_touched more ds) ≡ None) → first_day work (own_rows d.0 d.1 ++ rows_touched more ds) ≡ None
+      by true same none rest = absurd (let no : Some d.1 ≡ None = none in cc)
+      by false other none rest =
+          first_both work (own_rows d.0 d.1) (rows_touched more ds)
+          ∙ ap (λ first. option_or first (first_day work (rows_touched more ds))) (from_other d.0 work d.1 (held_now more d.0) other)
+          ∙ rest none
 
-      own_given : (known : Option Known) → known_now more own ≡ known → IsGivenFor known
-      own_given None gone = by (known_now es own) refl
+  or_none : (o : Option (Option ℕ)) → option_or o None ≡ o
+  or_none None = refl
+  or_none (Some day) = refl
+
+  -- of a work that is touched they are its own
+  abbrev AreOwn : List ℕ → ℕ → List (List ℕ × ℕ) → Type 0
+  AreOwn work day ds =
+      (first_day work (rows_touched more ds) ≡ first_day work (own_rows work day))
+      × (rows_given work (rows_touched more ds) ≡ rows_given work (own_rows work day))
+
+  own_given : (work : List ℕ) (day : ℕ) (ds : List (List ℕ × ℕ)) → AreOnce ds → day_among ds work ≡ Some day → AreOwn work day ds
+  own_given work day [] once among = absurd (let no : None ≡ Some day = among in cc)
+  own_given work day (d ∷ ds) once among = by (bytes_eq d.0 work) refl among (own_given work day ds once.1)
+    where
+      same_day : (a b : ℕ) → Some a ≡ Some b → a ≡ b
+      same_day a b h = cc
+
+      here : d.0 ≡ work → d.1 ≡ day → AreOwn work day (d ∷ ds)
+      here same is =
+          let none : first_day work (rows_touched more ds) ≡ None = none_first work ds (ap (day_among ds) (sym same) ∙ once.0) in
+          let own : own_rows d.0 d.1 ≡ own_rows work day = ap₂ own_rows same is in (
+            first_both work (own_rows d.0 d.1) (rows_touched more ds)
+                ∙ ap₂ (λ (rows : List RefRow) first. option_or (first_day work rows) first) own none
+                ∙ or_none (first_day work (own_rows work day)),
+            given_both work (own_rows d.0 d.1) (rows_touched more ds)
+                ∙ ap₂ (λ (rows behind : List RefRow). rows_given work rows ++ behind) own (nothing_given work (rows_touched more ds) none)
+                ∙ append-nil (rows_given work (own_rows work day)),
+          )
+
+      there : bytes_eq d.0 work ≡ false → AreOwn work day ds → AreOwn work day (d ∷ ds)
+      there other rest =
+          let none : first_day work (own_rows d.0 d.1) ≡ None = from_other d.0 work d.1 (held_now more d.0) other in (
+            first_both work (own_rows d.0 d.1) (rows_touched more ds)
+                ∙ ap₂ option_or none rest.0,
+            given_both work (own_rows d.0 d.1) (rows_touched more ds)
+                ∙ ap₂ (λ (rows behind : List RefRow). rows ++ behind) (nothing_given work (own_rows d.0 d.1) none) rest.1,
+          )
+
+      by : (b : Bool) → bytes_eq d.0 work ≡ b → cond b (Some d.1) (day_among ds work) ≡ Some day → (day_among ds work ≡ Some day → AreOwn work day ds) → AreOwn work day (d ∷ ds)
+      by true same among rest = here (bytes_same d.0 work same) (same_day d.1 day among)
+      by false other among rest = there other (rest among)
+
+  -- ---- what touched works hand in
+
+  module _ (still : is_legal more ≡ true) where
+    abbrev rows : List RefRow
+    rows = rows_touched more (touched_works es e)
+
+    abbrev IsOwnGiven : List ℕ → ℕ → Option Known → Type 0
+    IsOwnGiven work day held =
+        IsHandedIn (held_now es work) held (first_day work (rows_if (rows_from work day) held)) (rows_given work (rows_if (rows_from work day) held))
+
+    own_handed : (work : List ℕ) → (known_now es work ≡ None → known_now more work ≡ None) → (day : ℕ) → touched es e work ≡ Some day
+        → IsHandedIn (held_now es work) (held_now more work) (first_day work (own_rows work day)) (rows_given work (own_rows work day))
+    own_handed work unknown day among =
+        by (known_now more work) refl
+      where
+        gone : known_now more work ≡ None → HasSameRefs (held_now es work) None
+        gone none = subst (λ held. HasSameRefs held None) (sym (held_is es work)) (was_none (known_now es work) refl)
+          where
+            was_none : (old : Option Known) → known_now es work ≡ old → HasSameRefs (held_old old) None
+            was_none None was = tt
+            was_none (Some old) was = absurd (lost_is_not work old was none)
+
+        by : (new : Option Known) → known_now more work ≡ new → IsOwnGiven work day (held_now more work)
+        by None is = subst (IsOwnGiven work day) (sym (held_is more work ∙ ap held_new is)) (gone is)
+        by (Some new) is =
+            subst (IsOwnGiven work day) (sym (held_is more work ∙ ap held_new is))
+            (from_handed work (carrying (line (laws more)) new)
+            (now_steady more work (carrying (line (laws more)) new) still (held_is more work ∙ ap held_new is)) (held_now es work) day
+            (early_refs work unknown day new is among))
+
+    touched_handed : (work : List ℕ) → (known_now es work ≡ None → known_now more work ≡ None)
+        → IsHandedIn (held_now es work) (held_now more work) (first_day work rows) (rows_given work rows)
+    touched_handed work unknown = by (touched es e work) refl
+      where
+        by : (day : Option ℕ) → touched es e work ≡ day → IsHandedIn (held_now es work) (held_now more work) (first_day work rows) (rows_given work rows)
+        by None none =
+            subst (λ first. IsHandedIn (held_now es work) (held_now more work) first (rows_given work rows)) (sym (none_first work (touched_works es e) none))
+            (unmoved_refs (held_now es work) (held_now more work) (untouched work unknown none))
+        by (Some day) some =
+            let own : AreOwn work day (touched_works es e) = own_given work day (touched_works es e) (touched_once es e legal) some in
+            subst (λ first. IsHandedIn (held_now es work) (held_now more work) first (rows_given work rows)) (sym own.0)
+            (subst (IsHandedIn (held_now es work) (held_now more work) (first_day work (own_rows work day))) (sym own.1)
+            (own_handed work unknown day some))
+
+    -- ---- where it enacts no act
+
+    touch_leaves : act_of e.command ≡ None → (work : List ℕ) → known_now es work ≡ None → known_now more work ≡ None
+    touch_leaves none work unknown =
+        entry_next es e work legal ∙ ap (known_next es e work) unknown ∙ none_enacted (front es) work (draft_of e.drafter es) e.command none
+
+    not_among : (work : List ℕ) (ds : List (List ℕ × ℕ)) → is_among work (map (λ d. d.0) ds) ≡ false → day_among ds work ≡ None
+    not_among work [] none = refl
+    not_among work (d ∷ ds) none =
+        ap (λ b. cond b (Some d.1) (day_among ds work))
+        (bytes_either d.0 work ∙ none_left (bytes_eq work d.0) (is_among work (map (λ d. d.0) ds)) none)
+        ∙ not_among work ds (none_right (bytes_eq work d.0) (is_among work (map (λ d. d.0) ds)) none)
+
+    touched_in : act_of e.command ≡ None → FollowsChange es more (map (λ d. d.0) (touched_works es e)) rows
+    touched_in none = record {
+      given = λ work. touched_handed work (touch_leaves none work);
+      targets = λ target apart.
+          unmoved_missing es more legal still target
+          (untouched target.work.text (touch_leaves none target.work.text) (not_among target.work.text (touched_works es e) apart));
+    }
+
+    -- ---- where it enacts one
+
+    module _ (act : Act) (enacts : e.command ≡ Enact act) (accepted : IsAccepted es e) where
+      enact_concerns : work_entered es (law_of es e) ≡ Some act.work
+      enact_concerns = ap (λ (command : Command). work_entered es (law_command (draft_of e.drafter es) command)) enacts
+
+      enact_leaves : (work : List ℕ) → bytes_eq act.work work ≡ false → known_now es work ≡ None → known_now more work ≡ None
+      enact_leaves work other unknown =
+          entry_apart es e work (ap (is_named work) enact_concerns ∙ other) ∙ ap (option_map (up_to (front more))) unknown
+
+      abbrev made : List RefRow
+      made = rows_if (rows_made act.work) (held_now more act.work)
+
+      made_other : (own work : List ℕ) (known : Option Known) → bytes_eq own work ≡ false → first_day work (rows_if (rows_made own) known) ≡ None
+      made_other own work None other = refl
+      made_other own work (Some known) other = first_other own work (rows_made own known) (made_of own known) other
+
+      abbrev IsGiven : List ℕ → List RefRow → Type 0
+      IsGiven work rows = IsHandedIn (held_now es work) (held_now more work) (first_day work rows) (rows_given work rows)
+
+      abbrev held : Known
+      held = carrying (line (laws more)) (newly_known (front es + 1) act)
+
+      held_made : held_now more act.work ≡ Some held
+      held_made = held_is more act.work ∙ ap held_new (enact_known es e act legal accepted enacts)
+
+      own_made : IsGiven act.work made
+      own_made =
+          subst (λ known. IsHandedIn (held_now es act.work) known (first_day act.work (rows_if (rows_made act.work) known)) (rows_given act.work (rows_if (rows_made act.work) known)))
+          (sym held_made)
+          (made_handed act.work held (now_steady more act.work held still held_made) (held_now es act.work))
+
+      own_all : IsGiven act.work (made ++ rows)
+      own_all =
+          let none : first_day act.work rows ≡ None = none_first act.work (touched_works es e) (itself_untouched es e act enacts legal accepted) in
+          subst (λ first. IsHandedIn (held_now es act.work) (held_now more act.work) first (rows_given act.work (made ++ rows)))
+          (sym (first_both act.work made rows ∙ ap (option_or (first_day act.work made)) none ∙ or_none (first_day act.work made)))
+          (subst (IsHandedIn (held_now es act.work) (held_now more act.work) (first_day act.work made))
+          (sym (given_both act.work made rows
+          ∙ ap (λ behind. rows_given act.work made ++ behind) (nothing_given act.work rows none)
+          ∙ append-nil (rows_given act.work made))) own_made)
+
+      other_all : (work : List ℕ) → bytes_eq act.work work ≡ false → IsGiven work (made ++ rows)
+      other_all work other =
+          let none : first_day work made ≡ None = made_other act.work work (held_now more act.work) other in
+          subst (λ first. IsHandedIn (held_now es work) (held_now more work) first (rows_given work (made ++ rows)))
+          (sym (first_both work made rows ∙ ap (λ first. option_or first (first_day work rows)) none))
+          (subst (IsHandedIn (held_now es work) (held_now more work) (first_day work rows))
+          (sym (given_both work made rows ∙ ap (λ first. first ++ rows_given work rows) (nothing_given work made none)))
+          (touched_handed work (enact_leaves work other)))
+
+      all_given : (work : List ℕ) → IsGiven work (made ++ rows)
+      all_given work = by (bytes_eq act.work work) refl
         where
-          by : (old : Option Known) → known_now es own ≡ old → HasSameRefs old None
-          by None was = tt
-          by (Some old) was = absurd (lost_is_not own old was gone)
-      own_given (Some new) now =
-          from_handed own new (now_steady more own new still now) (known_now es own) touched
-          (early_refs own touched new now (among own ∙ ap (λ t. cond t (Some touched) None) (bytes_are own own refl)))
+          by : (t : Bool) → bytes_eq act.work work ≡ t → IsGiven work (made ++ rows)
+          by true same = subst (λ w. IsGiven w (made ++ rows)) (bytes_same act.work work same) own_all
+          by false other = other_all work other
 
-      touch_given : (work : List ℕ) → IsGiven work
-      touch_given work = by (bytes_eq own work) refl
-        where
-          by : (t : Bool) → bytes_eq own work ≡ t → IsGiven work
-          by true same = subst IsGiven (bytes_same own work same) (own_given (known_now more own) refl)
-          by false other =
-              subst (λ first. IsHandedIn (known_now es work) (known_now more work) first (rows_given work rows)) (sym (from_other own work touched (known_now more own) other))
-              (unmoved_refs (known_now es work) (known_now more work) (untouched work (among work ∙ ap (λ t. cond t (Some touched) None) other)))
+      enacted_in : FollowsChange es more (act.work ∷ map (λ d. d.0) (touched_works es e)) (made ++ rows)
+      enacted_in = record {
+        given = all_given;
+        targets = λ target apart.
+            let others : is_among target.work.text (map (λ d. d.0) (touched_works es e)) ≡ false =
+            none_right (bytes_eq target.work.text act.work) (is_among target.work.text (map (λ d. d.0) (touched_works es e))) apart in
+            let other : bytes_eq act.work target.work.text ≡ false =
+            bytes_either act.work target.work.text
+            ∙ none_left (bytes_eq target.work.text act.work) (is_among target.work.text (map (λ d. d.0) (touched_works es e))) apart in
+            unmoved_missing es more legal still target
+            (untouched target.work.text (enact_leaves target.work.text other) (not_among target.work.text (touched_works es e) others));
+      }
 
 -- ---- all of it
 
@@ -210,53 +315,11 @@ enacts_act (DraftAdd work body) act is = absurd (let no : None ≡ Some act = is
 enacts_act (DraftDrop item) act is = absurd (let no : None ≡ Some act = is in cc)
 enacts_act (File work seen) act is = absurd (let no : None ≡ Some act = is in cc)
 
-module _ (es : List Entry) (e : Entry) (legal : is_legal es ≡ true) (still : is_legal (es ++ e ∷ []) ≡ true) where
-  abbrev now : List Entry
-  now = es ++ e ∷ []
-
-  enacted_in : (act : Act) → e.command ≡ Enact act → IsAccepted es e → FollowsChange es now (act.work ∷ []) (rows_if (rows_made act.work) (known_now now act.work))
-  enacted_in act enacts accepted = record {
-    given = enact_given es e legal act enacts accepted;
-    targets = λ target apart.
-        unmoved_missing es now legal still target
-        (enact_leaves es e legal act enacts target.work.text
-        (bytes_either act.work target.work.text ∙ none_left (bytes_eq target.work.text act.work) false apart));
-  }
-
-  touched_in : act_of e.command ≡ None → (own : List ℕ) (touched : ℕ) → touched_days es e ≡ (own, touched) ∷ []
-      → FollowsChange es now (own ∷ []) (rows_if (rows_from own touched) (known_now now own))
-  touched_in none own touched is = record {
-    given = touch_given es e legal none own touched is still;
-    targets = λ target apart.
-        unmoved_missing es now legal still target
-        (untouched es e legal none target.work.text
-        (among es e legal none own touched is still target.work.text
-        ∙ ap (λ t. cond t (Some touched) None) (bytes_either own target.work.text ∙ none_left (bytes_eq target.work.text own) false apart)));
-  }
-
-  nothing_in : act_of e.command ≡ None → touched_days es e ≡ [] → FollowsChange es now [] []
-  nothing_in none is = record {
-    given = λ work. unmoved_refs (known_now es work) (known_now now work) (untouched es e legal none work (ap (λ days. day_among days work) is));
-    targets = λ target apart.
-        unmoved_missing es now legal still target (untouched es e legal none target.work.text (ap (λ days. day_among days target.work.text) is));
-  }
-
-  abbrev FollowsDays : List (List ℕ × ℕ) → Type 0
-  FollowsDays days = FollowsChange es now (map (λ (touched : List ℕ × ℕ). touched.0) days) (rows_touched now days)
-
-  days_in : act_of e.command ≡ None → FollowsDays (touched_days es e)
-  days_in none = by (one_touched es e legal)
-    where
-      by : (touched_days es e ≡ []) ⊎ IsOne (touched_days es e) → FollowsDays (touched_days es e)
-      by (inl is) = subst FollowsDays (sym is) (nothing_in none is)
-      by (inr one) =
-          subst FollowsDays (sym one.is)
-          (subst (FollowsChange es now (one.own ∷ [])) (sym (append-nil (rows_if (rows_from one.own one.touched) (known_now now one.own))))
-          (touched_in none one.own one.touched one.is))
-
-  entry_in : IsAccepted es e → (act : Option Act) → act_of e.command ≡ act → FollowsChange es now (moved_with es e act) (rows_by es e act)
-  entry_in accepted None none = days_in none
-  entry_in accepted (Some act) is = enacted_in act (enacts_act e.command act is) accepted
+entry_in : (es : List Entry) (e : Entry) → is_legal es ≡ true → is_legal (es ++ e ∷ []) ≡ true → IsAccepted es e → (act : Option Act) → act_of e.command ≡ act
+    → FollowsChange es (es ++ e ∷ []) (work_enacted act ++ map (λ (t : List ℕ × ℕ). t.0) (touched_works es e))
+    (rows_enacted (es ++ e ∷ []) act ++ rows_touched (es ++ e ∷ []) (touched_works es e))
+entry_in es e legal still accepted None none = touched_in es e legal still none
+entry_in es e legal still accepted (Some act) is = enacted_in es e legal still act (enacts_act e.command act is) accepted
 
 -- what is handed in by an entry that is accepted behind legal ones
 pub accepted_hands_in : (es : List Entry) (e : Entry) → is_legal es ≡ true → IsAccepted es e → FollowsChange es (es ++ e ∷ []) (moved_by es e) (rows_of_entry es e)

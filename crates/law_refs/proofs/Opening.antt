@@ -1,5 +1,5 @@
 -- What an opening hands in of the works that are enacted is what the register has, in whatever order they are taken.
-use Rattle.std.proofs.Common.{◌≡◌, ◌∙◌, ℕ, ◌+◌, sym, ap, refl, subst, Bool, true, false, cond, ◌||◌, List, [], ◌∷◌, ◌++◌, map, append_assoc, Option, Some, None, is_some, arith}
+use Rattle.std.proofs.Common.{◌≡◌, ◌∙◌, ℕ, ◌+◌, sym, ap, refl, subst, Bool, true, false, cond, ◌||◌, List, [], ◌∷◌, ◌++◌, map, append_assoc, take, Option, Some, None, is_some, option_map, arith}
 use Rattle.std.specs.Prelude.{IsPermutation, length}
 use Rattle.std.specs.List.{AllByRecursion, sum_by}
 use Rattle.std.specs.Option.{option_or}
@@ -13,6 +13,8 @@ use Rattle.law_register.specs.declared.register.entry.Entry.{Entry}
 use Rattle.law_register.specs.declared.register.known.Known.{Known}
 use Rattle.law_register.specs.Answer.Breakpoints.{breakpoints}
 use Rattle.law_register.specs.Register.KnownIds.{enacted, enacted_by, enacted_from, enacted_or, known_by}
+use Rattle.law_register.specs.Provisions.Carrying.{carrying, held_now}
+use Rattle.law_register.specs.Provisions.Line.{line}
 use Rattle.law_register.specs.Register.KnownNext.{known_now}
 use Rattle.law_register.specs.Register.LawList.{front, laws, works_enacted}
 use Rattle.law_register.specs.Register.Verdicts.{is_legal}
@@ -33,13 +35,13 @@ use Rattle.law_refs.proofs.Unmoved.{IsUnmoved, unmoved_missing}
 
 -- ---- rows behind others
 
-given_both : (work : List ℕ) (first second : List RefRow) → rows_given work (first ++ second) ≡ rows_given work first ++ rows_given work second
+pub given_both : (work : List ℕ) (first second : List RefRow) → rows_given work (first ++ second) ≡ rows_given work first ++ rows_given work second
 given_both work [] second = refl
 given_both work (row ∷ first) second =
     ap (λ rest. cond (bytes_eq row.work work) (row ∷ []) [] ++ rest) (given_both work first second)
     ∙ sym (append_assoc (cond (bytes_eq row.work work) (row ∷ []) []) (rows_given work first) (rows_given work second))
 
-first_both : (work : List ℕ) (first second : List RefRow) → first_day work (first ++ second) ≡ option_or (first_day work first) (first_day work second)
+pub first_both : (work : List ℕ) (first second : List RefRow) → first_day work (first ++ second) ≡ option_or (first_day work first) (first_day work second)
 first_both work [] second = refl
 first_both work (row ∷ first) second = by (bytes_eq row.work work) (first_both work first second)
   where
@@ -71,49 +73,49 @@ module _ (entries : List Entry) (work : List ℕ) where
   none_first : (works : List (List ℕ)) → is_among work works ≡ false → first_day work (rows_opened entries works) ≡ None
   none_first [] none = refl
   none_first (own ∷ works) none =
-      first_both work (rows_if (rows_made own) (known_now entries own)) (rows_opened entries works)
+      first_both work (rows_if (rows_made own) (held_now entries own)) (rows_opened entries works)
       ∙ ap (λ first. option_or first (first_day work (rows_opened entries works)))
-      (other_first own (known_now entries own) (bytes_either own work ∙ none_left (bytes_eq work own) (is_among work works) none))
+      (other_first own (held_now entries own) (bytes_either own work ∙ none_left (bytes_eq work own) (is_among work works) none))
       ∙ none_first works (none_right (bytes_eq work own) (is_among work works) none)
 
-  module _ (known : Known) (is : known_now entries work ≡ Some known) (steady : CarrySteadily known) where
+  module _ (known : Known) (is : held_now entries work ≡ Some known) (steady : CarrySteadily known) where
     -- its rows, once for each time that it stands among works
     abbrev copies : List (List ℕ) → List RefRow
     copies [] = []
     copies (own ∷ works) = cond (bytes_eq own work) (rows_made work known) [] ++ copies works
 
-    here_given : (own : List ℕ) → rows_given work (rows_if (rows_made own) (known_now entries own)) ≡ cond (bytes_eq own work) (rows_made work known) []
+    here_given : (own : List ℕ) → rows_given work (rows_if (rows_made own) (held_now entries own)) ≡ cond (bytes_eq own work) (rows_made work known) []
     here_given own = by (bytes_eq own work) refl
       where
-        by : (t : Bool) → bytes_eq own work ≡ t → rows_given work (rows_if (rows_made own) (known_now entries own)) ≡ cond t (rows_made work known) []
+        by : (t : Bool) → bytes_eq own work ≡ t → rows_given work (rows_if (rows_made own) (held_now entries own)) ≡ cond t (rows_made work known) []
         by true same =
-            ap (λ w. rows_given work (rows_if (rows_made w) (known_now entries w))) (bytes_same own work same)
+            ap (λ w. rows_given work (rows_if (rows_made w) (held_now entries w))) (bytes_same own work same)
             ∙ ap (λ now. rows_given work (rows_if (rows_made work) now)) is
             ∙ given_own work (rows_made work known) (made_of work known)
-        by false other = other_given own (known_now entries own) other
+        by false other = other_given own (held_now entries own) other
 
     copies_given : (works : List (List ℕ)) → rows_given work (rows_opened entries works) ≡ copies works
     copies_given [] = refl
     copies_given (own ∷ works) =
-        given_both work (rows_if (rows_made own) (known_now entries own)) (rows_opened entries works)
+        given_both work (rows_if (rows_made own) (held_now entries own)) (rows_opened entries works)
         ∙ ap (λ first. first ++ rows_given work (rows_opened entries works)) (here_given own)
         ∙ ap (λ rest. cond (bytes_eq own work) (rows_made work known) [] ++ rest) (copies_given works)
 
     some_first : (works : List (List ℕ)) → is_among work works ≡ true → first_day work (rows_opened entries works) ≡ Some None
     some_first [] some = absurd (let no : false ≡ true = some in cc)
     some_first (own ∷ works) some =
-        first_both work (rows_if (rows_made own) (known_now entries own)) (rows_opened entries works)
+        first_both work (rows_if (rows_made own) (held_now entries own)) (rows_opened entries works)
         ∙ by (bytes_eq own work) refl (some_first works)
       where
         by : (t : Bool) → bytes_eq own work ≡ t → (is_among work works ≡ true → first_day work (rows_opened entries works) ≡ Some None)
-            → option_or (first_day work (rows_if (rows_made own) (known_now entries own))) (first_day work (rows_opened entries works)) ≡ Some None
+            → option_or (first_day work (rows_if (rows_made own) (held_now entries own))) (first_day work (rows_opened entries works)) ≡ Some None
         by true same rest =
             ap (λ first. option_or first (first_day work (rows_opened entries works)))
-            (ap (λ w. first_day work (rows_if (rows_made w) (known_now entries w))) (bytes_same own work same)
+            (ap (λ w. first_day work (rows_if (rows_made w) (held_now entries w))) (bytes_same own work same)
             ∙ ap (λ now. first_day work (rows_if (rows_made work) now)) is
             ∙ first_own work (row_enacted work known) (map (row_on work known) (breakpoints known)) refl)
         by false other rest =
-            ap (λ first. option_or first (first_day work (rows_opened entries works))) (other_first own (known_now entries own) other)
+            ap (λ first. option_or first (first_day work (rows_opened entries works))) (other_first own (held_now entries own) other)
             ∙ rest (sym (ap (λ t. t || is_among work works) (bytes_either work own ∙ other)) ∙ some)
 
     all_copies : (P : RefRow → Type 0) → AllByRecursion P (rows_made work known) → (works : List (List ℕ)) → AllByRecursion P (copies works)
@@ -154,7 +156,7 @@ module _ (entries : List Entry) (work : List ℕ) where
         record {
           act_day = all_copies (λ (row : RefRow). row.act_day ≡ known.act.day) once.act_day works;
           days = all_copies (λ (row : RefRow). is_before row.from None ≡ false) once.days works;
-          texts = λ day begun. copies_texts day works some;
+          texts = λ day real begun. copies_texts day works some;
           earlier = once.earlier;
         }
 
@@ -168,13 +170,13 @@ module _ (entries : List Entry) (work : List ℕ) where
 
 -- works that are exactly those that are known
 abbrev AreKnown : List Entry → List (List ℕ) → Type 0
-AreKnown entries works = (work : List ℕ) → is_among work works ≡ is_some (known_now entries work)
+AreKnown entries works = (work : List ℕ) → is_among work works ≡ is_some (held_now entries work)
 
 work_in : (entries : List Entry) (works : List (List ℕ)) → is_legal entries ≡ true → AreKnown entries works → (work : List ℕ)
-    → IsHandedIn None (known_now entries work) (first_day work (rows_opened entries works)) (rows_given work (rows_opened entries works))
-work_in entries works legal are work = by (known_now entries work) refl
+    → IsHandedIn None (held_now entries work) (first_day work (rows_opened entries works)) (rows_given work (rows_opened entries works))
+work_in entries works legal are work = by (held_now entries work) refl
   where
-    by : (known : Option Known) → known_now entries work ≡ known
+    by : (known : Option Known) → held_now entries work ≡ known
         → IsHandedIn None known (first_day work (rows_opened entries works)) (rows_given work (rows_opened entries works))
     by None is =
         subst (λ first. IsHandedIn None None first (rows_given work (rows_opened entries works))) (sym (none_first entries work works (are work ∙ ap is_some is))) tt
@@ -188,7 +190,7 @@ known_hand_in : (entries : List Entry) (works : List (List ℕ)) → is_legal en
 known_hand_in entries works legal are = record {
   given = work_in entries works legal are;
   targets = λ target apart.
-      unmoved_missing [] entries refl legal target (not_known (known_now entries target.work.text) (sym (are target.work.text) ∙ apart));
+      unmoved_missing [] entries refl legal target (not_known (held_now entries target.work.text) (sym (are target.work.text) ∙ apart));
 }
 
 -- ---- the works that are enacted are those that are known
@@ -214,12 +216,16 @@ enacted_among n work (l ∷ ls) = by l (enacted_among (n + 1) work ls)
     by (DraftDrop item) rest = rest
     by (File other seen) rest = rest
 
-known_among : (entries : List Entry) (work : List ℕ) → is_some (enacted work (laws entries)) ≡ is_some (known_now entries work)
-known_among entries work = by (enacted work (laws entries)) ∙ sym (ap is_some (now_known entries work))
+known_among : (entries : List Entry) (work : List ℕ) → is_some (enacted work (laws entries)) ≡ is_some (held_now entries work)
+known_among entries work = by (enacted work (laws entries)) ∙ sym (ap is_some (now_known entries work)) ∙ held_too (known_now entries work)
   where
     by : (found : Option (ℕ × Act)) → is_some found ≡ is_some (known_by work (front entries) (front entries) (laws entries) found)
     by None = refl
     by (Some found) = refl
+
+    held_too : (known : Option Known) → is_some known ≡ is_some (option_map (carrying (line (take (front entries) (laws entries)))) known)
+    held_too None = refl
+    held_too (Some known) = refl
 
 in_any_order : (entries : List Entry) (works : List (List ℕ)) → IsPermutation (works_enacted (laws entries)) works → AreKnown entries works
 in_any_order entries works order work =
@@ -245,12 +251,12 @@ refs_both (row ∷ first) second = joined (length row.refs) (refs_in first) (ref
 
 -- those of one work
 abbrev refs_of_work : List Entry → List ℕ → ℕ
-refs_of_work entries work = refs_in (rows_if (rows_made work) (known_now entries work))
+refs_of_work entries work = refs_in (rows_if (rows_made work) (held_now entries work))
 
 summed : (entries : List Entry) (works : List (List ℕ)) → refs_in (rows_opened entries works) ≡ sum_by (refs_of_work entries) works
 summed entries [] = refl
 summed entries (work ∷ works) =
-    refs_both (rows_if (rows_made work) (known_now entries work)) (rows_opened entries works)
+    refs_both (rows_if (rows_made work) (held_now entries work)) (rows_opened entries works)
     ∙ ap (λ rest. refs_of_work entries work + rest) (summed entries works)
     ∙ sym (sum_by-cons (refs_of_work entries) work works)
 

@@ -1,5 +1,5 @@
 -- An entry that moves no work hands in nothing, and leaves the index as it is.
-use Rattle.std.proofs.Common.{◌≡◌, ◌∙◌, ℕ, ◌+◌, ap, refl, subst, true, false, cond, List, [], ◌∷◌, ◌++◌, map, Option, Some, None, Ok, Err, arith}
+use Rattle.std.proofs.Common.{◌≡◌, ◌∙◌, ℕ, ◌+◌, ap, ap₂, refl, subst, true, false, cond, List, [], ◌∷◌, ◌++◌, map, Option, Some, None, Ok, Err, arith}
 use Rattle.frbr_names.specs.Expressions.{Expression, expression_of}
 use Rattle.frbr_names.specs.Reads.{Read}
 use Rattle.law_register.specs.declared.law.act.Act.{Act}
@@ -7,13 +7,14 @@ use Rattle.law_register.specs.declared.law.command.Command.{Command}
 use Rattle.law_register.specs.declared.law.command.Command.TheVariants.{Enact, Record, Correct, Withdraw, Restore, DraftAdd, DraftDrop, File}
 use Rattle.law_register.specs.declared.register.draft.DraftItem.{DraftItem}
 use Rattle.law_register.specs.declared.register.entry.Entry.{Entry}
-use Rattle.law_register.specs.Answer.Touched.{touched_day, touched_days, with_day, work_entered}
+use Rattle.law_register.specs.Provisions.Touching.{touched_works}
 use Rattle.law_register.specs.Register.Drafts.{draft_of}
 use Rattle.law_register.specs.Register.Indexes.{act_of}
 use Rattle.law_register.specs.Register.LawList.{law_command, law_of}
 use Rattle.law_register.specs.Register.Verdicts.{is_legal}
+use Rattle.law_register.proofs.Unreached.{drafts_touch_none}
 use Rattle.law_refs.specs.Counting.{moved_refs}
-use Rattle.law_refs.specs.Handing.{judged_for, moved_by, moved_with, rows_by, rows_of_entry, rows_touched}
+use Rattle.law_refs.specs.Handing.{judged_for, moved_by, rows_enacted, rows_of_entry, rows_touched, work_enacted}
 use Rattle.law_refs.specs.Index.{Kept, all_again, all_staying, moved_in, moved_in_rows, revised, revision_steps, staying}
 use Rattle.law_refs.specs.Judging.{Answers, cause_of, is_of_one, judged_again, names_one}
 use Rattle.law_refs.specs.Missing.{missing}
@@ -38,21 +39,17 @@ no_act draft (Withdraw id) none = refl
 no_act draft (Restore id) none = refl
 no_act draft (File work seen) none = refl
 
-none_touched : (es : List Entry) (e : Entry) → law_of es e ≡ [] → touched_days es e ≡ []
-unfolding touched_days
-none_touched es e none = ap (λ ls. with_day (work_entered es ls) (touched_day es e)) none
-
 pub draft_moves_none : (es : List Entry) (e : Entry) → law_of es e ≡ [] → moved_by es e ≡ []
 unfolding moved_by
 draft_moves_none es e none =
-    ap (moved_with es e) (no_act (draft_of e.drafter es) e.command none)
-    ∙ ap (λ days. map (λ (touched : List ℕ × ℕ). touched.0) days) (none_touched es e none)
+    ap₂ (λ act (days : List (List ℕ × ℕ)). work_enacted act ++ map (λ t. t.0) days) (no_act (draft_of e.drafter es) e.command none)
+    (drafts_touch_none es e none)
 
 pub draft_hands_in_none : (es : List Entry) (e : Entry) → law_of es e ≡ [] → rows_of_entry es e ≡ []
 unfolding rows_of_entry
 draft_hands_in_none es e none =
-    ap (rows_by es e) (no_act (draft_of e.drafter es) e.command none)
-    ∙ ap (rows_touched (es ++ e ∷ [])) (none_touched es e none)
+    ap₂ (λ act days. rows_enacted (es ++ e ∷ []) act ++ rows_touched (es ++ e ∷ []) days) (no_act (draft_of e.drafter es) e.command none)
+    (drafts_touch_none es e none)
 
 -- ---- one that moves no work
 
@@ -60,9 +57,10 @@ no_days : (days : List (List ℕ × ℕ)) → map (λ (touched : List ℕ × ℕ
 no_days [] none = refl
 no_days (touched ∷ days) none = absurd (let no : touched.0 ∷ map (λ (one : List ℕ × ℕ). one.0) days ≡ [] = none in cc)
 
-none_by : (es : List Entry) (e : Entry) (act : Option Act) → moved_with es e act ≡ [] → rows_by es e act ≡ []
-none_by es e None none = ap (rows_touched (es ++ e ∷ [])) (no_days (touched_days es e) none)
-none_by es e (Some act) none = absurd (let no : act.work ∷ [] ≡ [] = none in cc)
+none_by : (es : List Entry) (e : Entry) (act : Option Act) → work_enacted act ++ map (λ (t : List ℕ × ℕ). t.0) (touched_works es e) ≡ []
+    → rows_enacted (es ++ e ∷ []) act ++ rows_touched (es ++ e ∷ []) (touched_works es e) ≡ []
+none_by es e None none = ap (rows_touched (es ++ e ∷ [])) (no_days (touched_works es e) none)
+none_by es e (Some act) none = absurd (let no : act.work ∷ map (λ (t : List ℕ × ℕ). t.0) (touched_works es e) ≡ [] = none in cc)
 
 pub none_handed_in : (es : List Entry) (e : Entry) → moved_by es e ≡ [] → rows_of_entry es e ≡ []
 unfolding moved_by rows_of_entry

@@ -1,5 +1,5 @@
 -- An index of a register stays one through a revision by what is handed in.
-use Rattle.std.proofs.Common.{◌≡◌, ◌∙◌, ℕ, sym, ap, refl, subst, Bool, true, false, cond, List, [], ◌∷◌, ◌++◌, map, append_assoc, arith}
+use Rattle.std.proofs.Common.{◌≡◌, ◌∙◌, ℕ, ◌≤◌, sym, ap, refl, subst, Bool, true, false, cond, List, [], ◌∷◌, ◌++◌, map, append_assoc, arith}
 use Rattle.std.specs.Prelude.{Option, Some, None}
 use Rattle.std.specs.Cmp.Lexicographic.{slice_cmp}
 use Rattle.std.specs.List.{AllByRecursion}
@@ -10,7 +10,7 @@ use Rattle.std.proofs.lemmas.Bool.{lt-leb, leb-false, ltb-false}
 use Rattle.std.proofs.lemmas.List.{append-nil}
 use Rattle.law_register.specs.declared.register.entry.Entry.{Entry}
 use Rattle.law_register.specs.declared.register.known.Known.{Known}
-use Rattle.law_register.specs.Register.KnownNext.{known_now}
+use Rattle.law_register.specs.Provisions.Carrying.{held_now}
 use Rattle.law_refs.specs.Index.{Kept, all_again, all_staying, first_day, kept_of, put, put_all, revised, rows_that_stay, staying, with_row_behind}
 use Rattle.law_refs.specs.Judging.{Answers, judged, judged_again}
 use Rattle.law_refs.specs.Missing.{missing, refs_in_force}
@@ -121,7 +121,7 @@ begins_on work (row ∷ rows) from first = by (bytes_eq row.work work) first (be
     by true here rest = ap (day_or from) here
     by false later rest = rest later
 
-nothing_given : (work : List ℕ) (rows : List RefRow) → first_day work rows ≡ None → rows_given work rows ≡ []
+pub nothing_given : (work : List ℕ) (rows : List RefRow) → first_day work rows ≡ None → rows_given work rows ≡ []
 nothing_given work [] none = refl
 nothing_given work (row ∷ rows) none = by (bytes_eq row.work work) none (nothing_given work rows)
   where
@@ -218,35 +218,35 @@ given_behind answers moved act_day from (row ∷ rows) (Some kept) first days =
 -- ---- it is for what is known then
 
 seen_staying : (answers : Answers) (moved : List (List ℕ)) (from : Option ℕ) (day : ℕ) (old : Option Known) (new : Known) (kept : Option WorkRefs)
-    → Matches old kept → has_begun from day ≡ false → SameRefs day old new → seen day [] (staying_rows answers moved from kept) ≡ refs_in_force new day
-seen_staying answers moved from day None new kept matches early none = absurd none
-seen_staying answers moved from day (Some old) new None none early same = absurd none
-seen_staying answers moved from day (Some old) new (Some kept) for early same =
+    → Matches old kept → 1 ≤ day → has_begun from day ≡ false → SameRefs day old new → seen day [] (staying_rows answers moved from kept) ≡ refs_in_force new day
+seen_staying answers moved from day None new kept matches real early none = absurd none
+seen_staying answers moved from day (Some old) new None none real early same = absurd none
+seen_staying answers moved from day (Some old) new (Some kept) for real early same =
     seen_again answers moved day [] (rows_before from kept.rows)
     ∙ seen_before from day early [] kept.rows
     ∙ sym (as_seen day [] kept.rows)
-    ∙ for.texts day
+    ∙ for.texts day real
     ∙ same
 
 seen_given : (answers : Answers) (moved : List (List ℕ)) (old : Option Known) (new : Known) (kept : Option WorkRefs) (from : Option ℕ) (rows : List RefRow)
     → Matches old kept → BeginsOn from rows → AreRowsFor old new from rows
-    → (day : ℕ) → seen day [] (staying_rows answers moved from kept ++ map (day_row answers) rows) ≡ refs_in_force new day
-seen_given answers moved old new kept from rows matches first for day =
+    → (day : ℕ) → 1 ≤ day → seen day [] (staying_rows answers moved from kept ++ map (day_row answers) rows) ≡ refs_in_force new day
+seen_given answers moved old new kept from rows matches first for day real =
     seen_both day [] (staying_rows answers moved from kept) (map (day_row answers) rows)
     ∙ seen_new answers day (seen day [] (staying_rows answers moved from kept)) rows
     ∙ by (has_begun from day) refl
   where
     by : (t : Bool) → has_begun from day ≡ t → latest_given day (seen day [] (staying_rows answers moved from kept)) rows ≡ refs_in_force new day
-    by true begun = given_alone from day begun rows first (seen day [] (staying_rows answers moved from kept)) [] ∙ for.texts day begun
+    by true begun = given_alone from day begun rows first (seen day [] (staying_rows answers moved from kept)) [] ∙ for.texts day real begun
     by false early =
         none_given from day early (seen day [] (staying_rows answers moved from kept)) rows for.days
-        ∙ seen_staying answers moved from day old new kept matches early (for.earlier day early)
+        ∙ seen_staying answers moved from day old new kept matches real early (for.earlier day real early)
 
-behind_for : (new : Known) (rows : List DayRefs) (kept : Option WorkRefs) → IsBehind new.act.day rows kept → ((day : ℕ) → seen day [] rows ≡ refs_in_force new day) → Matches (Some new) kept
+behind_for : (new : Known) (rows : List DayRefs) (kept : Option WorkRefs) → IsBehind new.act.day rows kept → ((day : ℕ) → 1 ≤ day → seen day [] rows ≡ refs_in_force new day) → Matches (Some new) kept
 behind_for new rows None none texts = absurd none
 behind_for new rows (Some kept) behind texts = record {
   act_day = behind.0;
-  texts = λ day. as_seen day [] kept.rows ∙ ap (seen day []) behind.1 ∙ texts day;
+  texts = λ day real. as_seen day [] kept.rows ∙ ap (seen day []) behind.1 ∙ texts day real;
 }
 
 given_for : (answers : Answers) (moved : List (List ℕ)) (old new : Option Known) (kept : Option WorkRefs) (from : Option ℕ) (rows : List RefRow)
@@ -267,8 +267,8 @@ still_for answers moved (Some old) None kept matches none = absurd none
 still_for answers moved (Some old) (Some new) None none same = absurd none
 still_for answers moved (Some old) (Some new) (Some kept) for same = record {
   act_day = for.act_day ∙ same.0;
-  texts = λ day. as_seen day [] (map (again_row answers moved) kept.rows) ∙ seen_again answers moved day [] kept.rows
-      ∙ sym (as_seen day [] kept.rows) ∙ for.texts day ∙ same.1 day;
+  texts = λ day real. as_seen day [] (map (again_row answers moved) kept.rows) ∙ seen_again answers moved day [] kept.rows
+      ∙ sym (as_seen day [] kept.rows) ∙ for.texts day real ∙ same.1 day real;
 }
 
 work_for : (answers : Answers) (moved : List (List ℕ)) (old new : Option Known) (kept : Option WorkRefs) (work : List ℕ) (given : List RefRow) (first : Option (Option ℕ))
@@ -285,10 +285,10 @@ pub revision_follows : (before after : List Entry) (moved : List (List ℕ)) (ro
     → IsIndexOf before index → FollowsChange before after moved rows → IsIndexOf after (revised (missing after) moved rows index)
 unfolding revised
 revision_follows before after moved rows index of_register change = record {
-  kept = λ work. subst (Matches (known_now after work))
+  kept = λ work. subst (Matches (held_now after work))
       (sym (put_all_kept (missing after) work (all_again (missing after) moved (all_staying rows index)) rows
       ∙ ap (behind_all (missing after) (rows_given work rows)) (stays_kept (missing after) moved rows work index)))
-      (work_for (missing after) moved (known_now before work) (known_now after work) (kept_of work index) work rows (first_day work rows) refl
+      (work_for (missing after) moved (held_now before work) (held_now after work) (kept_of work index) work rows (first_day work rows) refl
       (of_register.kept work) (change.given work));
   right = revision_right (missing before) (missing after) moved rows index of_register.right change.targets;
 }

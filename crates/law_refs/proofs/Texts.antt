@@ -13,17 +13,17 @@ use Rattle.law_register.specs.declared.register.known.Known.{Known}
 use Rattle.law_register.specs.Answer.Breakpoints.{breakpoints}
 use Rattle.law_register.specs.Answer.Replay.{VersionValue, as_enacted, replayed}
 use Rattle.law_register.specs.Answer.Soundness.{IsSound}
-use Rattle.law_register.specs.Register.KnownNext.{known_now}
+use Rattle.law_register.specs.Provisions.Carrying.{held_now}
 use Rattle.law_register.specs.Register.Verdicts.{is_legal}
 use Rattle.law_register.proofs.ApartIds.{none_both, none_left, none_right}
 use Rattle.law_register.proofs.NamedDays.{breakpoints_ascend}
-use Rattle.law_register.proofs.Next.{now_sound}
 use Rattle.law_register.proofs.Puts.{bytes_are}
 use Rattle.version_cache.specs.Days.{last_until}
 use Rattle.version_cache.specs.Steady.{CarrySteadily}
 use Rattle.version_cache.proofs.LastDay.{IsLast, last_is}
 use Rattle.version_cache.proofs.Right.{replay_by_last, version_or}
 use Rattle.version_cache.proofs.Still.{order_still}
+use Rattle.source_provisions.proofs.HeldNow.{held_sound}
 use Rattle.law_refs.specs.Handing.{row_enacted, row_on, rows_from, rows_made}
 use Rattle.law_refs.specs.Index.{first_day}
 use Rattle.law_refs.specs.Missing.{refs_in_force, text_refs}
@@ -32,10 +32,10 @@ use Rattle.law_refs.specs.Rows.{has_begun, is_before}
 use Rattle.law_refs.specs.declared.node_ref.NodeRef.{NodeRef}
 use Rattle.law_refs.specs.declared.ref_row.RefRow.{RefRow}
 
--- what a legal register knows of a work carries steadily
-pub now_steady : (entries : List Entry) (work : List ℕ) (known : Known) → is_legal entries ≡ true → known_now entries work ≡ Some known → CarrySteadily known
+-- what a legal register knows of a work carries steadily, with what it carries
+pub now_steady : (entries : List Entry) (work : List ℕ) (known : Known) → is_legal entries ≡ true → held_now entries work ≡ Some known → CarrySteadily known
 now_steady entries work known legal is =
-    let sound : IsSound known = subst (λ (k : Option Known). IfSome k IsSound) is (now_sound entries work legal) in
+    let sound : IsSound known = subst (λ (k : Option Known). IfSome k IsSound) is (held_sound entries work legal) in
     sound.steady
 
 -- ---- rows of one work
@@ -263,17 +263,17 @@ module _ (work : List ℕ) (known : Known) where
   made_for steady old = record {
     act_day = (refl, days_act_day (breakpoints known));
     days = made_any;
-    texts = λ day begun. made_texts steady day [];
-    earlier = no_day_before old;
+    texts = λ day real begun. made_texts steady day [];
+    earlier = λ day real. no_day_before old day;
   }
 
-  pub from_for : CarrySteadily known → (old : Option Known) (touched : ℕ) → ((day : ℕ) → day < touched → SameRefs day old known) → AreRowsFor old known (Some touched) (rows_from work touched known)
+  pub from_for : CarrySteadily known → (old : Option Known) (touched : ℕ) → ((day : ℕ) → 1 ≤ day → day < touched → SameRefs day old known) → AreRowsFor old known (Some touched) (rows_from work touched known)
   unfolding has_begun
   from_for steady old touched earlier = record {
     act_day = (refl, days_act_day (after touched (breakpoints known)));
     days = from_any touched;
-    texts = λ day begun. from_texts steady touched day [] begun;
-    earlier = λ day early. earlier day (not_reached touched day early);
+    texts = λ day real begun. from_texts steady touched day [] begun;
+    earlier = λ day real early. earlier day real (not_reached touched day early);
   }
     where
       not_reached : (t day : ℕ) → nat_le t day ≡ false → day < t
@@ -286,7 +286,7 @@ module _ (work : List ℕ) (known : Known) where
       (sym (first_own work (row_enacted work known) (map (row_on work known) (breakpoints known)) refl))
       (subst (λ rows. IsHandedIn old (Some known) (Some None) rows) (sym (given_own work (rows_made work known) made_of)) (made_for steady old))
 
-  pub from_handed : CarrySteadily known → (old : Option Known) (touched : ℕ) → ((day : ℕ) → day < touched → SameRefs day old known)
+  pub from_handed : CarrySteadily known → (old : Option Known) (touched : ℕ) → ((day : ℕ) → 1 ≤ day → day < touched → SameRefs day old known)
       → IsHandedIn old (Some known) (first_day work (rows_from work touched known)) (rows_given work (rows_from work touched known))
   from_handed steady old touched earlier =
       subst (λ first. IsHandedIn old (Some known) first (rows_given work (rows_from work touched known)))

@@ -1,5 +1,5 @@
 -- A work of which only the numbers of law entries change has the references that it had, and what refers to it is answered as before.
-use Rattle.std.proofs.Common.{◌≡◌, ◌∙◌, ℕ, ◌+◌, ◌<◌, ◌≤◌, sym, ap, refl, subst, Bool, true, false, cond, ◌||◌, not, nat_lt, List, [], ◌∷◌, length, Option, Some, None, is_some, option_map, arith}
+use Rattle.std.proofs.Common.{◌≡◌, ◌∙◌, ℕ, ◌+◌, ◌<◌, ◌≤◌, sym, ap, refl, subst, Bool, true, false, cond, ◌||◌, not, nat_lt, List, [], ◌∷◌, length, take, Option, Some, None, is_some, option_map, arith}
 use Rattle.std.proofs.lemmas.Bool.Decides.{nat_tests}
 use Rattle.std.specs.Str.{bytes_eq}
 use Rattle.eid_paths.specs.declared.numbering.Numbering.{Numbering}
@@ -22,7 +22,9 @@ use Rattle.law_register.specs.Answer.Flags.{flag_below, root_flag}
 use Rattle.law_register.specs.Answer.Replay.{VersionValue, as_enacted, replay_on}
 use Rattle.law_register.specs.Answer.Shown.{Shown}
 use Rattle.law_register.specs.Register.KnownIds.{enacted, enacted_by, enacted_from, enacted_or, known_by}
-use Rattle.law_register.specs.Register.KnownNext.{bare, known_now, up_to}
+use Rattle.law_register.specs.Provisions.Carrying.{carrying, held_now}
+use Rattle.law_register.specs.Provisions.Line.{line}
+use Rattle.law_register.specs.Register.KnownNext.{bare, known_now}
 use Rattle.law_register.specs.Register.LawList.{front, laws}
 use Rattle.law_register.specs.Register.Verdicts.{is_legal}
 use Rattle.law_register.proofs.Next.{now_known}
@@ -44,18 +46,13 @@ IsUnmoved None (Some new) = ⊥
 IsUnmoved (Some old) None = ⊥
 IsUnmoved (Some old) (Some new) = IsSameView old new
 
--- one that only counts more law entries
-pub counted_on : (n : ℕ) (known : Option Known) → IsUnmoved known (option_map (up_to n) known)
-counted_on n None = tt
-counted_on n (Some known) = record { act = refl; texts = λ day. refl }
-
 -- it has the references that it had
 pub unmoved_refs : (old new : Option Known) → IsUnmoved old new → HasSameRefs old new
 unfolding refs_in_force
 unmoved_refs None None is = tt
 unmoved_refs None (Some new) is = absurd is
 unmoved_refs (Some old) None is = absurd is
-unmoved_refs (Some old) (Some new) is = (ap (λ (act : Act). act.day) is.act, λ day. ap (λ (v : VersionValue). text_refs v.tree) (is.texts day))
+unmoved_refs (Some old) (Some new) is = (ap (λ (act : Act). act.day) is.act, λ day real. ap (λ (v : VersionValue). text_refs v.tree) (is.texts day))
 
 -- ---- whether a text has a portion is told by its provisions alone
 
@@ -166,8 +163,14 @@ within n work (l ∷ ls) found is = by (enacted_by work l) is (within (n + 1) wo
         let both : (n, act) ≡ found = cc in here found.0 (ap (λ (f : ℕ × Act). f.0) both)
     by None later rest = behind (rest later)
 
-pub counts : (entries : List Entry) (work : List ℕ) → Counts (front entries) (known_now entries work)
-counts entries work = subst (Counts (front entries)) (sym (now_known entries work)) (by (enacted work (laws entries)) refl)
+held_counts : (works : List Known) (n : ℕ) (known : Option Known) → Counts n known → Counts n (option_map (carrying works) known)
+held_counts works n None counted = tt
+held_counts works n (Some known) counted = counted
+
+pub counts : (entries : List Entry) (work : List ℕ) → Counts (front entries) (held_now entries work)
+counts entries work =
+    held_counts (line (take (front entries) (laws entries))) (front entries) (known_now entries work)
+    (subst (Counts (front entries)) (sym (now_known entries work)) (by (enacted work (laws entries)) refl))
   where
     least : (m n : ℕ) → m < 1 + n → m ≤ n
     least m n less = omega (arith, less)
@@ -183,12 +186,18 @@ abbrev as_asked : Option ℕ → Option Known → Option Known
 as_asked None known = option_map bare known
 as_asked (Some day) known = known
 
-asked_is : (entries : List Entry) → is_legal entries ≡ true → (work : List ℕ) (version : Option ℕ) → known_for entries work (front entries) version ≡ as_asked version (known_now entries work)
-asked_is entries legal work None = enacted_bare entries work legal
+-- the act as enacted carries nothing
+bare_too : (works : List Known) (known : Option Known) → option_map bare known ≡ option_map bare (option_map (carrying works) known)
+bare_too works None = refl
+bare_too works (Some known) = refl
+
+asked_is : (entries : List Entry) → is_legal entries ≡ true → (work : List ℕ) (version : Option ℕ) → known_for entries work (front entries) version ≡ as_asked version (held_now entries work)
+asked_is entries legal work None =
+    enacted_bare entries work legal ∙ bare_too (line (take (front entries) (laws entries))) (known_now entries work)
 asked_is entries legal work (Some day) = refl
 
 missing_is : (entries : List Entry) → is_legal entries ≡ true → (target : Expression)
-    → missing entries target ≡ refused_by (answer_by (question_for (front entries) target) (as_asked target.version (known_now entries target.work.text)))
+    → missing entries target ≡ refused_by (answer_by (question_for (front entries) target) (as_asked target.version (held_now entries target.work.text)))
 unfolding missing answer_at
 missing_is entries legal target =
     ap (λ known. refused_by (answer_by (question_for (front entries) target) known)) (asked_is entries legal target.work.text target.version)
@@ -259,9 +268,9 @@ answered_alike n m target (Some old) (Some new) is before after =
     ∙ sym (named n target target.version old refl before.0 before.1)
 
 pub unmoved_missing : (before after : List Entry) → is_legal before ≡ true → is_legal after ≡ true → (target : Expression)
-    → IsUnmoved (known_now before target.work.text) (known_now after target.work.text) → missing after target ≡ missing before target
+    → IsUnmoved (held_now before target.work.text) (held_now after target.work.text) → missing after target ≡ missing before target
 unmoved_missing before after legal still target is =
     missing_is after still target
-    ∙ answered_alike (front before) (front after) target (known_now before target.work.text) (known_now after target.work.text) is
+    ∙ answered_alike (front before) (front after) target (held_now before target.work.text) (held_now after target.work.text) is
     (counts before target.work.text) (counts after target.work.text)
     ∙ sym (missing_is before legal target)

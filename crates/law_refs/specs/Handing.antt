@@ -6,9 +6,9 @@ use Rattle.law_register.specs.declared.register.entry.Entry.{Entry}
 use Rattle.law_register.specs.declared.register.known.Known.{Known}
 use Rattle.law_register.specs.Answer.Breakpoints.{breakpoints}
 use Rattle.law_register.specs.Answer.Replay.{as_enacted}
-use Rattle.law_register.specs.Answer.Touched.{touched_days}
 use Rattle.law_register.specs.Register.Indexes.{act_of}
-use Rattle.law_register.specs.Register.KnownNext.{known_now}
+use Rattle.law_register.specs.Provisions.Carrying.{held_now}
+use Rattle.law_register.specs.Provisions.Touching.{touched_works}
 use Rattle.law_register.specs.Register.LawList.{laws, works_enacted}
 use Rattle.law_refs.specs.Index.{Kept, refs_in, revision_steps}
 use Rattle.law_refs.specs.Missing.{refs_in_force, text_refs}
@@ -40,25 +40,27 @@ rows_if rows (Some known) = rows known
 abbrev pub rows_touched : List Entry → List (List ℕ × ℕ) → List RefRow
 rows_touched entries [] = []
 rows_touched entries (touched ∷ others) =
-    rows_if (rows_from touched.0 touched.1) (known_now entries touched.0) ++ rows_touched entries others
+    rows_if (rows_from touched.0 touched.1) (held_now entries touched.0) ++ rows_touched entries others
 
--- what an entry hands in that enacts this act, or none
-abbrev pub rows_by : List Entry → Entry → Option Act → List RefRow
-rows_by entries entry None = rows_touched (entries ++ entry ∷ []) (touched_days entries entry)
-rows_by entries entry (Some act) = rows_if (rows_made act.work) (known_now (entries ++ entry ∷ []) act.work)
+-- those of an act that is enacted, if one is, by what entries make known of it
+abbrev pub rows_enacted : List Entry → Option Act → List RefRow
+rows_enacted entries None = []
+rows_enacted entries (Some act) = rows_if (rows_made act.work) (held_now entries act.work)
 
--- what an entry hands in that comes to stand behind others
+-- what an entry hands in that comes to stand behind others: of the work that it enacts, and of those that it touches
 unfoldable pub rows_of_entry : List Entry → Entry → List RefRow
-rows_of_entry entries entry = rows_by entries entry (act_of entry.command)
+rows_of_entry entries entry =
+    rows_enacted (entries ++ entry ∷ []) (act_of entry.command)
+    ++ rows_touched (entries ++ entry ∷ []) (touched_works entries entry)
 
--- the works that an entry enacts or touches
-abbrev pub moved_with : List Entry → Entry → Option Act → List (List ℕ)
-moved_with entries entry None = map (λ touched. touched.0) (touched_days entries entry)
-moved_with entries entry (Some act) = act.work ∷ []
+-- the work of an act, if there is one
+abbrev pub work_enacted : Option Act → List (List ℕ)
+work_enacted None = []
+work_enacted (Some act) = act.work ∷ []
 
--- the same of an entry that comes to stand behind others
+-- the works that an entry enacts or touches which comes to stand behind others
 unfoldable pub moved_by : List Entry → Entry → List (List ℕ)
-moved_by entries entry = moved_with entries entry (act_of entry.command)
+moved_by entries entry = work_enacted (act_of entry.command) ++ map (λ touched. touched.0) (touched_works entries entry)
 
 -- how many references are judged for an entry, where this is the index of the entries before it
 unfoldable pub judged_for : Kept → List Entry → Entry → ℕ
@@ -67,7 +69,7 @@ judged_for index entries entry = revision_steps (moved_by entries entry) (rows_o
 -- what is handed in of these works when a register is opened: all texts of each
 abbrev pub rows_opened : List Entry → List (List ℕ) → List RefRow
 rows_opened entries [] = []
-rows_opened entries (work ∷ works) = rows_if (rows_made work) (known_now entries work) ++ rows_opened entries works
+rows_opened entries (work ∷ works) = rows_if (rows_made work) (held_now entries work) ++ rows_opened entries works
 
 -- how many references are judged when a register is opened: those of all texts of the works that are enacted
 unfoldable pub judged_at_opening : List Entry → ℕ

@@ -18,7 +18,7 @@ use Rattle.law_register.specs.declared.register.known.Known.{Known}
 use Rattle.law_register.specs.Answer.Asking.{answer_at}
 use Rattle.law_register.specs.Answer.Queries.{query_number}
 use Rattle.law_register.specs.Answer.Replay.{replay_on}
-use Rattle.law_register.specs.Register.KnownNext.{known_now}
+use Rattle.law_register.specs.Provisions.Carrying.{held_now}
 use Rattle.law_register.specs.Register.LawList.{front}
 use Rattle.law_refs.specs.Judging.{Answers, judged}
 use Rattle.law_refs.specs.Listed.{all_listed}
@@ -84,11 +84,11 @@ dangling_if entries day work (Some known) = dangling_of entries day work known
 -- those of works, one work after another, as all entries make them known
 abbrev pub dangling_in : List Entry → ℕ → List (List ℕ) → List DanglingRef
 dangling_in entries day [] = []
-dangling_in entries day (work ∷ works) = dangling_if entries day work (known_now entries work) ++ dangling_in entries day works
+dangling_in entries day (work ∷ works) = dangling_if entries day work (held_now entries work) ++ dangling_in entries day works
 
 -- the references of a register that dangle on a day: of the works whose act is enacted, each once, in the order of the bytes of their IRIs
 pub record IsDangling (entries : List Entry) (day : ℕ) (found : List DanglingRef) : Type 0 where
   pub works : List (List ℕ)
-  pub all : (work : List ℕ) → is_among work works ≡ is_some (known_now entries work)
+  pub all : (work : List ℕ) → is_among work works ≡ is_some (held_now entries work)
   pub in_order : IsStrictlySortedBy (slice_cmp nat_cmp) works
   pub is : found ≡ dangling_in entries day works

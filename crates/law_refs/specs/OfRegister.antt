@@ -1,10 +1,10 @@
 -- When an index is that of a register, and what has to be handed in so that it stays so.
-use Rattle.std.specs.Prelude.{◌≡◌, ℕ, true, false, List, [], ◌∷◌, ◌++◌, map, Option, Some, None, if◌then◌else◌}
+use Rattle.std.specs.Prelude.{◌≡◌, ◌≤◌, ℕ, true, false, List, [], ◌∷◌, ◌++◌, map, Option, Some, None, if◌then◌else◌}
 use Rattle.std.specs.List.{AllByRecursion}
 use Rattle.std.specs.Str.{bytes_eq}
 use Rattle.law_register.specs.declared.register.entry.Entry.{Entry}
 use Rattle.law_register.specs.declared.register.known.Known.{Known}
-use Rattle.law_register.specs.Register.KnownNext.{known_now}
+use Rattle.law_register.specs.Provisions.Carrying.{held_now}
 use Rattle.law_refs.specs.Index.{Kept, first_day, kept_of}
 use Rattle.law_refs.specs.Missing.{missing, refs_in_force}
 use Rattle.law_refs.specs.Right.{AnswerAsBefore, IsRight}
@@ -18,10 +18,11 @@ use Rattle.law_refs.specs.declared.ref_row.WorkRefs.{WorkRefs}
 abbrev pub unjudged : JudgedRef → NodeRef
 unjudged kept = record { eid = kept.eid; iri = kept.iri }
 
--- what is kept of a work is for what is known of it: the day of its act, and on every day the references of its text in force
+-- what is kept of a work is for what is known of it: the day of its act, and on every day, of which 1 is the first, the references of its
+-- text in force
 pub record IsFor (known : Known) (kept : WorkRefs) : Type 0 where
   pub act_day : kept.act_day ≡ known.act.day
-  pub texts : (day : ℕ) → map unjudged (refs_on day kept.rows) ≡ refs_in_force known day
+  pub texts : (day : ℕ) → 1 ≤ day → map unjudged (refs_on day kept.rows) ≡ refs_in_force known day
 
 -- something is kept of exactly the works that are known, and it is for what is known
 abbrev pub Matches : Option Known → Option WorkRefs → Type 0
@@ -32,7 +33,7 @@ Matches (Some known) (Some kept) = IsFor known kept
 
 -- an index is that of a register: of each work it has what all entries make known, and each reference with what breaks its target
 pub record IsIndexOf (entries : List Entry) (index : Kept) : Type 0 where
-  pub kept : (work : List ℕ) → Matches (known_now entries work) (kept_of work index)
+  pub kept : (work : List ℕ) → Matches (held_now entries work) (kept_of work index)
   pub right : IsRight (missing entries) index
 
 -- the rows that are handed in for a work
@@ -53,7 +54,7 @@ SameRefs day (Some old) new = refs_in_force old day ≡ refs_in_force new day
 -- what is known of a work has the same act's day, and on every day the same references; a work that was not known is not known then
 abbrev pub HasSameRefs : Option Known → Option Known → Type 0
 HasSameRefs None None = Unit {0}
-HasSameRefs (Some old) (Some new) = (old.act.day ≡ new.act.day) × ((day : ℕ) → refs_in_force old day ≡ refs_in_force new day)
+HasSameRefs (Some old) (Some new) = (old.act.day ≡ new.act.day) × ((day : ℕ) → 1 ≤ day → refs_in_force old day ≡ refs_in_force new day)
 HasSameRefs _ _ = ⊥
 
 -- rows that begin on a day, or as the act was enacted, are for what is known of a work then: none of them begins before it, from it on
@@ -61,8 +62,8 @@ HasSameRefs _ _ = ⊥
 pub record AreRowsFor (old : Option Known) (new : Known) (from : Option ℕ) (rows : List RefRow) : Type 0 where
   pub act_day : AllByRecursion (λ row. row.act_day ≡ new.act.day) rows
   pub days : AllByRecursion (λ row. is_before row.from from ≡ false) rows
-  pub texts : (day : ℕ) → has_begun from day ≡ true → latest_given day [] rows ≡ refs_in_force new day
-  pub earlier : (day : ℕ) → has_begun from day ≡ false → SameRefs day old new
+  pub texts : (day : ℕ) → 1 ≤ day → has_begun from day ≡ true → latest_given day [] rows ≡ refs_in_force new day
+  pub earlier : (day : ℕ) → 1 ≤ day → has_begun from day ≡ false → SameRefs day old new
 
 -- the same, where the work is known then
 abbrev pub AreRowsForIf : Option Known → Option Known → Option ℕ → List RefRow → Type 0
@@ -77,5 +78,5 @@ IsHandedIn old new (Some from) rows = AreRowsForIf old new from rows
 -- what is handed in is what a register has once these entries stand in the place of those before, where these works moved: of each
 -- work its rows from the first day on that changed, and no target is answered otherwise but of works that moved
 pub record FollowsChange (before after : List Entry) (moved : List (List ℕ)) (rows : List RefRow) : Type 0 where
-  pub given : (work : List ℕ) → IsHandedIn (known_now before work) (known_now after work) (first_day work rows) (rows_given work rows)
+  pub given : (work : List ℕ) → IsHandedIn (held_now before work) (held_now after work) (first_day work rows) (rows_given work rows)
   pub targets : AnswerAsBefore (missing before) (missing after) moved

@@ -1,6 +1,6 @@
 //! Laws of the index, each as the contract of a function with an empty body.
 
-ghost use Rattle.std.specs.Prelude.{◌≡◌, ◌++◌, ◌∷◌, true, ℕ, IsPermutation, List, [], map};
+ghost use Rattle.std.specs.Prelude.{◌≡◌, ◌≤◌, ◌++◌, ◌∷◌, true, ℕ, IsPermutation, List, [], map};
 ghost use Rattle.std.specs.Cmp.Lexicographic.{slice_cmp};
 ghost use Rattle.std.specs.List.Sorted.{IsStrictlySortedBy};
 ghost use Rattle.std.specs.Map.{keys_of};
@@ -55,7 +55,7 @@ pub fn works_ascend(index: &RefIndex)
 
 /// What an index of a register lists is what dangles by the register alone.
 pub fn what_dangles_is_listed(index: &RefIndex)
-    ensures { (entries : List Entry) (day : ℕ) → IsIndexOf entries index.now → IsDangling entries day (dangling_on day index.now) }
+    ensures { (entries : List Entry) (day : ℕ) → 1 ≤ day → IsIndexOf entries index.now → IsDangling entries day (dangling_on day index.now) }
 {
     works_ascend(index);
 }

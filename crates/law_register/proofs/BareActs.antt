@@ -2,7 +2,8 @@
 use Rattle.std.proofs.Common.{◌≡◌, ◌∙◌, ap, ap₂, ℕ, ◌+◌, nat_le, Bool, true, false, cond, List, [], ◌∷◌, map, Option, Some, None, refl}
 use Rattle.desk_base.specs.declared.id.Id.{Id}
 use Rattle.law_register.specs.Answer.Breakpoints.{breakpoints}
-use Rattle.law_register.specs.Answer.Costs.{cost_after, ids_applied, revision_cost}
+use Rattle.law_register.specs.Answer.Applied.{ids_applied}
+use Rattle.law_register.specs.Answer.Costs.{cost_after, revision_cost}
 use Rattle.law_register.specs.Answer.Order.{due_of, order}
 use Rattle.law_register.specs.Answer.Renewing.{both_costs}
 use Rattle.law_register.specs.Answer.Replay.{as_enacted, replay_on, replayed}

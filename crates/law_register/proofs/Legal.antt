@@ -69,6 +69,7 @@ pub record Keeps (entries : List Entry) (drafter : List ℕ) (command : Command)
   pub tree : v.bad_tree command ≡ None
   pub known : v.unknown_work (laws entries) command ≡ None
   pub new : v.work_exists (laws entries) command ≡ None
+  pub filled : v.empty_draft (draft_of drafter entries) command ≡ None
 
 pub kept_rules : (es : List Entry) (d : List ℕ) (c : Command) → first_rule es d c ≡ None → Keeps es d c
 kept_rules es d c h =
@@ -95,6 +96,7 @@ kept_rules es d c h =
       tree = first_kept (v.bad_tree c) _ h4;
       known = first_kept (v.unknown_work (laws es) c) _ h2;
       new = first_kept (v.work_exists (laws es) c) _ h3;
+      filled = first_kept (v.empty_draft (draft_of d es) c) _ h12;
     }
 
 -- what holds of no entries, and of one accepted entry more, holds of a legal register

@@ -38,6 +38,8 @@ pub mod Apart
 pub mod ApartVerdicts
 pub mod WhenEnacted
 pub mod ShownAlike
+pub mod ShownAlone
+pub mod Unreached
 pub mod BareActs
 pub mod Renewing
 pub mod LowAnswers

@@ -1,4 +1,5 @@
 pub mod Answers
+pub mod Applied
 pub mod Asking
 pub mod Bearing
 pub mod Breakpoints
@@ -8,6 +9,7 @@ pub mod Flags
 pub mod Order
 pub mod PastAsking
 pub mod PastKeys
+pub mod Previewing
 pub mod Previews
 pub mod Queries
 pub mod Questions

@@ -3,6 +3,7 @@
 mod answer;
 mod answer_node;
 mod answering;
+mod carrier;
 mod dated;
 mod due;
 mod ids;
@@ -16,6 +17,7 @@ mod version;
 pub use answer::Answer;
 pub use answer_node::{AnswerNode, AnswerNodes};
 pub use answering::{answer_by, answer_dated};
+pub use carrier::{Carrier, known_held};
 pub use dated::Dated;
 pub use due::Due;
 pub use ids::{Days, Ids, Touched, Unapplied};

@@ -20,6 +20,7 @@ ghost use Rattle.law_register.specs.Answer.Previews.{known_by_law};
 ghost use Rattle.law_register.specs.Answer.Renewing.{command_cost, entry_cost, judging_cost};
 ghost use Rattle.law_register.specs.Answer.Standing.{alone};
 ghost use Rattle.law_register.specs.Answer.Touched.{touched_day, touched_days, work_entered};
+ghost use Rattle.law_register.specs.Provisions.Touching.{touched_works};
 ghost use Rattle.law_register.specs.Register.Concerns.{is_named};
 ghost use Rattle.law_register.specs.Register.Drafters.{is_drafter};
 ghost use Rattle.law_register.specs.Register.KnownIds.{enacted, ids_of, known_at};
@@ -206,8 +207,8 @@ pub fn all_is_known_ahead()
         ≡ option_map (at_viewpoint viewpoint) (known_now entries work) }
 {}
 
-/// The steps of a command that is accepted are those of its entry: one for each id that is applied, of which one that touches no day takes
-/// none, as an Enact or an entry of a draft, and one for each reference that is judged anew for it.
+/// The steps of a command that is accepted are those of its entry: one for each id that is applied, of which one that touches no work takes
+/// none, as an entry of a draft, and one for each reference that is judged anew for it.
 pub fn commands_cost_what_they_touch()
     ensures accepted { (entries : List Entry) (entry : Entry) (law : Option ℕ) (reply : Reply)
         → verdict entries entry.drafter entry.request entry.command ≡ Accepted law reply
@@ -215,9 +216,7 @@ pub fn commands_cost_what_they_touch()
     ensures judged { (judging : List Entry → Entry → ℕ) (entries : List Entry) (entry : Entry) (law : Option ℕ) (reply : Reply)
         → verdict entries entry.drafter entry.request entry.command ≡ Accepted law reply
         → judging_cost judging entries entry ≡ judging entries (record entry { law = law }) }
-    ensures untouched { (entries : List Entry) (entry : Entry) → touched_day entries entry ≡ None
-        → command_cost entries entry ≡ 0 }
-    ensures enacting { (entries : List Entry) (entry : Entry) (act : Act) → entry.command ≡ Enact act
+    ensures untouched { (entries : List Entry) (entry : Entry) → touched_works entries entry ≡ []
         → command_cost entries entry ≡ 0 }
     ensures drafting { (entries : List Entry) (entry : Entry) → law_of entries entry ≡ []
         → command_cost entries entry ≡ 0 }

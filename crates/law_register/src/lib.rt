@@ -11,9 +11,9 @@ pub mod replay_laws;
 mod series;
 
 pub use answer::{
-    Answer, AnswerNode, AnswerNodes, AskFault, Dated, Days, Due, Ids, PastKey, QueryRule, Question,
-    Reading, Replayer, Touched, Unapplied, Version, answer_by, answer_dated, continue_replay,
-    enact, go_on,
+    Answer, AnswerNode, AnswerNodes, AskFault, Carrier, Dated, Days, Due, Ids, PastKey, QueryRule,
+    Question, Reading, Replayer, Touched, Unapplied, Version, answer_by, answer_dated,
+    continue_replay, enact, go_on, known_held,
 };
 pub use desk::{CommandFault, Damage, Desk, Event, FaultMark, OpenFault};
 pub use law::{

@@ -4,7 +4,8 @@ ghost use Rattle.std.specs.Prelude.{◌≡◌, ◌⊎◌, ℕ, true, option_map,
 ghost use Rattle.law_register.specs.declared.answer.question.Question.{Question as QuestionValue};
 ghost use Rattle.law_register.specs.declared.law.command.Command.{Command as CommandValue};
 ghost use Rattle.law_register.specs.Answer.Asking.{answer_at};
-ghost use Rattle.law_register.specs.Answer.Previews.{known_previewed, own_entries, preview_at, with_items};
+ghost use Rattle.law_register.specs.Answer.Previewing.{preview_at};
+ghost use Rattle.law_register.specs.Answer.Previews.{known_previewed, own_entries, with_items};
 ghost use Rattle.law_register.specs.Answer.Soundness.{IsSound};
 ghost use Rattle.law_register.specs.Register.Drafts.{draft_of, items_of};
 ghost use Rattle.law_register.specs.Register.KnownNext.{known_now};

@@ -12,6 +12,7 @@ ghost use Rattle.law_register.specs.Answer.Order.{due_cmp, due_on, is_due_id, or
 ghost use Rattle.law_register.specs.Answer.Renewing.{both_costs};
 ghost use Rattle.law_register.specs.Answer.Replay.{as_enacted, replay_on, replayed};
 ghost use Rattle.law_register.specs.Answer.Soundness.{IsSound, id_twice};
+ghost use Rattle.law_register.specs.Answer.Standing.{alone};
 ghost use Rattle.law_register.specs.Answer.Versions.{version_view};
 
 use crate::{Known, Question, Reading, Version};
@@ -55,6 +56,12 @@ pub fn replay_goes_on(_known: &Known, _version: &Version, _first: &[Id], _others
 pub fn texts_are_shown_alike(_known: &Known, _version: &Version, _question: &Question)
     ensures { (viewpoint front : ℕ)
         → answer_of_text (record _known.now { viewpoint = viewpoint; front = front }) (version_view _version.now) _question.now
+        ≡ answer_of_text _known.now (version_view _version.now) _question.now }
+{}
+
+/// What is shown of a text does not depend on what is carried: flags are those of force and efficacy alone.
+pub fn texts_are_shown_alone(_known: &Known, _version: &Version, _question: &Question)
+    ensures { answer_of_text (alone _known.now) (version_view _version.now) _question.now
         ≡ answer_of_text _known.now (version_view _version.now) _question.now }
 {}
 

@@ -13,7 +13,8 @@ use Rattle.law_register.specs.declared.answer.queries.QueryRule.TheVariants.{Not
 use Rattle.law_register.specs.declared.answer.question.Reading.TheVariants.{Force}
 use Rattle.law_register.specs.Answer.Order.{order}
 use Rattle.law_register.specs.Answer.Replay.{replay_on}
-use Rattle.law_register.specs.Register.KnownIds.{known_at}
+use Rattle.law_register.specs.Answer.Costs.{holding_at}
+use Rattle.law_register.specs.Provisions.Carrying.{held_now}
 use Rattle.law_register.specs.Register.LawList.{front}
 use Rattle.law_reports.specs.Tables.{table_text}
 
@@ -73,10 +74,10 @@ abbrev pub correspondence_by : List ℕ → ℕ → ℕ → Option Known → Res
 correspondence_by work first second None = Err (UnknownWork work)
 correspondence_by work first second (Some known) = correspondence_of first second known
 
--- which provision of a work on the first day is which on the second, as all entries make it known
+-- which provision of a work on the first day is which on the second, as all entries make it known, with what it carries
 unfoldable pub correspondence : List Entry → List ℕ → ℕ → ℕ → Result (List ℕ) QueryRule
 correspondence entries work first second =
-    correspondence_by work first second (known_at entries work (front entries))
+    correspondence_by work first second (held_now entries work)
 
 -- how many modifications bear on the one day and on the other
 abbrev pub bearing_on_both : Known → ℕ → ℕ → ℕ
@@ -87,6 +88,7 @@ abbrev pub bearing_by : ℕ → ℕ → Option Known → ℕ
 bearing_by first second None = 0
 bearing_by first second (Some known) = bearing_on_both known first second
 
--- the same, as all entries make the work known
+-- how many ids are applied at most: to find what the work carries, and on both days, as all entries make the work known
 unfoldable pub bearing_between : List Entry → List ℕ → ℕ → ℕ → ℕ
-bearing_between entries work first second = bearing_by first second (known_at entries work (front entries))
+bearing_between entries work first second =
+    holding_at entries work (front entries) + bearing_by first second (held_now entries work)

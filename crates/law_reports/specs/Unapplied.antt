@@ -10,8 +10,8 @@ use Rattle.law_register.specs.declared.register.entry.Entry.{Entry}
 use Rattle.law_register.specs.declared.register.known.Known.{Known}
 use Rattle.law_register.specs.declared.answer.question.Reading.TheVariants.{Force}
 use Rattle.law_register.specs.Answer.Replay.{replay_on}
-use Rattle.law_register.specs.Register.KnownIds.{known_at}
-use Rattle.law_register.specs.Register.LawList.{front, laws, works_enacted}
+use Rattle.law_register.specs.Provisions.Carrying.{held_now}
+use Rattle.law_register.specs.Register.LawList.{laws, works_enacted}
 use Rattle.law_reports.specs.Tables.{table_text}
 
 -- the names of the columns
@@ -33,9 +33,9 @@ abbrev pub rows_by : ℕ → List ℕ → Option Known → List (List (List ℕ)
 rows_by day work None = []
 rows_by day work (Some known) = rows_on day work known
 
--- the same, as all entries make it known
+-- the same, as all entries make it known, with what it carries
 abbrev pub rows_of : List Entry → ℕ → List ℕ → List (List (List ℕ))
-rows_of entries day work = rows_by day work (known_at entries work (front entries))
+rows_of entries day work = rows_by day work (held_now entries work)
 
 -- the rows of works, one work after another
 abbrev pub rows_of_all : List Entry → ℕ → List (List ℕ) → List (List (List ℕ))

@@ -16,7 +16,7 @@ use crate::table::Table;
 use act_tree::{NodeId, Tree};
 use desk_base::{Day, Memory, Steps, Text};
 use frbr_names::WorkName;
-use law_register::{AskFault, Known, QueryRule, Reading, Register, Replayer, known_at};
+use law_register::{AskFault, Carrier, Known, QueryRule, Reading, Register, Replayer, known_held};
 use std::alloc::Global;
 use std::sync::ledger::Ledger;
 
@@ -194,9 +194,10 @@ fn correspondence_of<P: Replayer, L: Ledger>(
 /// text, and then those that the second day alone has. Both texts are those in force, by what stands at the front. `Err`: the
 /// work is not known, a day is before that of the act, or there was not enough memory. It replays each day once.
 #[tactic(auto, unfolding(crate::specs::Correspondences::correspondence, crate::specs::Correspondences::bearing_between))]
-pub fn correspondence<P: Replayer, L: Ledger>(
+pub fn correspondence<P: Replayer, H: Carrier, L: Ledger>(
     alloc: Global,
     replayer: &P,
+    carrier: &H,
     register: &Register,
     work: &WorkName,
     first: Day,
@@ -206,7 +207,7 @@ pub fn correspondence<P: Replayer, L: Ledger>(
     ensures told { Tells result (spec.correspondence register.now.entries work.now first second) }
     ensures steps { steps.new ≤ steps.old + spec.bearing_between register.now.entries work.now first second }
 {
-    match known_at(alloc, register, work, register.front())? {
+    match known_held(alloc, carrier, register, work, register.front(), steps)? {
         Some(known) => correspondence_of(alloc, replayer, &known, first, second, steps),
         None => {
             let work = work.copy()?;

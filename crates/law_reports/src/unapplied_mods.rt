@@ -12,7 +12,7 @@ use crate::table::Table;
 use act_tree::Cause;
 use desk_base::{Day, Id, Memory, Steps};
 use frbr_names::WorkName;
-use law_register::{Known, Reading, Register, Replayer, known_at};
+use law_register::{Carrier, Known, Reading, Register, Replayer, known_held};
 use std::alloc::Global;
 use std::sync::ledger::Ledger;
 
@@ -101,9 +101,10 @@ fn add_known<P: Replayer, L: Ledger>(
 }
 
 // Adds the rows of a work.
-fn add_work<P: Replayer, L: Ledger>(
+fn add_work<P: Replayer, H: Carrier, L: Ledger>(
     alloc: Global,
     replayer: &P,
+    carrier: &H,
     table: &mut Table,
     register: &Register,
     work: &WorkName,
@@ -115,16 +116,17 @@ fn add_work<P: Replayer, L: Ledger>(
         (written table.new ≡ written table.old ++ rows_text (spec.rows_of register.now.entries day work.now)) }
     ensures ready { OnOk result (IsOpen table.new) }
 {
-    match known_at(alloc, register, work, register.front())? {
+    match known_held(alloc, carrier, register, work, register.front(), steps)? {
         Some(known) => add_known(alloc, replayer, table, work, &known, day, steps),
         None => Ok(()),
     }
 }
 
 // The table of works, one work after another.
-fn table_of<P: Replayer, L: Ledger>(
+fn table_of<P: Replayer, H: Carrier, L: Ledger>(
     alloc: Global,
     replayer: &P,
+    carrier: &H,
     register: &Register,
     works: &[WorkName],
     day: Day,
@@ -136,16 +138,19 @@ fn table_of<P: Replayer, L: Ledger>(
     let mut table = Table::new(alloc);
     table.add(&[b"work", b"id", b"cause"])?;
     for work in works {
-        add_work(alloc, replayer, &mut table, register, work, day, steps)?;
+        add_work(
+            alloc, replayer, carrier, &mut table, register, work, day, steps,
+        )?;
     }
     table.into_bytes()
 }
 
 /// What could not be applied on a day, as a table: of each work that was enacted by then, in the order of the bytes of their IRIs,
 /// what of its text in force could not be applied, by what stands at the front. It replays each work once.
-pub fn unapplied<P: Replayer, L: Ledger>(
+pub fn unapplied<P: Replayer, H: Carrier, L: Ledger>(
     alloc: Global,
     replayer: &P,
+    carrier: &H,
     register: &Register,
     day: Day,
     steps: &mut Steps<L>,
@@ -153,5 +158,5 @@ pub fn unapplied<P: Replayer, L: Ledger>(
     ensures { IfOk result (λ bytes. IsUnapplied register.now.entries day bytes.items) }
 {
     let works = register.works(alloc)?;
-    table_of(alloc, replayer, register, &works, day, steps)
+    table_of(alloc, replayer, carrier, register, &works, day, steps)
 }

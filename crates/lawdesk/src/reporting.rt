@@ -17,8 +17,10 @@ ghost use Rattle.dossier_text.specs.Views.{report_view};
 use crate::report_job::ReportJob;
 use crate::telling::{report_damage, tell_report};
 use akn_json::put_query_rule;
+use desk_base::laws::day_is_numbered;
 use desk_base::{Day, Memory, Sink, Steps};
 use dossier_text::{Report, line};
+use held_provisions::FromLine;
 use law_keeper::Keeper;
 use law_office::{Book, Opened};
 use law_refs::Dangling;
@@ -62,12 +64,21 @@ fn report_of<L: Ledger>(
             first,
             second,
         } => {
-            let told = correspondence(alloc, &FromEnacted, register, work, *first, *second, steps);
+            let told = correspondence(
+                alloc,
+                &FromEnacted,
+                &FromLine,
+                register,
+                work,
+                *first,
+                *second,
+                steps,
+            );
             report_table(alloc, told)
         }
         ReportJob::Unapplied { day } => Ok(Report {
             status: 0,
-            bytes: unapplied(alloc, &FromEnacted, register, *day, steps)?,
+            bytes: unapplied(alloc, &FromEnacted, &FromLine, register, *day, steps)?,
         }),
         ReportJob::Dangling { .. } => unreachable!(),
     }
@@ -78,6 +89,7 @@ fn dangling_in(alloc: Global, day: Day, book: &Book) -> Result<Dangling, Memory>
     requires { IsRight book.now }
     ensures { IfOk result (λ found. IsDangling book.now.register.entries day found) }
 {
+    day_is_numbered(day);
     what_dangles_is_listed(&book.refs);
     book.refs.dangling(alloc, day)
 }

@@ -11,7 +11,7 @@ ghost use Rattle.law_register.specs.Answer.Answers as spec;
 ghost use Rattle.law_register.specs.Answer.Answers.{Answers, portion_among};
 ghost use Rattle.law_register.specs.Answer.ShownNodes.{shown_view};
 ghost use Rattle.law_register.specs.Answer.Flags as flags;
-ghost use Rattle.law_register.specs.Answer.Replay.{replay_on};
+ghost use Rattle.law_register.specs.Answer.Replay.{IsVersionOf, replay_on};
 ghost use Rattle.law_register.specs.Answer.Versions.{version_view};
 
 use crate::on_day::OnDay;
@@ -137,8 +137,8 @@ pub fn answer_text(
     version: &Version,
     question: &Question,
 ) -> Result<Answer, AskFault>
-    requires { version_view version.now
-        ≡ replay_on known.now question.now.reading (spec.asked_day question.now.version known.now.act) }
+    requires { IsVersionOf known.now.act question.now.reading
+        (spec.asked_day question.now.version known.now.act) (version_view version.now) }
     ensures { Answers result (spec.answer_of_text known.now (version_view version.now) question.now) }
 {
     answer_from(alloc, known, version, question)

@@ -47,7 +47,8 @@ use Rattle.law_register.proofs.Continuing.{replayed_alike}
 use Rattle.law_register.proofs.DueOnce.{order_members}
 use Rattle.law_register.proofs.Next.{entry_next, now_known}
 use Rattle.law_register.proofs.Puts.{and_true, bytes_are, bytes_same, id_same, left_true, right_true}
-use Rattle.version_cache.specs.Agreement.{Agree, AgreeOn, IsBefore, body_of}
+use Rattle.version_cache.specs.Agreement.{Agree, AgreeOn, IsBefore, IsEarly, body_of}
+use Rattle.version_cache.proofs.Early.{early_before}
 use Rattle.version_cache.proofs.Mute.{before_both}
 use Rattle.version_cache.proofs.OneMore.{one_more_of}
 use Rattle.law_register.specs.Provisions.Depending.{comes_from, depends, depends_in}
@@ -303,7 +304,14 @@ all_of : {A : Type 0} (P Q : A → Type 0) → ((a : A) → P a → Q a) → (xs
 all_of P Q one [] all = tt
 all_of P Q one (x ∷ xs) all = (one x all.0, all_of P Q one xs all.1)
 
-module _ (es : List Entry) (e : Entry) (legal : is_legal es ≡ true) (r : Reading) (day : ℕ) (real : 1 ≤ day) where
+-- a day before the sooner of two days is before both
+early_both : (day : ℕ) (a b : Option ℕ) → IsEarly day (sooner a b) → IsEarly day a × IsEarly day b
+early_both day None b h = (tt, h)
+early_both day (Some x) None h = (h, tt)
+early_both day (Some x) (Some y) h =
+    let both : IsBefore day (Some x) × IsBefore day (Some y) = before_both day (Some x) (Some y) h.1 in ((h.0, both.0), (h.0, both.1))
+
+module _ (es : List Entry) (e : Entry) (legal : is_legal es ≡ true) (r : Reading) (day : ℕ) where
   abbrev L : List Known
   L = line (laws es)
 
@@ -316,13 +324,13 @@ module _ (es : List Entry) (e : Entry) (legal : is_legal es ≡ true) (r : Readi
   abbrev U : List WorkText
   U = trees M r day
 
-  was_known : (w : List ℕ) (k : Known) → work_in w L ≡ Some k → known_now es w ≡ Some k
+  pub was_known : (w : List ℕ) (k : Known) → work_in w L ≡ Some k → known_now es w ≡ Some k
   was_known w k there = now_known es w ∙ line_known (laws es) w k there
 
-  is_known : (w : List ℕ) (k : Known) → work_in w M ≡ Some k → known_now (es ++ e ∷ []) w ≡ Some k
+  pub is_known : (w : List ℕ) (k : Known) → work_in w M ≡ Some k → known_now (es ++ e ∷ []) w ≡ Some k
   is_known w k there = now_known (es ++ e ∷ []) w ∙ line_known (laws (es ++ e ∷ [])) w k there
 
-  not_yet : (w : List ℕ) → work_in w L ≡ None → known_now es w ≡ None
+  pub not_yet : (w : List ℕ) → work_in w L ≡ None → known_now es w ≡ None
   not_yet w none = now_known es w ∙ by (known_by_law (laws es) w) refl
     where
       by : (o : Option Known) → known_by_law (laws es) w ≡ o → o ≡ None
@@ -337,7 +345,7 @@ module _ (es : List Entry) (e : Entry) (legal : is_legal es ≡ true) (r : Readi
       by [] is = (old, is)
       by (l ∷ ls) is = (known_then w l old, is)
 
-  newly : (w : List ℕ) (new : Known) → known_now es w ≡ None → known_now (es ++ e ∷ []) w ≡ Some new → enacts es e w ≡ true
+  pub newly : (w : List ℕ) (new : Known) → known_now es w ≡ None → known_now (es ++ e ∷ []) w ≡ Some new → enacts es e w ≡ true
   newly w new none is = by (law_of es e) (sym is ∙ entry_next es e w legal ∙ ap (known_next es e w) none)
     where
       here : (l : Command) (o : Option Act) → Some new ≡ option_map (newly_known (front es + 1)) o → is_some o ≡ true
@@ -348,11 +356,11 @@ module _ (es : List Entry) (e : Entry) (legal : is_legal es ≡ true) (r : Readi
       by [] h = absurd (let wrong : Some new ≡ None = h in cc)
       by (l ∷ ls) h = ap (λ b. b || list_any (λ c. is_some (enacted_by w c)) ls) (here l (enacted_by w l) h)
 
-  never_before : IsBefore day (Some 1) → ⊥
-  never_before h = let early : day < 1 = h in omega (arith, early, real)
+  never_before : IsEarly day (Some 1) → ⊥
+  never_before h = let real : 1 ≤ day = h.0 in let early : day < 1 = h.1 in omega (arith, early, real)
 
   -- the act of a work stays
-  still_after : (w : List ℕ) (act_day : ℕ) (o : Known) → work_in w L ≡ Some o → (n : Known) × (work_in w M ≡ Some n) × (is_after act_day (Some n) ≡ is_after act_day (Some o))
+  pub still_after : (w : List ℕ) (act_day : ℕ) (o : Known) → work_in w L ≡ Some o → (n : Known) × (work_in w M ≡ Some n) × (is_after act_day (Some n) ≡ is_after act_day (Some o))
   still_after w act_day o there =
       let was : known_now es w ≡ Some o = was_known w o there in
       by was (known_still w o was)
@@ -379,35 +387,35 @@ module _ (es : List Entry) (e : Entry) (legal : is_legal es ≡ true) (r : Readi
   abbrev Claim : WorkTouched → Type 0
   Claim t =
       (t.reached ≡ reach es e t.known.act.work t.touched)
-      × ((old : Known) → work_in t.known.act.work L ≡ Some old → (IsBefore day t.touched → AgreesIn old t.known) × (IsBefore day t.reached → StandsAlike t.known.act.work))
+      × ((old : Known) → work_in t.known.act.work L ≡ Some old → (IsEarly day t.touched → AgreesIn old t.known) × (IsEarly day t.reached → StandsAlike t.known.act.work))
 
   -- those on which a work depends stand alike, and were enacted before
   module _ (w href : List ℕ) (on : (depends_in L w href || depends_in M w href) ≡ true) where
     source_there : (ts : List WorkTouched) → AllByRecursion Claim ts → AllByRecursion (λ (t : WorkTouched). work_in t.known.act.work M ≡ Some t.known) ts
-        → IsBefore day (first_reached L M w ts) → (s : Known) → work_in href (map (λ t. t.known) ts) ≡ Some s
+        → IsEarly day (first_reached L M w ts) → (s : Known) → work_in href (map (λ t. t.known) ts) ≡ Some s
         → (o : Known) × (work_in href L ≡ Some o) × StandsAlike href
     source_there [] claims own before s there = absurd (let wrong : None ≡ Some s = there in cc)
     source_there (t ∷ ts) claims own before s there =
         by (bytes_eq t.known.act.work href) refl there
-        (before_both day (cond (depends_in L w t.known.act.work || depends_in M w t.known.act.work) t.reached None) (first_reached L M w ts) before)
+        (early_both day (cond (depends_in L w t.known.act.work || depends_in M w t.known.act.work) t.reached None) (first_reached L M w ts) before)
         (source_there ts claims.1 own.1)
       where
-        reached_first : t.known.act.work ≡ href → IsBefore day (cond (depends_in L w t.known.act.work || depends_in M w t.known.act.work) t.reached None) → IsBefore day t.reached
+        reached_first : t.known.act.work ≡ href → IsEarly day (cond (depends_in L w t.known.act.work || depends_in M w t.known.act.work) t.reached None) → IsEarly day t.reached
         reached_first same h =
-            subst (λ b. IsBefore day (cond b t.reached None)) (ap (λ v. depends_in L w v || depends_in M w v) same ∙ on) h
+            subst (λ b. IsEarly day (cond b t.reached None)) (ap (λ v. depends_in L w v || depends_in M w v) same ∙ on) h
 
-        here : t.known.act.work ≡ href → IsBefore day t.reached → (o : Option Known) → work_in href L ≡ o → (k : Known) × (work_in href L ≡ Some k) × StandsAlike href
+        here : t.known.act.work ≡ href → IsEarly day t.reached → (o : Option Known) → work_in href L ≡ o → (k : Known) × (work_in href L ≡ Some k) × StandsAlike href
         here same h (Some o) is =
             (o, is, subst StandsAlike same ((claims.0.1 o (ap (λ v. work_in v L) same ∙ is)).1 h))
         here same h None is =
-            absurd (never_before (subst (λ d. IsBefore day d)
+            absurd (never_before (subst (λ d. IsEarly day d)
             (claims.0.0
             ∙ ap (λ b. cond b (Some 1) (sooner t.touched (flags_from es e t.known.act.work)))
             (newly t.known.act.work t.known (not_yet t.known.act.work (ap (λ v. work_in v L) same ∙ is)) (is_known t.known.act.work t.known own.0))) h))
 
         by : (b : Bool) → bytes_eq t.known.act.work href ≡ b → cond b (Some t.known) (work_in href (map (λ x. x.known) ts)) ≡ Some s
-            → IsBefore day (cond (depends_in L w t.known.act.work || depends_in M w t.known.act.work) t.reached None) × IsBefore day (first_reached L M w ts)
-            → (IsBefore day (first_reached L M w ts) → (s : Known) → work_in href (map (λ x. x.known) ts) ≡ Some s → (o : Known) × (work_in href L ≡ Some o) × StandsAlike href)
+            → IsEarly day (cond (depends_in L w t.known.act.work || depends_in M w t.known.act.work) t.reached None) × IsEarly day (first_reached L M w ts)
+            → (IsEarly day (first_reached L M w ts) → (s : Known) → work_in href (map (λ x. x.known) ts) ≡ Some s → (o : Known) × (work_in href L ≡ Some o) × StandsAlike href)
             → (o : Known) × (work_in href L ≡ Some o) × StandsAlike href
         by true same there both rest =
             here (bytes_same t.known.act.work href same) (reached_first (bytes_same t.known.act.work href same) both.0) (work_in href L) refl
@@ -417,21 +425,22 @@ module _ (es : List Entry) (e : Entry) (legal : is_legal es ≡ true) (r : Readi
   module _ (ts : List WorkTouched) (known : Known) (behind : List Known) (split : map (λ t. t.known) ts ++ known ∷ behind ≡ M)
       (claims : AllByRecursion Claim ts) (own_ts : AllByRecursion (λ (t : WorkTouched). work_in t.known.act.work M ≡ Some t.known) ts)
       (there : work_in known.act.work M ≡ Some known) (old : Known) (was_there : work_in known.act.work L ≡ Some old)
-      (before : IsBefore day (touched_by es e L M ts known.act.work)) where
+      (before : IsEarly day (touched_by es e L M ts known.act.work)) where
     was : known_now es known.act.work ≡ Some old
     was = was_known known.act.work old was_there
 
     is : known_now (es ++ e ∷ []) known.act.work ≡ Some known
     is = is_known known.act.work known there
 
-    parts : IsBefore day (own es e known.act.work) × IsBefore day (first_reached L M known.act.work ts)
-    parts = before_both day (own es e known.act.work) (first_reached L M known.act.work ts) before
+    parts : IsEarly day (own es e known.act.work) × IsEarly day (first_reached L M known.act.work ts)
+    parts = early_both day (own es e known.act.work) (first_reached L M known.act.work ts) before
 
     agree : Agree old known r (day_among (touched_days es e) known.act.work)
     agree = one_more_of es e legal known.act.work r old known was is
 
     agrees_then : AgreeOn old known r day
-    agrees_then = agree.days day (subst (IsBefore day) (own_is es e known.act.work) parts.0)
+    agrees_then =
+        agree.days day (early_before day (day_among (touched_days es e) known.act.work) (subst (IsEarly day) (own_is es e known.act.work) parts.0))
 
     same_day : old.act.day ≡ known.act.day
     same_day = ap (λ (a : Act). a.day) agree.act
@@ -604,21 +613,22 @@ module _ (es : List Entry) (e : Entry) (legal : is_legal es ≡ true) (r : Readi
   )
     where
       reached_alike : (old : Known) → work_in known.act.work L ≡ Some old → (b : Bool) → enacts es e known.act.work ≡ b
-          → IsBefore day (reach es e known.act.work (touched_by es e L M ts known.act.work)) → StandsAlike known.act.work
+          → IsEarly day (reach es e known.act.work (touched_by es e L M ts known.act.work)) → StandsAlike known.act.work
       reached_alike old was_there true enacting early =
-          absurd (never_before (subst (λ b. IsBefore day (cond b (Some 1) (sooner (touched_by es e L M ts known.act.work) (flags_from es e known.act.work)))) enacting early))
+          absurd (never_before (subst (λ b. IsEarly day (cond b (Some 1) (sooner (touched_by es e L M ts known.act.work) (flags_from es e known.act.work)))) enacting early))
       reached_alike old was_there false other early =
-          let both : IsBefore day (touched_by es e L M ts known.act.work) × IsBefore day (flags_from es e known.act.work) =
-          before_both day (touched_by es e L M ts known.act.work) (flags_from es e known.act.work)
-          (subst (λ b. IsBefore day (cond b (Some 1) (sooner (touched_by es e L M ts known.act.work) (flags_from es e known.act.work)))) other early) in
+          let both : IsEarly day (touched_by es e L M ts known.act.work) × IsEarly day (flags_from es e known.act.work) =
+          early_both day (touched_by es e L M ts known.act.work) (flags_from es e known.act.work)
+          (subst (λ b. IsEarly day (cond b (Some 1) (sooner (touched_by es e L M ts known.act.work) (flags_from es e known.act.work)))) other early) in
           stand_alike ts known behind split claims own_ts there old was_there both.0
-          (counts_alike es e known.act.work old known day legal (was_known known.act.work old was_there) (is_known known.act.work known there) both.1)
+          (counts_alike es e known.act.work old known day legal (was_known known.act.work old was_there) (is_known known.act.work known there)
+          (early_before day (flags_from es e known.act.work) both.1))
 
-  pushed : (P : WorkTouched → Type 0) (ts : List WorkTouched) (t : WorkTouched) → AllByRecursion P ts → P t → AllByRecursion P (ts ++ t ∷ [])
+  pub pushed : (P : WorkTouched → Type 0) (ts : List WorkTouched) (t : WorkTouched) → AllByRecursion P ts → P t → AllByRecursion P (ts ++ t ∷ [])
   pushed P [] t all one = (one, tt)
   pushed P (x ∷ xs) t all one = (all.0, pushed P xs t all.1 one)
 
-  known_pushed : (ts : List WorkTouched) (t : WorkTouched) (works : List Known) → map (λ x. x.known) (ts ++ t ∷ []) ++ works ≡ map (λ x. x.known) ts ++ t.known ∷ works
+  pub known_pushed : (ts : List WorkTouched) (t : WorkTouched) (works : List Known) → map (λ x. x.known) (ts ++ t ∷ []) ++ works ≡ map (λ x. x.known) ts ++ t.known ∷ works
   known_pushed [] t works = refl
   known_pushed (x ∷ xs) t works = ap (λ ks. x.known ∷ ks) (known_pushed xs t works)
 
@@ -636,7 +646,7 @@ module _ (es : List Entry) (e : Entry) (legal : is_legal es ≡ true) (r : Readi
           (all_dropped (λ (k : Known). work_in k.act.work M ≡ Some k) (map (λ t. t.known) ts) (known ∷ works)
           (subst (AllByRecursion (λ (k : Known). work_in k.act.work M ≡ Some k)) (sym split) (is_line (laws (es ++ e ∷ []))).own)).0
 
-  along_known : (ts : List WorkTouched) (works : List Known) → map (λ t. t.known) (touched_after es e L M ts works) ≡ map (λ t. t.known) ts ++ works
+  pub along_known : (ts : List WorkTouched) (works : List Known) → map (λ t. t.known) (touched_after es e L M ts works) ≡ map (λ t. t.known) ts ++ works
   along_known ts [] = sym (append-nil (map (λ t. t.known) ts))
   along_known ts (known ∷ works) =
       along_known (ts ++ touched_as es e known (touched_by es e L M ts known.act.work) ∷ []) works
@@ -644,8 +654,8 @@ module _ (es : List Entry) (e : Entry) (legal : is_legal es ≡ true) (r : Readi
 
   -- the touched day of a work is that of its own among those that are told
   found_told : (w : List ℕ) (new : Known) (ts : List WorkTouched) → AllByRecursion Claim ts → work_in w (map (λ t. t.known) ts) ≡ Some new
-      → IsBefore day (day_among (days_told ts) w)
-      → (t : WorkTouched) × Claim t × (t.known ≡ new) × (t.known.act.work ≡ w) × IsBefore day t.touched
+      → IsEarly day (day_among (days_told ts) w)
+      → (t : WorkTouched) × Claim t × (t.known ≡ new) × (t.known.act.work ≡ w) × IsEarly day t.touched
   found_told w new [] claims h before = absurd (let wrong : None ≡ Some new = h in cc)
   found_told w new (t ∷ ts) claims h before =
       by (bytes_eq t.known.act.work w) refl h t.touched refl before (found_told w new ts claims.1)
@@ -654,35 +664,35 @@ module _ (es : List Entry) (e : Entry) (legal : is_legal es ≡ true) (r : Readi
       same a b e = cc
 
       by : (b : Bool) → bytes_eq t.known.act.work w ≡ b → cond b (Some t.known) (work_in w (map (λ x. x.known) ts)) ≡ Some new
-          → (d : Option ℕ) → t.touched ≡ d → IsBefore day (day_among (with_day (Some t.known.act.work) d ++ days_told ts) w)
-          → (work_in w (map (λ x. x.known) ts) ≡ Some new → IsBefore day (day_among (days_told ts) w)
-          → (x : WorkTouched) × Claim x × (x.known ≡ new) × (x.known.act.work ≡ w) × IsBefore day x.touched)
-          → (x : WorkTouched) × Claim x × (x.known ≡ new) × (x.known.act.work ≡ w) × IsBefore day x.touched
+          → (d : Option ℕ) → t.touched ≡ d → IsEarly day (day_among (with_day (Some t.known.act.work) d ++ days_told ts) w)
+          → (work_in w (map (λ x. x.known) ts) ≡ Some new → IsEarly day (day_among (days_told ts) w)
+          → (x : WorkTouched) × Claim x × (x.known ≡ new) × (x.known.act.work ≡ w) × IsEarly day x.touched)
+          → (x : WorkTouched) × Claim x × (x.known ≡ new) × (x.known.act.work ≡ w) × IsEarly day x.touched
       by true at h None none before rest =
-          (t, claims.0, same t.known new h, bytes_same t.known.act.work w at, subst (IsBefore day) (sym none) tt)
+          (t, claims.0, same t.known new h, bytes_same t.known.act.work w at, subst (IsEarly day) (sym none) tt)
       by true at h (Some d) some before rest = (
         t,
         claims.0,
         same t.known new h,
         bytes_same t.known.act.work w at,
-        subst (IsBefore day) (sym some) (subst (λ b. IsBefore day (cond b (Some d) (day_among (days_told ts) w))) at before),
+        subst (IsEarly day) (sym some) (subst (λ b. IsEarly day (cond b (Some d) (day_among (days_told ts) w))) at before),
       )
       by false at h None none before rest = rest h before
-      by false at h (Some d) some before rest = rest h (subst (λ b. IsBefore day (cond b (Some d) (day_among (days_told ts) w))) at before)
+      by false at h (Some d) some before rest = rest h (subst (λ b. IsEarly day (cond b (Some d) (day_among (days_told ts) w))) at before)
 
   all_along : AllByRecursion Claim (touched_along es e)
   unfolding touched_along
   all_along = all_claims [] M refl tt tt
 
-  known_along : map (λ t. t.known) (touched_along es e) ≡ M
+  pub known_along : map (λ t. t.known) (touched_along es e) ≡ line (laws (es ++ e ∷ []))
   unfolding touched_along
   known_along = along_known [] M
 
-  pub nothing_before : (w : List ℕ) (old new : Known) → work_in w L ≡ Some old → work_in w M ≡ Some new → IsBefore day (touched es e w) → AgreesIn old new
+  pub nothing_before : (w : List ℕ) (old new : Known) → work_in w L ≡ Some old → work_in w M ≡ Some new → IsEarly day (touched es e w) → AgreesIn old new
   unfolding touched_works
   nothing_before w old new was_there there before =
       by (found_told w new (touched_along es e) all_along (ap (work_in w) known_along ∙ there) before)
     where
-      by : (t : WorkTouched) × Claim t × (t.known ≡ new) × (t.known.act.work ≡ w) × IsBefore day t.touched → AgreesIn old new
+      by : (t : WorkTouched) × Claim t × (t.known ≡ new) × (t.known.act.work ≡ w) × IsEarly day t.touched → AgreesIn old new
       by (t, claim, same, own, early) =
           subst (AgreesIn old) same ((claim.1 old (ap (λ v. work_in v L) own ∙ was_there)).0 early)

@@ -6,8 +6,9 @@ use Rattle.desk_base.specs.declared.id.Id.{Id}
 use Rattle.law_register.specs.declared.answer.question.Reading.{Reading}
 use Rattle.law_register.specs.declared.register.entry.Entry.{Entry}
 use Rattle.law_register.specs.declared.register.known.Known.{Known}
+use Rattle.law_register.specs.Answer.Applied.{ids_applied}
 use Rattle.law_register.specs.Answer.Breakpoints.{breakpoints, days_with, insert_days, period_days}
-use Rattle.law_register.specs.Answer.Costs.{cost_after, ids_applied, revision_cost}
+use Rattle.law_register.specs.Answer.Costs.{cost_after, revision_cost}
 use Rattle.law_register.specs.Answer.Order.{order}
 use Rattle.law_register.specs.Answer.Standing.{alone, mod_alone}
 use Rattle.law_register.specs.Register.LawList.{laws}

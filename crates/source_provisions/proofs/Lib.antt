@@ -5,10 +5,13 @@ pub mod Complete
 pub mod Costs
 pub mod CountedAlike
 pub mod Days
+pub mod Enacted
+pub mod HeldNow
 pub mod HeldRight
 pub mod LeftOut
 pub mod Lines
 pub mod Looking
+pub mod Once
 pub mod Own
 pub mod Reckoned
 pub mod Spans

@@ -1,24 +1,29 @@
 //! What holds of the texts of all works on a day. Each law is a function that does nothing, whose clause is the law.
 
-ghost use Rattle.std.specs.Prelude.{◌≡◌, ◌<◌, ◌≤◌, ◌++◌, ◌∷◌, [], ◌&&◌, ℕ, List, Some, false, true, filter, length, map, nat_le, nat_lt, take};
+ghost use Rattle.std.specs.Prelude.{◌≡◌, ◌<◌, ◌≤◌, ◌++◌, ◌∷◌, [], ◌&&◌, ℕ, IfSome, List, Some, false, true, filter, length, map, nat_le, nat_lt, take};
 ghost use Rattle.std.specs.List.{AllByRecursion, list_any};
 ghost use Rattle.law_register.specs.declared.answer.question.Reading.{Reading};
+ghost use Rattle.law_register.specs.declared.law.act.Act.{Act};
 ghost use Rattle.law_register.specs.declared.law.command.Command.{Command};
+ghost use Rattle.law_register.specs.declared.law.command.Command.TheVariants.{Enact};
 ghost use Rattle.law_register.specs.declared.register.entry.Entry.{Entry};
 ghost use Rattle.law_register.specs.declared.register.known.Known.{Known};
 ghost use Rattle.law_register.specs.Answer.Breakpoints.{breakpoints};
 ghost use Rattle.law_register.specs.Answer.Costs.{revision_cost};
 ghost use Rattle.law_register.specs.Answer.Order.{order};
+ghost use Rattle.law_register.specs.Answer.Renewing.{command_cost};
 ghost use Rattle.law_register.specs.Answer.Replay.{replay_on};
 ghost use Rattle.law_register.specs.Answer.Soundness.{IsSound, id_twice};
 ghost use Rattle.law_register.specs.Answer.Standing.{alone};
 ghost use Rattle.law_register.specs.Answer.Touched.{day_among, touched_days};
+ghost use Rattle.law_register.specs.Register.KnownNext.{known_now};
 ghost use Rattle.law_register.specs.Register.LawList.{laws};
 ghost use Rattle.law_register.specs.Register.Verdicts.{is_legal};
-ghost use Rattle.version_cache.specs.Agreement.{IsBefore};
-ghost use Rattle.law_register.specs.Provisions.Carrying.{carrying};
+ghost use Rattle.law_register.specs.Provisions.Carrying.{carrying, held_now};
 ghost use Rattle.law_register.specs.Provisions.Costs.{entry_cost_in, held_cost, revision_cost_in};
-ghost use Rattle.law_register.specs.Provisions.Depending.{IsChain, breakpoints_of, days_along, depends, own_days};
+ghost use Rattle.law_register.specs.Provisions.Depending.{IsChain, breakpoints_of, days_along, depends, depends_in, own_days};
+ghost use Rattle.version_cache.specs.Agreement.{IsEarly};
+ghost use Rattle.source_provisions.specs.Once.{AreOnce};
 ghost use Rattle.source_provisions.specs.Held.{HoldingValue, IsRight, holding_of, work_held};
 ghost use Rattle.law_register.specs.Provisions.Line.{IsLine, line, work_in};
 ghost use Rattle.law_register.specs.Provisions.Looking.{looked_at, names_any};
@@ -63,6 +68,13 @@ pub fn unnamed_provisions_cost_nothing()
     ensures holding { (works : List Known) (known : Known) → names_any known ≡ false → held_cost works known ≡ 0 }
     ensures untouched { (entries : List Entry) (entry : Entry) → touched_works entries entry ≡ []
         → entry_cost_in entries entry ≡ 0 }
+{}
+
+/// An entry that enacts a work on which none depends costs nothing: its text is the act as enacted, and it changes that of no other.
+pub fn acts_on_which_none_depends_cost_nothing()
+    ensures { (entries : List Entry) (entry : Entry) (act : Act) → entry.command ≡ Enact act
+        → ((work : List ℕ) → depends_in (line (laws (entries ++ entry ∷ []))) work act.work ≡ false)
+        → command_cost entries entry ≡ 0 }
 {}
 
 /// The days of each work of a line are those that it names itself, and those of the works on which it depends.
@@ -112,10 +124,9 @@ pub fn texts_stand_still()
 pub fn works_change_from_their_touched_days()
     ensures { (entries : List Entry) (entry : Entry) (work : List ℕ) (reading : Reading) (day : ℕ) (old new : Known)
         → is_legal entries ≡ true
-        → 1 ≤ day
         → work_in work (line (laws entries)) ≡ Some old
         → work_in work (line (laws (entries ++ entry ∷ []))) ≡ Some new
-        → IsBefore day (touched entries entry work)
+        → IsEarly day (touched entries entry work)
         → AgreesOn (line (laws entries)) (line (laws (entries ++ entry ∷ []))) old new reading day }
 {}
 
@@ -147,6 +158,24 @@ pub fn what_is_carried_bears()
 /// What carries can be replayed, where it can be as it is known by itself.
 pub fn what_is_carried_is_sound()
     ensures { (works : List Known) (known : Known) → IsLine works → IsSound (alone known) → IsSound (carrying works known) }
+{}
+
+/// What is held of a work at the front can be replayed; and with an entry more it makes the same text on each day before the touched day of
+/// the work.
+pub fn what_is_held_stays_until_touched()
+    ensures sound { (entries : List Entry) (work : List ℕ) → is_legal entries ≡ true → IfSome (held_now entries work) IsSound }
+    ensures texts { (entries : List Entry) (entry : Entry) (work : List ℕ) (reading : Reading) (day : ℕ) (old new : Known)
+        → is_legal entries ≡ true
+        → known_now entries work ≡ Some old
+        → known_now (entries ++ entry ∷ []) work ≡ Some new
+        → IsEarly day (touched entries entry work)
+        → replay_on (carrying (line (laws entries)) old) reading day
+        ≡ replay_on (carrying (line (laws (entries ++ entry ∷ []))) new) reading day }
+{}
+
+/// Each work stands once among those that an entry touches.
+pub fn touched_works_stand_once()
+    ensures { (entries : List Entry) (entry : Entry) → is_legal entries ≡ true → AreOnce (touched_works entries entry) }
 {}
 
 /// Where no modification of a work names a provision, nothing is carried.

@@ -2,7 +2,7 @@
 use Rattle.std.proofs.Common.{◌≡◌, ◌∙◌, sym, ap, true, false, List, ◌++◌, drop, length}
 use Rattle.desk_base.specs.declared.id.Id.{Id}
 use Rattle.law_register.specs.declared.register.known.Known.{Known}
-use Rattle.law_register.specs.Answer.Costs.{begins_with}
+use Rattle.law_register.specs.Answer.Applied.{begins_with}
 use Rattle.law_register.specs.Answer.Replay.{VersionValue, as_enacted, replayed}
 use Rattle.law_register.specs.Answer.Soundness.{id_twice}
 use Rattle.law_register.proofs.Continuing.{replayed_apart, replayed_on}

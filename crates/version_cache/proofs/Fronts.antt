@@ -2,7 +2,7 @@
 use Rattle.std.proofs.Common.{◌≡◌, ◌∙◌, sym, ap, refl, ℕ, ◌<◌, ◌≤◌, Bool, true, false, ◌==◌, ◌&&◌, List, [], ◌∷◌, ◌++◌, length, drop, arith}
 use Rattle.std.proofs.lemmas.Bool.Decides.{nat_tests}
 use Rattle.desk_base.specs.declared.id.Id.{Id}
-use Rattle.law_register.specs.Answer.Costs.{begins_with}
+use Rattle.law_register.specs.Answer.Applied.{begins_with}
 use Rattle.law_register.specs.Answer.Counted.{is_same_id}
 
 pub both_left : (a b : Bool) → (a && b) ≡ true → a ≡ true

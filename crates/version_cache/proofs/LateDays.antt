@@ -6,7 +6,8 @@ use Rattle.std.specs.Option.{option_or}
 use Rattle.desk_base.specs.declared.id.Id.{Id}
 use Rattle.law_register.specs.declared.answer.question.Reading.{Reading}
 use Rattle.law_register.specs.declared.register.known.Known.{Known}
-use Rattle.law_register.specs.Answer.Costs.{cost_after, ids_applied, revision_cost}
+use Rattle.law_register.specs.Answer.Applied.{ids_applied}
+use Rattle.law_register.specs.Answer.Costs.{cost_after, revision_cost}
 use Rattle.law_register.specs.Answer.Breakpoints.{breakpoints}
 use Rattle.law_register.specs.Answer.Order.{order}
 use Rattle.law_register.proofs.NamedDays.{breakpoints_ascend}

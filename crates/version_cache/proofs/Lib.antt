@@ -9,6 +9,7 @@ pub mod RowDays
 pub mod Agreeing
 pub mod Mute
 pub mod Directed
+pub mod Early
 pub mod OneMore
 pub mod Continued
 pub mod RowFronts

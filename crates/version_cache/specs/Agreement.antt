@@ -1,5 +1,5 @@
 -- When two views of a work agree: what bears before a day bears in both, and says the same.
-use Rattle.std.specs.Prelude.{◌≡◌, ◌<◌, ℕ, List, Option, Some, None, option_map}
+use Rattle.std.specs.Prelude.{◌≡◌, ◌<◌, ◌≤◌, ℕ, List, Option, Some, None, option_map}
 use Rattle.std.specs.List.{AllByRecursion, find}
 use Rattle.desk_base.specs.declared.id.Id.{Id}
 use Rattle.law_register.specs.declared.answer.question.Reading.{Reading}
@@ -22,6 +22,11 @@ pub record AgreeOn (old new : Known) (reading : Reading) (day : ℕ) : Type 0 wh
 abbrev pub IsBefore : ℕ → Option ℕ → Type 0
 IsBefore day None = Unit {0}
 IsBefore day (Some touched) = day < touched
+
+-- a day of the calendar, of which 1 is the first, is before another; each day is, where there is no other, and whatever its number
+abbrev pub IsEarly : ℕ → Option ℕ → Type 0
+IsEarly day None = Unit {0}
+IsEarly day (Some touched) = (1 ≤ day) × (day < touched)
 
 -- two views of one act agree before a day, or where there is none on all days
 pub record Agree (old new : Known) (reading : Reading) (touched : Option ℕ) : Type 0 where

@@ -4,6 +4,7 @@ use Rattle.law_register.specs.declared.answer.question.Reading.{Reading}
 use Rattle.law_register.specs.declared.register.known.Known.{Known}
 use Rattle.law_register.specs.Answer.Breakpoints.{breakpoints}
 use Rattle.law_register.specs.Answer.Replay.{VersionValue, as_enacted, replay_on}
+use Rattle.version_cache.specs.Agreement.{IsEarly}
 
 -- a day, and the version of a work from that day on
 pub record RowValue : Type 0 where
@@ -93,3 +94,8 @@ pub record IsRightBefore (known : Known) (touched : ℕ) (table : TableValue) : 
 abbrev pub IsRightUntil : Known → Option ℕ → TableValue → Type 0
 IsRightUntil known None table = IsRight known table
 IsRightUntil known (Some touched) table = IsRightBefore known touched table
+
+-- a table is right on each day of the calendar before the touched one; on all days, where there is none
+pub record IsRightEarly (known : Known) (touched : Option ℕ) (table : TableValue) : Type 0 where
+  pub enacted : table.enacted ≡ as_enacted known.act
+  pub versions : (day : ℕ) → IsEarly day touched → version_on table day ≡ replay_on known table.reading day

@@ -6,7 +6,7 @@ use Rattle.law_register.specs.declared.register.known.Known.{Known}
 use Rattle.law_register.specs.Answer.Breakpoints.{breakpoints}
 use Rattle.law_register.specs.Answer.Standing.{alone}
 use Rattle.law_register.specs.Provisions.Looking.{names_any}
-use Rattle.version_cache.specs.Tables.{IsRevisionOf, IsRightUntil, RevisionValue, TableValue, committed, revision_of, table_of}
+use Rattle.version_cache.specs.Tables.{IsRevisionOf, IsRightEarly, IsRightUntil, RevisionValue, TableValue, committed, revision_of, table_of}
 
 -- what is known of a work by itself, whether a modification of it names a provision, the days on which its text may change, and a table
 -- for each reading
@@ -44,6 +44,11 @@ pub record AreRightUntil (known : Known) (until : Option ℕ) (work : WorkValue)
   pub readings : (reading : Reading) → (table_in reading work).reading ≡ reading
   pub right : (reading : Reading) → IsRightUntil known until (table_in reading work)
 
+-- so are they on each day of the calendar before that day
+pub record AreRightEarly (known : Known) (until : Option ℕ) (work : WorkValue) : Type 0 where
+  pub readings : (reading : Reading) → (table_in reading work).reading ≡ reading
+  pub right : (reading : Reading) → IsRightEarly known until (table_in reading work)
+
 -- what is kept of a work is for what is known of it: it is that by itself, with its days, and the tables are right for it
 pub record IsFor (known : Known) (work : WorkValue) : Type 0 where
   pub alike : IsAlike work.known (alone known)
@@ -55,6 +60,10 @@ pub record IsFor (known : Known) (work : WorkValue) : Type 0 where
 abbrev pub AreRightIf : Option Known → Option ℕ → WorkValue → Type 0
 AreRightIf None until work = ⊥
 AreRightIf (Some known) until work = AreRightUntil known until work
+
+abbrev pub AreRightEarlyIf : Option Known → Option ℕ → WorkValue → Type 0
+AreRightEarlyIf None until work = ⊥
+AreRightEarlyIf (Some known) until work = AreRightEarly known until work
 
 -- what is kept is for what is known; of a work that is not known nothing is kept
 abbrev pub IsForIf : Option Known → WorkValue → Type 0

@@ -1,19 +1,21 @@
-//! Answering from what is kept of a work, at the front and ahead of it. Nothing is replayed.
+//! Answering from what is kept of a work, at the front and ahead of it. Nothing is replayed: what is known of the work by itself says the
+//! flags, and its tables have the texts.
 
-ghost use Rattle.std.specs.Prelude.{◌≡◌, ◌≤◌};
+ghost use Rattle.std.specs.Prelude.{◌≡◌, ◌≤◌, Some};
 ghost use Rattle.law_register.specs.Answer.Answers.{Answers, answer_of_text};
 ghost use Rattle.law_register.specs.Answer.Asking.{answer_at};
-ghost use Rattle.law_register.specs.Answer.Replay.{as_enacted, replay_on};
-ghost use Rattle.law_register.specs.Register.KnownNext.{bare, known_now};
+ghost use Rattle.law_register.specs.Answer.Replay.{as_enacted};
+ghost use Rattle.law_register.specs.Provisions.Carrying.{held_now};
+ghost use Rattle.law_register.specs.Register.KnownNext.{bare};
 ghost use Rattle.law_register.specs.Register.LawList.{front as front_of};
 ghost use Rattle.version_cache.specs.Answering.{answer_kept};
 ghost use Rattle.version_cache.specs.Seen.{work_view};
+ghost use Rattle.version_cache.specs.Tables.{version_on};
 ghost use Rattle.version_cache.specs.Works as works;
 
 use crate::WorkTables;
 use desk_base::Day;
 use law_register::laws::entries_are_legal;
-use law_register::replay_laws::bare_acts_stay;
 use law_register::{Answer, AskFault, Days, Known, KnownMods, Question, Register, Replayer};
 use std::alloc::Global;
 
@@ -23,13 +25,14 @@ impl WorkTables {
         &self,
         alloc: Global,
         replayer: &P,
+        _register: &Register,
         question: &Question,
         day: Day,
     ) -> Result<Answer, AskFault>
         requires day { question.now.version ≡ Some day }
-        requires right { works.IsFor self.now.known (work_view self.now) }
-        ensures { Answers result
-            (answer_of_text self.now.known (replay_on self.now.known question.now.reading day) question.now) }
+        requires right { works.IsForIf (held_now _register.now.entries question.now.work) (work_view self.now) }
+        ensures { Answers result (answer_of_text self.now.known
+            (version_on (works.table_in question.now.reading (work_view self.now)) day) question.now) }
     {
         let version = self.on(question.reading, day);
         replayer.answer_text(alloc, &self.known, version, question)
@@ -40,9 +43,10 @@ impl WorkTables {
         &self,
         alloc: Global,
         replayer: &P,
+        _register: &Register,
         question: &Question,
     ) -> Result<Answer, AskFault>
-        requires { works.IsFor self.now.known (work_view self.now) }
+        requires { works.IsForIf (held_now _register.now.entries question.now.work) (work_view self.now) }
         ensures { Answers result
             (answer_of_text (bare self.now.known) (as_enacted self.now.known.act) question.now) }
     {
@@ -54,7 +58,6 @@ impl WorkTables {
             mods: KnownMods::new(alloc),
             source_days: Days::new(alloc),
         };
-        bare_acts_stay(&known, question.reading);
         replayer.answer_text(alloc, &known, self.enacted(), question)
     }
 
@@ -62,16 +65,16 @@ impl WorkTables {
         &self,
         alloc: Global,
         replayer: &P,
-        front: u32,
+        register: &Register,
         question: &Question,
     ) -> Result<Answer, AskFault>
-        requires { works.IsFor self.now.known (work_view self.now) }
-        ensures { Answers result (answer_kept self.now.known front question.now) }
+        requires { works.IsForIf (held_now register.now.entries question.now.work) (work_view self.now) }
+        ensures { Answers result (answer_kept (work_view self.now) (front_of register.now.entries) question.now) }
     {
-        question.judge(&self.known, front)?;
+        question.judge(&self.known, register.front())?;
         match question.version {
-            Some(day) => self.answer_version(alloc, replayer, question, day),
-            None => self.answer_enacted(alloc, replayer, question),
+            Some(day) => self.answer_version(alloc, replayer, register, question, day),
+            None => self.answer_enacted(alloc, replayer, register, question),
         }
     }
 
@@ -85,10 +88,10 @@ impl WorkTables {
         question: &Question,
     ) -> Result<Answer, AskFault>
         requires ahead { front_of register.now.entries ≤ question.now.viewpoint }
-        requires right { works.IsForIf (known_now register.now.entries question.now.work) (work_view self.now) }
+        requires right { works.IsForIf (held_now register.now.entries question.now.work) (work_view self.now) }
         ensures { Answers result (answer_at register.now.entries question.now) }
     {
         entries_are_legal(register);
-        self.answer_kept(alloc, replayer, register.front(), question)
+        self.answer_kept(alloc, replayer, register, question)
     }
 }

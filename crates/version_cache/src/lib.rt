@@ -3,6 +3,7 @@
 
 mod answering;
 mod asking;
+mod calendar;
 mod dated;
 mod kept_version;
 pub mod laws;

@@ -2,6 +2,7 @@
 
 ghost use Rattle.std.specs.Prelude.{◌≡◌, ◌+◌, ◌≤◌, ◌++◌, [], false, true, IfOk, OnOk, length, map};
 ghost use Rattle.act_tree.specs.Seen.{is_own};
+ghost use Rattle.law_register.specs.Answer.Applied as applied;
 ghost use Rattle.law_register.specs.Answer.Costs as costs;
 ghost use Rattle.law_register.specs.Answer.Order.{order};
 ghost use Rattle.law_register.specs.Answer.Replay.{as_enacted, replayed};
@@ -46,7 +47,7 @@ pub fn keep_enacted(alloc: Global, known: &Known) -> Result<KeptVersion, Memory>
 }
 
 fn begins_with(firsts: &[Id], ids: &[Id]) -> bool
-    ensures { result ≡ costs.begins_with firsts.now ids.now }
+    ensures { result ≡ applied.begins_with firsts.now ids.now }
 {
     if ids.len() < firsts.len() {
         return false;
@@ -107,7 +108,7 @@ fn version_after<L: Ledger>(
     ensures working { IfOk result (λ k. version_view working.new ≡ kept_view k) }
     ensures version { IfOk result (λ kept. kept_view kept
         ≡ replayed course.now.known.now.mods (as_enacted course.now.known.now.act) ids.now) }
-    ensures steps { steps.new ≤ steps.old + costs.ids_applied before.now ids.now }
+    ensures steps { steps.new ≤ steps.old + applied.ids_applied before.now ids.now }
 {
     if begins_with(before, ids) {
         let parts = ids.split_at(before.len());

@@ -14,6 +14,7 @@ ghost use Rattle.version_cache.specs.Seen.{both_view, revision_view, table_view,
 ghost use Rattle.version_cache.specs.Tables.{revision_of, table_of, version_on};
 ghost use Rattle.version_cache.specs.Works as works;
 
+use crate::calendar::{days_are_counted, rows_are_counted};
 use crate::sharing::has_efficacy;
 use crate::{Revision, Table, WorkRevision};
 use desk_base::{Day, Memory, Steps};
@@ -227,6 +228,20 @@ impl WorkTables {
         Ok(Some((force, efficacy)))
     }
 
+    // Where the tables are right on each day of the calendar before the touched one, so they are on the day 0: no row begins then, and no
+    // text changes.
+    fn are_right_before(&self, known: &Known, days: &[Day], _touched: &Option<Day>)
+        requires sound { IsSound known.now }
+        requires days { days.now ≡ breakpoints known.now }
+        requires right { works.AreRightEarly known.now _touched.now (work_view self.now) }
+        ensures { works.AreRightUntil known.now _touched.now (work_view self.now) }
+    {
+        let _ = known;
+        days_are_counted(days);
+        rows_are_counted(&self.force);
+        rows_are_counted(&self.efficacy);
+    }
+
     // The days on which the text may change now, and the revisions of both tables.
     fn revise_all<P: Replayer, L: Ledger>(
         &mut self,
@@ -237,20 +252,23 @@ impl WorkTables {
         steps: &mut Steps<L>,
     ) -> Result<(Days, Option<(Revision, Revision)>), Memory>
         requires sound { IsSound known.now }
-        requires right { works.AreRightUntil known.now touched (work_view self.old) }
+        requires right { works.AreRightEarly known.now touched (work_view self.old) }
         ensures same { work_view self.new ≡ work_view self.old }
+        ensures right { IfOk result (λ made. works.AreRightUntil known.now touched (work_view self.old)) }
         ensures days { IfOk result (λ made. made.0 ≡ breakpoints known.now) }
         ensures revisions { IfOk result (λ made. option_map both_view made.1
             ≡ works.revisions_of (work_view self.old) known.now touched) }
         ensures steps { steps.new ≤ steps.old + both_costs known.now touched }
     {
         let days = replayer.breakpoints(alloc, known)?;
+        self.are_right_before(known, days.as_slice(), &touched);
         let tables = self.revise_both(alloc, replayer, known, days.as_slice(), touched, steps)?;
         Ok((days, tables))
     }
 
-    /// What is to be kept for what is known now, where the tables are right for that before the touched day: both revised from that
-    /// day on. Where no day is touched the tables stay, and what is known is renewed. What is kept stays until the revision is committed.
+    /// What is to be kept for what is known now, where the tables are right for that on each day before the touched one: both revised
+    /// from that day on. Where no day is touched the tables stay, and what is known is renewed. What is kept stays until the revision is
+    /// committed.
     pub fn revise<P: Replayer, L: Ledger>(
         &mut self,
         alloc: Global,
@@ -260,7 +278,7 @@ impl WorkTables {
         steps: &mut Steps<L>,
     ) -> Result<WorkRevision, Memory>
         requires sound { IsSound known }
-        requires right { works.AreRightUntil known touched (work_view self.old) }
+        requires right { works.AreRightEarly known touched (work_view self.old) }
         ensures same { work_view self.new ≡ work_view self.old }
         ensures revision { IfOk result (λ revision. work_revision_view revision
             ≡ works.work_revision_of (work_view self.old) known touched) }

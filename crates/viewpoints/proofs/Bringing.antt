@@ -1,14 +1,16 @@
 -- The table of a question becomes the latest, and a question is answered from that.
-use Rattle.std.proofs.Common.{◌≡◌, ◌∙◌, sym, ap, ap₂, subst, ℕ, ◌+◌, ◌≤◌, ◌⊎◌, inl, inr, Bool, true, false, cond, ◌&&◌, ◌||◌, List, [], ◌∷◌, slice_get, Contains, Option, Some, None, IsSome, option_map, is_some, is_none, Err, refl}
+use Rattle.std.proofs.Common.{◌≡◌, ◌∙◌, sym, ap, ap₂, subst, ℕ, ◌+◌, ◌≤◌, ◌⊎◌, inl, inr, Bool, true, false, cond, ◌&&◌, ◌||◌, List, [], ◌∷◌, slice_get, Contains, Option, Some, None, IsSome, option_map, is_some, is_none, take, Err, refl}
 use Rattle.std.specs.Map.{keys_of, lookup}
 use Rattle.lru.proofs.CallerLemmas.{Contains-lookup_entry}
 use Rattle.lru.proofs.Splits.{Contains-head}
 use Rattle.law_register.specs.Answer.Answers.{Answers, Judges, answer_of_text, answer_on, asked_day, first_rule, unless_broken}
 use Rattle.law_register.specs.Answer.Asking.{answer_at, answer_by, known_for}
 use Rattle.law_register.specs.Answer.Replay.{VersionValue, replay_on}
+use Rattle.law_register.specs.Provisions.Carrying.{carrying}
+use Rattle.law_register.specs.Provisions.Line.{line}
 use Rattle.law_register.specs.Register.KnownIds.{known_at}
 use Rattle.law_register.specs.Register.KnownNext.{up_to}
-use Rattle.law_register.specs.Register.LawList.{front}
+use Rattle.law_register.specs.Register.LawList.{front, laws}
 use Rattle.law_register.specs.declared.answer.answer.Answer.{Answer}
 use Rattle.law_register.specs.declared.answer.queries.AskFault.{AskFault}
 use Rattle.law_register.specs.declared.answer.queries.AskFault.TheVariants.{Query, Memory}
@@ -59,12 +61,16 @@ module _ (entries : List Entry) (q : Question) where
   told Memory dated broken = tt
   told (Query rule) dated broken = by q.version refl dated
     where
-      broken_by : (known : Option Known) → refusal_by q known ≡ Some rule → answer_by q known ≡ Err rule
-      broken_by None is = let same : UnknownWork q.work ≡ rule = cc in ap Err same
-      broken_by (Some known) is = ap (λ r. unless_broken r (answer_of_text known (replay_on known q.reading (asked_day q.version known.act)) q)) is
+      broken_by : (works : List Known) (known : Option Known) → refusal_by q known ≡ Some rule → answer_by q (option_map (carrying works) known) ≡ Err rule
+      broken_by works None is = let same : UnknownWork q.work ≡ rule = cc in ap Err same
+      broken_by works (Some known) is =
+          let held : Known = carrying works known in
+          ap (λ r. unless_broken r (answer_of_text held (replay_on held q.reading (asked_day q.version known.act)) q)) is
 
       by : (version : Option ℕ) → q.version ≡ version → IsSome version → answer_at entries q ≡ Err rule
-      by (Some day) is some = ap (λ version. answer_by q (known_for entries q.work q.viewpoint version)) is ∙ broken_by (known_at entries q.work q.viewpoint) broken
+      by (Some day) is some =
+          ap (λ version. answer_by q (known_for entries q.work q.viewpoint version)) is
+          ∙ broken_by (line (take q.viewpoint (laws entries))) (known_at entries q.work q.viewpoint) broken
       by None is some = absurd (let no : false ≡ true = some in cc)
 
   no_day : (version : Option ℕ) → IsSome version → is_none version ≡ false
@@ -73,18 +79,24 @@ module _ (entries : List Entry) (q : Question) where
 
   -- who finds nothing under the key pays for the table
   pub pays : {T : Type 0} (past : List (PastKey × PastTable T)) (key : PastKey) (old new : ℕ) → key ≡ key_of q → IsSome q.version → None ≡ lookup (is_same_key key) past
-      → new ≤ old + making_cost q (known_at entries q.work q.viewpoint) → new ≤ old + past_cost entries q (keys_of past)
+      → new ≤ old + making_cost (line (take q.viewpoint (laws entries))) q (known_at entries q.work q.viewpoint) → new ≤ old + past_cost entries q (keys_of past)
   pays past key old new same dated absent paid = subst (λ n. new ≤ old + n) (sym cost) paid
     where
-      cost : past_cost entries q (keys_of past) ≡ making_cost q (known_at entries q.work q.viewpoint)
+      cost : past_cost entries q (keys_of past) ≡ making_cost (line (take q.viewpoint (laws entries))) q (known_at entries q.work q.viewpoint)
       cost =
-          ap (λ b. cond b 0 (making_cost q (known_at entries q.work q.viewpoint)))
+          ap (λ b. cond b 0 (making_cost (line (take q.viewpoint (laws entries))) q (known_at entries q.work q.viewpoint)))
           (ap₂ ◌||◌ (no_day q.version dated)
           (has_key-lookup (key_of q) past ∙ ap is_some (subst (λ k. lookup (is_same_key k) past ≡ None) same (sym absent))))
 
+  -- what a work carries breaks no rule
+  held_refused : (works : List Known) (known : Option Known) → refusal_by q known ≡ refusal_by q (option_map (carrying works) known)
+  held_refused works None = refl
+  held_refused works (Some known) = refl
+
   module _ {T : Type 0} (version_on : T → ℕ → VersionValue) where
     pub refusal_is : (kept : PastTable T) (n : ℕ) → n ≡ front entries → IsRightAt version_on entries (key_of q) kept → refusal entries q ≡ first_rule (up_to n kept.known) q
-    refusal_is kept n same right = ap (refusal_by q) right.known ∙ ap (λ f. first_rule (up_to f kept.known) q) (sym same)
+    refusal_is kept n same right =
+        held_refused (line (take q.viewpoint (laws entries))) (known_at entries q.work q.viewpoint) ∙ ap (refusal_by q) right.known ∙ ap (λ f. first_rule (up_to f kept.known) q) (sym same)
 
     -- what is found under the key of a question is right for it
     pub found_right : (past : List (PastKey × PastTable T)) (kept : PastTable T) (key : PastKey) → key ≡ key_of q → IsRight version_on entries past

@@ -16,7 +16,7 @@ use Rattle.viewpoints.specs.Right.{IsRightAt, with_front}
 use Rattle.viewpoints.specs.declared.past_tables.PastTable.{PastTable}
 
 module _ (n : ℕ) (known : Known) where
-  abbrev later_rule : Question → Option QueryRule
+  abbrev pub later_rule : Question → Option QueryRule
   later_rule q =
       cond (is_too_early q.version known.act) (Some (NotYetEnacted known.act.day))
       (cond (not (bytes_eq q.language known.act.language)) (Some (OtherLanguage known.act.language)) None)

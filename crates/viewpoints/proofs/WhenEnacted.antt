@@ -1,8 +1,8 @@
 -- The act as enacted is answered by replaying nothing: it was known by itself alone.
-use Rattle.std.proofs.Common.{◌≡◌, ◌∙◌, ap, true, List, Option, Some, None, option_map, refl}
+use Rattle.std.proofs.Common.{◌≡◌, ◌∙◌, ap, ◌+◌, true, List, Option, Some, None, option_map, refl}
 use Rattle.law_register.specs.Answer.Answers.{first_rule}
 use Rattle.law_register.specs.Answer.Asking.{known_for}
-use Rattle.law_register.specs.Answer.Costs.{bearing_at, bearing_for, unless_refused}
+use Rattle.law_register.specs.Answer.Costs.{bearing_at, bearing_for, holding_for, unless_refused}
 use Rattle.law_register.specs.Register.KnownNext.{bare, known_now}
 use Rattle.law_register.specs.Register.Verdicts.{is_legal}
 use Rattle.law_register.specs.declared.answer.question.Question.{Question}
@@ -23,5 +23,5 @@ none_bear q (Some known) = nothing (first_rule (bare known) q)
 pub enacted_costs_nothing : (entries : List Entry) (q : Question) → is_legal entries ≡ true → q.version ≡ None → bearing_at entries q ≡ 0
 unfolding bearing_at
 enacted_costs_nothing entries q legal undated =
-    ap (λ version. bearing_for q (known_for entries q.work q.viewpoint version)) undated
-    ∙ ap (bearing_for q) (enacted_bare entries q.work legal) ∙ none_bear q (known_now entries q.work)
+    ap (λ version. holding_for entries q.work q.viewpoint version + bearing_for q (known_for entries q.work q.viewpoint version)) undated
+    ∙ ap (λ n. 0 + n) (ap (bearing_for q) (enacted_bare entries q.work legal) ∙ none_bear q (known_now entries q.work))

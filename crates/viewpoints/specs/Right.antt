@@ -2,7 +2,7 @@
 use Rattle.std.specs.Prelude.{◌≡◌, ◌≤◌, ◌⊎◌, ℕ, List, slice_get, Some, Contains}
 use Rattle.std.specs.Map.{keys_of}
 use Rattle.law_register.specs.Answer.Replay.{VersionValue, replay_on}
-use Rattle.law_register.specs.Register.KnownIds.{known_at}
+use Rattle.law_register.specs.Provisions.Carrying.{known_held}
 use Rattle.law_register.specs.Register.LawList.{front}
 use Rattle.law_register.specs.declared.register.entry.Entry.{Entry}
 use Rattle.law_register.specs.declared.register.known.Known.{Known}
@@ -14,11 +14,11 @@ use Rattle.viewpoints.specs.declared.past_tables.PastTable.{PastTable}
 abbrev pub with_front : ℕ → Known → Known
 with_front front known = record known { front = front }
 
--- what is kept under a key is right for these entries: at the key's viewpoint, which they have reached, they make known of the work
--- what the table was made for, whatever came since; and each version is its replay in the key's reading
+-- what is kept under a key is right for these entries: at the key's viewpoint, which they have reached, they make known of the work,
+-- with what it carries, what the table was made for, whatever came since; and each version is its replay in the key's reading
 pub record IsRightAt {T : Type 0} (version_on : T → ℕ → VersionValue) (entries : List Entry) (key : PastKey) (kept : PastTable T) : Type 0 where
   pub reached : key.viewpoint ≤ front entries
-  pub known : known_at entries key.work key.viewpoint ≡ Some (with_front (front entries) kept.known)
+  pub known : known_held entries key.work key.viewpoint ≡ Some (with_front (front entries) kept.known)
   pub made : key.viewpoint ≤ kept.known.front
   pub versions : (day : ℕ) → version_on kept.table day ≡ replay_on kept.known key.reading day
 

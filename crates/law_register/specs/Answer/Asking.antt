@@ -8,6 +8,7 @@ use Rattle.law_register.specs.declared.answer.question.Question.{Question}
 use Rattle.law_register.specs.declared.answer.queries.QueryRule.{QueryRule}
 use Rattle.law_register.specs.declared.answer.queries.QueryRule.TheVariants.{UnknownWork}
 use Rattle.law_register.specs.Answer.Answers.{answer_on}
+use Rattle.law_register.specs.Provisions.Carrying.{known_held}
 use Rattle.law_register.specs.Register.KnownIds.{enacted, known_at}
 use Rattle.law_register.specs.Register.LawList.{laws}
 
@@ -16,9 +17,10 @@ abbrev pub known_when_enacted : List Entry → List ℕ → Option (ℕ × Act) 
 known_when_enacted entries work None = None
 known_when_enacted entries work (Some found) = known_at entries work found.0
 
--- what is known of the work that a question asks for: at its viewpoint, or without the day of a version when the act was enacted
+-- what is known of the work that a question asks for: at its viewpoint, with what it carries of its provisions, or without the day of a
+-- version when the act was enacted
 abbrev pub known_for : List Entry → List ℕ → ℕ → Option ℕ → Option Known
-known_for entries work viewpoint (Some day) = known_at entries work viewpoint
+known_for entries work viewpoint (Some day) = known_held entries work viewpoint
 known_for entries work viewpoint None = known_when_enacted entries work (enacted work (laws entries))
 
 -- the answer by what is known, or that the work is not

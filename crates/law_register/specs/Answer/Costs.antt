@@ -1,5 +1,5 @@
 -- What an answer costs, and what it costs to revise the versions of a work.
-use Rattle.std.specs.Prelude.{ℕ, ◌+◌, ◌-◌, nat_le, Bool, true, false, ◌&&◌, if◌then◌else◌, List, [], ◌∷◌, Option, Some, None, length}
+use Rattle.std.specs.Prelude.{ℕ, ◌+◌, nat_le, Bool, if◌then◌else◌, List, [], ◌∷◌, Option, Some, None, length, take}
 use Rattle.desk_base.specs.declared.id.Id.{Id}
 use Rattle.law_register.specs.declared.register.entry.Entry.{Entry}
 use Rattle.law_register.specs.declared.register.known.Known.{Known}
@@ -7,10 +7,14 @@ use Rattle.law_register.specs.declared.answer.question.Question.{Question}
 use Rattle.law_register.specs.declared.answer.question.Reading.{Reading}
 use Rattle.law_register.specs.declared.answer.queries.QueryRule.{QueryRule}
 use Rattle.law_register.specs.Answer.Answers.{asked_day, first_rule}
+use Rattle.law_register.specs.Answer.Applied.{ids_applied}
 use Rattle.law_register.specs.Answer.Asking.{known_for}
 use Rattle.law_register.specs.Answer.Breakpoints.{breakpoints}
-use Rattle.law_register.specs.Answer.Counted.{is_same_id}
 use Rattle.law_register.specs.Answer.Order.{order}
+use Rattle.law_register.specs.Provisions.Costs.{held_cost_if}
+use Rattle.law_register.specs.Provisions.Line.{line}
+use Rattle.law_register.specs.Register.KnownIds.{known_at}
+use Rattle.law_register.specs.Register.LawList.{laws}
 
 -- nothing where a rule is broken, and else this number
 abbrev pub unless_refused : Option QueryRule → ℕ → ℕ
@@ -28,21 +32,21 @@ abbrev pub bearing_for : Question → Option Known → ℕ
 bearing_for q None = 0
 bearing_for q (Some known) = bearing_by q known
 
--- the same, by what the register knew
+-- how many ids are applied at most to find what a work carries at a viewpoint
+abbrev pub holding_at : List Entry → List ℕ → ℕ → ℕ
+holding_at entries work viewpoint = held_cost_if (line (take viewpoint (laws entries))) (known_at entries work viewpoint)
+
+-- the same, where the day of a version is asked for; the act as enacted carries nothing
+abbrev pub holding_for : List Entry → List ℕ → ℕ → Option ℕ → ℕ
+holding_for entries work viewpoint None = 0
+holding_for entries work viewpoint (Some day) = holding_at entries work viewpoint
+
+-- how many ids are applied at most to answer a question by what the register knew
 unfoldable pub bearing_at : List Entry → Question → ℕ
-bearing_at entries q = bearing_for q (known_for entries q.work q.viewpoint q.version)
+bearing_at entries q =
+    holding_for entries q.work q.viewpoint q.version + bearing_for q (known_for entries q.work q.viewpoint q.version)
 
--- a list of ids begins with these
-abbrev pub begins_with : List Id → List Id → Bool
-begins_with [] ids = true
-begins_with (first ∷ firsts) [] = false
-begins_with (first ∷ firsts) (id ∷ ids) = is_same_id first id && begins_with firsts ids
-
--- how many ids are applied on a day after those of the day before: the others where the list begins with them, or else all
-abbrev pub ids_applied : List Id → List Id → ℕ
-ids_applied before ids = if begins_with before ids then length ids - length before else length ids
-
--- the same over the breakpoints from a day on, where these ids are those of the breakpoint before them
+-- how many ids are applied over the breakpoints from a day on, where these ids are those of the breakpoint before them
 abbrev pub cost_after : Known → Reading → ℕ → List Id → List ℕ → ℕ
 cost_after known reading touched before [] = 0
 cost_after known reading touched before (day ∷ days) =

@@ -1,8 +1,12 @@
 -- What an answer does to the tables of past viewpoints, and what it costs.
-use Rattle.std.specs.Prelude.{◌≡◌, ◌⊎◌, ℕ, Bool, ◌&&◌, ◌||◌, is_some, is_none, List, Option, Some, None, Result, Ok, Err, if◌then◌else◌}
+use Rattle.std.specs.Prelude.{◌≡◌, ◌⊎◌, ℕ, ◌+◌, Bool, ◌&&◌, ◌||◌, is_some, is_none, List, Option, Some, None, Result, Ok, Err, take, if◌then◌else◌}
 use Rattle.law_register.specs.Answer.Answers.{first_rule}
 use Rattle.law_register.specs.Answer.Costs.{revision_cost, unless_refused}
+use Rattle.law_register.specs.Provisions.Carrying.{carrying}
+use Rattle.law_register.specs.Provisions.Costs.{held_cost}
+use Rattle.law_register.specs.Provisions.Line.{line}
 use Rattle.law_register.specs.Register.KnownIds.{known_at}
+use Rattle.law_register.specs.Register.LawList.{laws}
 use Rattle.law_register.specs.declared.answer.queries.AskFault.{AskFault}
 use Rattle.law_register.specs.declared.answer.queries.AskFault.TheVariants as fails
 use Rattle.law_register.specs.declared.answer.queries.QueryRule.{QueryRule}
@@ -36,13 +40,16 @@ AreKeysAfter (Ok answer) old asked new = new ≡ asked
 AreKeysAfter (Err (fails.Query rule)) old asked new = new ≡ asked
 AreKeysAfter (Err fails.Memory) old asked new = (new ≡ asked) ⊎ (new ≡ old)
 
--- how many ids are applied to make the table of a question, where it breaks no rule before
-abbrev pub making_cost : Question → Option Known → ℕ
-making_cost q None = 0
-making_cost q (Some known) = unless_refused (first_rule known q) (revision_cost known q.reading 0)
+-- how many ids are applied at most to make the table of a question by works in a line, where it breaks no rule before: to find what its
+-- work carries, and to make the table by that
+abbrev pub making_cost : List Known → Question → Option Known → ℕ
+making_cost works q None = 0
+making_cost works q (Some known) =
+    unless_refused (first_rule known q) (held_cost works known + revision_cost (carrying works known) q.reading 0)
 
 -- how many ids are applied at most to answer a question where tables of these keys are kept: none without the day of a version, and
 -- none where its own key is one of them
 abbrev pub past_cost : List Entry → Question → List PastKey → ℕ
 past_cost entries q keys =
-    if is_none q.version || has_key (key_of q) keys then 0 else making_cost q (known_at entries q.work q.viewpoint)
+    if is_none q.version || has_key (key_of q) keys then 0
+    else making_cost (line (take q.viewpoint (laws entries))) q (known_at entries q.work q.viewpoint)

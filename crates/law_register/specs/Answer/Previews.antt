@@ -1,15 +1,11 @@
 -- Previews: what an act will say with a drafter's draft, before it is filed.
-use Rattle.std.specs.Prelude.{ℕ, List, [], ◌∷◌, ◌++◌, length, map, filter, Option, Result}
-use Rattle.law_register.specs.declared.answer.answer.Answer.{Answer}
+use Rattle.std.specs.Prelude.{ℕ, List, [], ◌∷◌, ◌++◌, length, map, filter, Option}
 use Rattle.law_register.specs.declared.answer.question.Question.{Question}
-use Rattle.law_register.specs.declared.answer.queries.QueryRule.{QueryRule}
 use Rattle.law_register.specs.declared.law.command.Command.{Command}
 use Rattle.law_register.specs.declared.law.command.Command.TheVariants.{Record}
 use Rattle.law_register.specs.declared.register.draft.DraftItem.{DraftItem}
 use Rattle.law_register.specs.declared.register.entry.Entry.{Entry}
 use Rattle.law_register.specs.declared.register.known.Known.{Known}
-use Rattle.law_register.specs.Answer.Asking.{answer_by}
-use Rattle.law_register.specs.Answer.Costs.{bearing_for}
 use Rattle.law_register.specs.Register.Drafts.{draft_of, is_by, items_of}
 use Rattle.law_register.specs.Register.KnownIds.{enacted, known_by}
 use Rattle.law_register.specs.Register.KnownNext.{with_bodies}
@@ -35,17 +31,6 @@ law_previewed entries drafter work = law_with (laws entries) work (items_of work
 -- what a drafter's preview knows of a work
 abbrev pub known_previewed : List Entry → List ℕ → List ℕ → Option Known
 known_previewed entries drafter work = known_by_law (law_previewed entries drafter work) work
-
--- a drafter's preview: the answer to a question about a version by the law with his draft of that work, and the whole of it known;
--- the viewpoint that the question names is not read
-unfoldable pub preview_at : List Entry → List ℕ → Question → Result Answer QueryRule
-preview_at entries drafter q =
-    answer_by (question_by (law_previewed entries drafter q.work) q) (known_previewed entries drafter q.work)
-
--- how many modifications bear on the day that a drafter's preview asks for, those of his draft among them
-unfoldable pub previewing_at : List Entry → List ℕ → Question → ℕ
-previewing_at entries drafter q =
-    bearing_for (question_by (law_previewed entries drafter q.work) q) (known_previewed entries drafter q.work)
 
 -- what is known of a work once one more law entry records these items in it; without items, what was known
 abbrev pub with_items : List DraftItem → Known → Known

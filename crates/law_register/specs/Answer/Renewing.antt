@@ -8,8 +8,8 @@ use Rattle.law_register.specs.declared.register.known.Known.{Known}
 use Rattle.law_register.specs.declared.register.verdict.Verdict.{Verdict}
 use Rattle.law_register.specs.declared.register.verdict.Verdict.TheVariants.{Accepted, Repeat, Refused}
 use Rattle.law_register.specs.Answer.Costs.{revision_cost}
-use Rattle.law_register.specs.Answer.Touched.{touched_days}
-use Rattle.law_register.specs.Register.KnownNext.{known_now}
+use Rattle.law_register.specs.Provisions.Carrying.{held_now}
+use Rattle.law_register.specs.Provisions.Touching.{touched_works}
 use Rattle.law_register.specs.Register.LawList.{laws, works_enacted}
 use Rattle.law_register.specs.Register.Verdicts.{verdict}
 
@@ -25,11 +25,11 @@ costs_from (Some known) touched = both_costs known (Some touched)
 
 -- the same of each of these works, each from its own day on, by what entries make known of them
 abbrev pub costs_touched : List Entry → List (List ℕ × ℕ) → ℕ
-costs_touched entries touched = sum_by (λ t. costs_from (known_now entries t.0) t.1) touched
+costs_touched entries touched = sum_by (λ t. costs_from (held_now entries t.0) t.1) touched
 
 -- how many ids are applied once an entry stands behind others: those of the works that it touches, by what is known with it
 abbrev pub entry_cost : List Entry → Entry → ℕ
-entry_cost entries entry = costs_touched (entries ++ entry ∷ []) (touched_days entries entry)
+entry_cost entries entry = costs_touched (entries ++ entry ∷ []) (touched_works entries entry)
 
 -- the same by what is said of the entry, whose law number is not known yet: one that is a repeat or is refused costs nothing
 abbrev pub cost_said : List Entry → Entry → Verdict → ℕ
@@ -54,4 +54,4 @@ judging_cost judging entries e = judging_said judging entries e (verdict entries
 
 -- how many ids are applied to make the versions of all works that entries enact, in both readings
 unfoldable pub opening_cost : List Entry → ℕ
-opening_cost entries = sum_by (λ work. costs_from (known_now entries work) 0) (works_enacted (laws entries))
+opening_cost entries = sum_by (λ work. costs_from (held_now entries work) 0) (works_enacted (laws entries))

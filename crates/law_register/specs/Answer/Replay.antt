@@ -1,5 +1,5 @@
 -- Replay: an act as enacted, with the modifications that bear applied one after another.
-use Rattle.std.specs.Prelude.{ℕ, List, [], ◌∷◌, ◌++◌, Option, Some, None, option_and_then, Result, Ok, Err}
+use Rattle.std.specs.Prelude.{◌≡◌, ℕ, List, [], ◌∷◌, ◌++◌, Option, Some, None, option_and_then, Result, Ok, Err}
 use Rattle.std.specs.List.{find}
 use Rattle.desk_base.specs.declared.id.Id.{Id}
 use Rattle.act_tree.specs.declared.cause.Cause.{Cause}
@@ -73,3 +73,9 @@ replayed mods version (id ∷ ids) = replayed mods (edited_by version id (edit_o
 -- the version of a work on a day, in a reading: always from the act as enacted
 abbrev pub replay_on : Known → Reading → ℕ → VersionValue
 replay_on known reading day = replayed known.mods (as_enacted known.act) (order known reading day)
+
+-- a version is the replay of a day, by an act and by what bears in it, whichever modifications these are
+pub record IsVersionOf (act : Act) (reading : Reading) (day : ℕ) (version : VersionValue) : Type 0 where
+  pub known : Known
+  pub of_act : known.act ≡ act
+  pub is : version ≡ replay_on known reading day

@@ -16,7 +16,7 @@ use Rattle.law_register.specs.Provisions.Looking.{looked_at}
 use Rattle.law_register.specs.Provisions.Spans.{spans_of}
 use Rattle.law_register.specs.Provisions.Trees.{stands, trees}
 use Rattle.law_register.specs.Register.KnownIds.{known_at}
-use Rattle.law_register.specs.Register.LawList.{laws}
+use Rattle.law_register.specs.Register.LawList.{front, laws}
 
 -- the days on which the text of a work of a line may change; none, where the line does not have it
 abbrev pub days_in : List Known → List ℕ → List ℕ
@@ -54,3 +54,7 @@ carrying works known = record known {
 abbrev pub known_held : List Entry → List ℕ → ℕ → Option Known
 known_held entries work viewpoint =
     option_map (carrying (line (take viewpoint (laws entries)))) (known_at entries work viewpoint)
+
+-- the same at the front
+abbrev pub held_now : List Entry → List ℕ → Option Known
+held_now entries work = known_held entries work (front entries)

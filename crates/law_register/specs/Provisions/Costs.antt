@@ -7,7 +7,7 @@ use Rattle.law_register.specs.declared.answer.question.Reading.{Reading}
 use Rattle.law_register.specs.declared.answer.question.Reading.TheVariants.{Force, Efficacy}
 use Rattle.law_register.specs.declared.register.entry.Entry.{Entry}
 use Rattle.law_register.specs.declared.register.known.Known.{Known}
-use Rattle.law_register.specs.Answer.Costs.{ids_applied}
+use Rattle.law_register.specs.Answer.Applied.{ids_applied}
 use Rattle.law_register.specs.Register.LawList.{laws}
 use Rattle.law_register.specs.Provisions.Depending.{breakpoints_of, depends}
 use Rattle.law_register.specs.Provisions.Line.{line, work_in}

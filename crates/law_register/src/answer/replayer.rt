@@ -6,7 +6,7 @@ ghost use Rattle.law_register.specs.Answer.Answers as answers;
 ghost use Rattle.law_register.specs.Answer.Breakpoints as days;
 ghost use Rattle.law_register.specs.Answer.Flags.{flag};
 ghost use Rattle.law_register.specs.Answer.Order.{order};
-ghost use Rattle.law_register.specs.Answer.Replay.{replay_on};
+ghost use Rattle.law_register.specs.Answer.Replay.{IsVersionOf, replay_on};
 ghost use Rattle.law_register.specs.Answer.Soundness.{IsSound};
 ghost use Rattle.law_register.specs.Answer.Versions.{version_view};
 
@@ -86,7 +86,8 @@ pub trait Replayer {
         ensures { answers.Answers result (answers.answer_on known.now question.now) };
 
     /// The answer to a question that breaks no rule before its text is looked at, from the version that it asks for, or the rule that
-    /// the text has no such provision. The version is lent, so that who keeps it copies no tree; what provisions say is shared.
+    /// the text has no such provision. The version is lent, so that who keeps it copies no tree; what provisions say is shared. What is
+    /// known says the flags: it may carry nothing where the version was replayed by what is carried.
     fn answer_text(
         &self,
         alloc: Global,
@@ -94,8 +95,8 @@ pub trait Replayer {
         version: &Version,
         question: &Question,
     ) -> Result<Answer, AskFault>
-        requires { version_view version.now
-            ≡ replay_on known.now question.now.reading (answers.asked_day question.now.version known.now.act) }
+        requires { IsVersionOf known.now.act question.now.reading
+            (answers.asked_day question.now.version known.now.act) (version_view version.now) }
         ensures { answers.Answers result
             (answers.answer_of_text known.now (version_view version.now) question.now) };
 }

@@ -7,7 +7,7 @@ ghost use Rattle.desk_base.specs.Crashes.{AreCrashes, Crashes};
 ghost use Rattle.law_register.specs.Answer.Answers.{Answers};
 ghost use Rattle.law_register.specs.Answer.Asking.{answer_at};
 ghost use Rattle.law_register.specs.Answer.PastAsking.{AreKeysAfter, keys_asked, past_cost};
-ghost use Rattle.law_register.specs.Answer.Previews.{preview_at, previewing_at};
+ghost use Rattle.law_register.specs.Answer.Previewing.{preview_at, previewing_at};
 ghost use Rattle.law_register.specs.Desk.Commands.{EndsWithin, HasCommandCause, LeavesBetween, LeavesNoMore, mark_of, marks_after};
 ghost use Rattle.law_register.specs.Desk.History.{history_of};
 ghost use Rattle.law_register.specs.Desk.States.{DeskState, Found, IsDurable, IsSound, standing};

@@ -1,4 +1,4 @@
-use Rattle.law_office.proofs.Asked.{unknown_answer}
+use Rattle.law_office.proofs.AskedFor.{unknown_answer}
 use Rattle.law_office.proofs.office.refuse_unknown.Goals as goal
 
 pub returns : goal.returns

@@ -1,4 +1,4 @@
-use Rattle.std.proofs.Common.{rules, ◌≡◌, ◌∙◌, sym, ap, ◌+◌, ◌<◌, drop, length, ◌∷◌, ◌++◌, List}
+use Rattle.std.proofs.Common.{rules, ◌∙◌, sym, ap, ◌+◌, ◌<◌, drop, length, ◌∷◌, ◌++◌, List}
 use Rattle.std.proofs.lemmas.List.{append_assoc, drop_more}
 use Rattle.law_refs.specs.declared.ref_row.RefRow.{RefRow}
 use Rattle.version_cache.specs.declared.row.Row.{Row}

@@ -1,8 +1,8 @@
-use Rattle.std.proofs.Common.{◌≡◌, ◌∙◌, sym, ap, ap₂, subst, arith, List, [], ℕ}
+use Rattle.std.proofs.Common.{◌∙◌, sym, ap, ap₂, subst, arith, List, [], ℕ}
 use Rattle.std.specs.Map.{keys_of}
 use Rattle.law_register.specs.declared.register.entry.Entry.{Entry}
 use Rattle.law_refs.specs.Handing.{rows_opened}
-use Rattle.law_refs.specs.Index.{Kept, refs_in, revised}
+use Rattle.law_refs.specs.Index.{refs_in, revised}
 use Rattle.law_refs.specs.Missing.{missing}
 use Rattle.law_refs.specs.OfRegister.{IsIndexOf}
 use Rattle.law_refs.specs.declared.ref_row.RefRow.{RefRow}

@@ -1,16 +1,17 @@
-use Rattle.std.proofs.Common.{rules, ◌≡◌, ◌∙◌, ◌+◌, ◌<◌, sym, ap, subst, arith, drop, take, length, List, [], ◌∷◌, ◌++◌, ℕ, None, option_map}
+use Rattle.std.proofs.Common.{rules, ◌≡◌, ◌∙◌, ◌+◌, ◌<◌, sym, ap, subst, arith, drop, take, length, List, [], ◌∷◌, ◌++◌, ℕ, option_map}
 use Rattle.std.proofs.lemmas.List.{append_assoc, drop_more, map-append, take_more}
 use Rattle.std.proofs.lemmas.List.Sums.{sum_by-cons}
 use Rattle.std.specs.List.{sum_by}
 use Rattle.std.specs.Map.{keys_of, lookup}
 use Rattle.std.specs.Str.{bytes_eq}
 use Rattle.law_register.specs.Answer.Renewing.{costs_from}
-use Rattle.law_register.specs.Register.KnownNext.{known_now}
+use Rattle.law_register.specs.Provisions.Carrying.{held_now}
 use Rattle.law_refs.specs.Handing.{rows_if, rows_made, rows_opened}
 use Rattle.law_refs.specs.declared.ref_row.RefRow.{RefRow}
 use Rattle.version_cache.specs.Seen.{work_view}
 use Rattle.law_office.specs.declared.line.DatedWork.{DatedWork}
 use Rattle.law_office.specs.Tables.{kept_in}
+use Rattle.law_office.proofs.Ahead.{ahead_of}
 use Rattle.law_office.proofs.Adding.{AreSoFar, none_so_far, one_more}
 use Rattle.law_office.proofs.InLine.{all_in_line, cut_at, is_known, is_new, works_of}
 use Rattle.law_office.proofs.tabling.add_all.Goals as goal
@@ -27,6 +28,21 @@ loop-dated-init g c =
       steps = omega arith;
     }
 
+pub add_work-requires : goal.add_work-requires
+add_work-requires g c =
+    let es = c.args.register.now.entries in
+    let legal = c.entries_are_legal.ensures in
+    let line : List DatedWork = c.args.line.now in
+    let i : ℕ = c.loop-dated.dated-index in
+    let d : DatedWork = c.dated-item.result in
+    let within : i < length line = search rules in
+    let cut : drop i line ≡ d ∷ drop (i + 1) line = drop_more line i d within ∙ ap (λ x. x ∷ drop (i + 1) line) (sym c.dated-item.is) in
+    record {
+      ahead = ahead_of es legal (works_of line) (works_of (take i line)) d.work (works_of (drop (i + 1) line)) c.requires.line (cut_at line i d cut)
+          (kept_in c.loop-dated.tables)
+          (subst (λ (ws : List (List ℕ)). AreSoFar es (kept_in c.loop-dated.tables) ws) (ap works_of cut) c.loop-dated.invariant.kept);
+    }
+
 pub loop-dated-preserved : goal.loop-dated-preserved
 loop-dated-preserved g c =
     let es = c.args.register.now.entries in
@@ -36,7 +52,7 @@ loop-dated-preserved g c =
     let d : DatedWork = c.dated-item.result in
     let rest : List (List ℕ) = works_of (drop (i + 1) line) in
     let before : List (List ℕ) = works_of (take i line) in
-    let cost : List ℕ → ℕ = λ w. costs_from (known_now es w) 0 in
+    let cost : List ℕ → ℕ = λ w. costs_from (held_now es w) 0 in
     let within : i < length line = search rules in
     let cut : drop i line ≡ d ∷ drop (i + 1) line = drop_more line i d within ∙ ap (λ x. x ∷ drop (i + 1) line) (sym c.dated-item.is) in
     let taken : take (i + 1) line ≡ take i line ++ d ∷ [] = take_more line i d within ∙ ap (λ x. take i line ++ x ∷ []) (sym c.dated-item.is) in
@@ -51,7 +67,7 @@ loop-dated-preserved g c =
           ∙ ap (λ (ks : List (List ℕ)). ks ++ d.work ∷ []) c.loop-dated.invariant.keys
           ∙ sym (ap works_of taken ∙ map-append (λ (d : DatedWork). d.work) (take i line) (d ∷ []));
       rows = ap (λ (rows : List RefRow). rows ++ rows_opened es rest) c.in_ok-add_work.ensures.rows
-          ∙ append_assoc c.loop-dated.rows (rows_if (rows_made d.work) (known_now es d.work)) (rows_opened es rest)
+          ∙ append_assoc c.loop-dated.rows (rows_if (rows_made d.work) (held_now es d.work)) (rows_opened es rest)
           ∙ ap (λ (ws : List (List ℕ)). c.loop-dated.rows ++ rows_opened es ws) (sym left)
           ∙ c.loop-dated.invariant.rows;
       steps = omega (arith, sum, c.loop-dated.invariant.steps, c.add_work.ensures.steps);

@@ -1,7 +1,7 @@
 use Rattle.std.proofs.Common.{◌∙◌, sym, subst, ap, arith, ℕ, List}
 use Rattle.std.specs.List.{sum_by}
 use Rattle.law_register.specs.Answer.Renewing.{costs_from, opening_cost}
-use Rattle.law_register.specs.Register.KnownNext.{known_now}
+use Rattle.law_register.specs.Provisions.Carrying.{held_now}
 use Rattle.law_refs.specs.Handing.{rows_opened}
 use Rattle.law_office.specs.declared.line.DatedWork.{DatedWork}
 use Rattle.law_office.specs.Line.{AreInLine}
@@ -16,7 +16,7 @@ pub returns-in_err-add_all-clause-steps : goal.returns-in_err-add_all-clause-ste
 unfolding opening_cost
 returns-in_err-add_all-clause-steps g c =
     let es = c.args.register.now.entries in
-    let cost : List ℕ → ℕ = λ w. costs_from (known_now es w) 0 in
+    let cost : List ℕ → ℕ = λ w. costs_from (held_now es w) 0 in
     omega (
       arith,
       c.add_all.ensures.steps,
@@ -28,7 +28,7 @@ pub returns-clause-steps : goal.returns-clause-steps
 unfolding opening_cost
 returns-clause-steps g c =
     let es = c.args.register.now.entries in
-    let cost : List ℕ → ℕ = λ w. costs_from (known_now es w) 0 in
+    let cost : List ℕ → ℕ = λ w. costs_from (held_now es w) 0 in
     omega (
       arith,
       c.add_all.ensures.steps,

@@ -1,4 +1,4 @@
-use Rattle.std.proofs.Common.{rules, ◌≡◌, ◌∙◌, ◌++◌, ◌<◌, map, option_map, length}
+use Rattle.std.proofs.Common.{rules, ◌∙◌, ◌++◌, ◌<◌, map, option_map, length}
 use Rattle.act_tree.specs.Branches.{branches_of}
 use Rattle.act_tree.specs.Seen.{branch_at, tree_view}
 use Rattle.act_tree.proofs.Walking.{children_lower}

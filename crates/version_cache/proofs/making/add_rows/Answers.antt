@@ -4,7 +4,8 @@ use Rattle.std.proofs.lemmas.List.{drop_more}
 use Rattle.desk_base.specs.declared.id.Id.{Id}
 use Rattle.law_register.specs.declared.answer.question.Reading.{Reading}
 use Rattle.law_register.specs.declared.register.known.Known.{Known}
-use Rattle.law_register.specs.Answer.Costs.{cost_after, ids_applied}
+use Rattle.law_register.specs.Answer.Applied.{ids_applied}
+use Rattle.law_register.specs.Answer.Costs.{cost_after}
 use Rattle.law_register.specs.Answer.Order.{order}
 use Rattle.law_register.specs.Answer.Soundness.{id_twice}
 use Rattle.law_register.proofs.DueOnce.{order_once}

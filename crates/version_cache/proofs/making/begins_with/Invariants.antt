@@ -1,6 +1,6 @@
 -- Those passed are the same, so the rest decides.
 use Rattle.std.proofs.Common.{◌≡◌, drop}
-use Rattle.law_register.specs.Answer.Costs.{begins_with}
+use Rattle.law_register.specs.Answer.Applied.{begins_with}
 use Rattle.version_cache.proofs.making.begins_with.Given as goal
 
 abbrev pub invariant-loop-index : goal.invariant-loop-index

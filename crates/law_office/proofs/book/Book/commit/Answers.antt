@@ -1,9 +1,10 @@
 use Rattle.std.proofs.Common.{sym, subst, ◌++◌, ◌∷◌, [], Option}
-use Rattle.law_register.specs.Register.KnownNext.{known_now}
+use Rattle.law_register.specs.Provisions.Carrying.{held_now}
 use Rattle.law_refs.specs.OfRegister.{IsIndexOf}
 use Rattle.viewpoints.proofs.Staying.{right_stays}
 use Rattle.version_cache.specs.Works.{WorkValue}
-use Rattle.law_office.specs.Tables.{Matches, table_on}
+use Rattle.law_office.specs.Tables.{Matches, applied, kept_in, table_on}
+use Rattle.law_office.proofs.Noted.{kept_noted}
 use Rattle.law_office.proofs.Openings.{opened_more}
 use Rattle.law_office.proofs.book.Book.commit.Goals as goal
 
@@ -15,8 +16,11 @@ returns-clause-opens c =
 pub returns-clause-tables : goal.returns-clause-tables
 returns-clause-tables c =
     rw c.push.ensures
-    (λ w. subst (λ (k : Option WorkValue). Matches (known_now (c.args.self.now.register.entries ++ c.args.pending.entry ∷ []) w) k)
+    (λ w. subst (λ (k : Option WorkValue). Matches (held_now (c.args.self.now.register.entries ++ c.args.pending.entry ∷ []) w) k)
     (sym (c.apply.ensures.tables w)) (c.requires.follows.changes.right w))
+
+pub returns-clause-named : goal.returns-clause-named
+returns-clause-named c = kept_noted c.args.self.now.naming (applied c.args.pending.changes (kept_in c.args.self.now.tables)) (kept_in c.apply.new.tables) c.apply.ensures.tables c.requires.follows.noted
 
 pub returns-clause-index : goal.returns-clause-index
 returns-clause-index c =

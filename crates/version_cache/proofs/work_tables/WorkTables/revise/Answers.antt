@@ -10,4 +10,4 @@ returns-in-Ok-clause-revision g c =
 
 pub returns-in-Ok-clause-right : goal.returns-in-Ok-clause-right
 returns-in-Ok-clause-right g c =
-    renewed_is_for c.args.known c.requires.sound.steady c.args.touched (work_view c.args.self.now) _ c.requires.right (returns-in-Ok-clause-revision g c)
+    renewed_is_for c.args.known c.requires.sound.steady c.args.touched (work_view c.args.self.now) _ c.in-Ok.ensures.right (returns-in-Ok-clause-revision g c)
