@@ -26,23 +26,6 @@ use Rattle.law_office.specs.References.{IsMovedAs, rows_from_if, rows_moved, tou
 use Rattle.law_office.specs.Tables.{Kept}
 use Rattle.law_office.specs.Targets.{AreAfter}
 
--- a revision that is made for a touched day tells that day
-tells : (old : WorkValue) (held : Known) (day : Option ℕ) → touched_in (work_revision_of old held day) ≡ day
-tells old held None = refl
-tells old held (Some day) = refl
-
-pub moved_as : (es : List Entry) (e : Entry) (kept : Kept) (one : List ℕ × WorkRevisionValue) → IsMove es e kept one
-    → IsMovedAs (kept one.0) (held_now (es ++ e ∷ []) one.0) one.1
-moved_as es e kept one is = record {
-  old = is.old;
-  held = is.held;
-  is = is.is;
-  knows = is.known;
-  fits = is.fits;
-  made = is.made ∙ ap (work_revision_of is.old is.held) (sym (ap touched_in is.made ∙ tells is.old is.held (touched es e one.0)));
-  right = is.right;
-}
-
 -- a name that is new goes behind the others
 pub name_new : (names : List (List ℕ)) (name : List ℕ) → is_among name names ≡ false → with_name names name ≡ names ++ name ∷ []
 name_new names name none = ap (λ (b : Bool). cond b names (names ++ name ∷ [])) none
@@ -159,81 +142,16 @@ after_moved es e kept enacted revised legal moved = record { legal = legal; righ
 
 -- ---- of the work that is enacted
 
-pub nothing_enacted : (after : List Entry) (act : Option Act) → IsMadeIf after act None → (work_enacted act ≡ []) × (rows_enacted after act ≡ [])
-nothing_enacted after None made = (refl, refl)
-nothing_enacted after (Some act) made = absurd made
-
--- what is made of it, and what it hands in
-pub record IsHanded (after : List Entry) (act : Option Act) (new : List ℕ × WorkValue) : Type 0 where
-  pub held : Known
-  pub made : new.1 ≡ work_of held
-  pub works : work_enacted act ≡ new.0 ∷ []
-  pub rows : rows_enacted after act ≡ rows_made new.0 held
-
-pub something_enacted : (after : List Entry) (act : Option Act) (new : List ℕ × WorkValue) → IsMadeIf after act (Some new) → IsHanded after act new
-something_enacted after None new made = absurd made
-something_enacted after (Some act) new made = record {
-  held = made.held;
-  made = made.made;
-  works = ap (λ (w : List ℕ). w ∷ []) (sym made.name);
-  rows = ap (rows_if (rows_made act.work)) made.known ∙ ap (λ (w : List ℕ). rows_made w made.held) (sym made.name);
-}
-
-pub handed_works : (after : List Entry) (act : Option Act) (new : List ℕ × WorkValue) (name : List ℕ) (before then : List (List ℕ)) → IsHanded after act new
-    → name ≡ new.0 → before ≡ [] → then ≡ with_name before name → then ≡ before ++ work_enacted act
-handed_works after act new name before then handed same none put =
-    put ∙ ap (with_name before) same ∙ name_new before new.0 (ap (is_among new.0) none) ∙ ap (λ (ns : List (List ℕ)). before ++ ns) (sym handed.works)
-
 -- what holds whatever is answered
 pub on_any : {T E P : Type 0} (result : Result T E) → P → OnOk result P
 on_any (Ok done) holds = holds
 on_any (Err fault) holds = tt
-
--- where none is, nothing is added
-pub none_added : {A : Type 0} (before more : List A) → more ≡ [] → before ≡ before ++ more
-none_added before more none = sym (append-nil before) ∙ ap (λ xs. before ++ xs) (sym none)
 
 -- ---- of one work that is revised
 
 no_rows : (name : List ℕ) (known : Option Known) → rows_if (λ held. rows_from_if name held None) known ≡ []
 no_rows name None = refl
 no_rows name (Some held) = refl
-
--- no day is touched
-pub quiet_works : (name : List ℕ) (revision : WorkRevisionValue) (before : List (List ℕ)) → None ≡ touched_in revision → before ≡ before ++ work_moved name revision
-quiet_works name revision before none = none_added before (work_moved name revision) (ap (work_from name) (sym none))
-
-pub quiet_rows : (name : List ℕ) (revision : WorkRevisionValue) (known : Option Known) (before : List RefRow) → None ≡ touched_in revision
-    → before ≡ before ++ rows_if (λ held. rows_moved name held revision) known
-quiet_rows name revision known before none =
-    none_added before (rows_if (λ held. rows_moved name held revision) known)
-    (ap (λ (day : Option ℕ). rows_if (λ held. rows_from_if name held day) known) (sym none) ∙ no_rows name known)
-
--- a day is
-pub record IsTold (known : Option Known) (revision : WorkRevisionValue) (day : ℕ) (kept : WorkValue) : Type 0 where
-  pub held : Known
-  pub knows : known ≡ Some held
-  pub fits : AreRevisionsOf kept revision.tables
-  pub made : revision ≡ work_revision_of kept held (Some day)
-  pub right : IsFor held (renewed kept revision)
-
-pub is_told : (found : Option WorkValue) (known : Option Known) (revision : WorkRevisionValue) (day : ℕ) (kept : WorkValue) → IsMovedAs found known revision
-    → Some day ≡ touched_in revision → Some kept ≡ found → IsTold known revision day kept
-is_told found known revision day kept moved on is =
-    let same : moved.old ≡ kept = inside moved.old kept (sym moved.is ∙ sym is) in
-    record {
-      held = moved.held;
-      knows = moved.knows;
-      fits = subst (λ (k : WorkValue). AreRevisionsOf k revision.tables) same moved.fits;
-      made = moved.made ∙ ap₂ (λ (k : WorkValue) (d : Option ℕ). work_revision_of k moved.held d) same (sym on);
-      right = subst (λ (k : WorkValue). IsFor moved.held (renewed k revision)) same moved.right;
-    }
-  where
-    inside : (a b : WorkValue) → Some a ≡ Some b → a ≡ b
-    inside a b h = cc
-
-pub is_kept : (found : Option WorkValue) (known : Option Known) (revision : WorkRevisionValue) → IsMovedAs found known revision → None ≡ found → ⊥
-is_kept found known revision moved none = let no : None ≡ Some moved.old = none ∙ moved.is in cc
 
 pub told_works : (name copy : List ℕ) (revision : WorkRevisionValue) (day : ℕ) (before then : List (List ℕ))
     → AllByRecursion (λ n. is_among n before ≡ false) (work_moved name revision) → Some day ≡ touched_in revision → copy ≡ name → then ≡ with_name before copy
@@ -244,19 +162,7 @@ told_works name copy revision day before then fresh on same put =
     one : AllByRecursion (λ n. is_among n before ≡ false) (work_from name (Some day))
     one = subst (λ (d : Option ℕ). AllByRecursion (λ n. is_among n before ≡ false) (work_from name d)) (sym on) fresh
 
-pub told_rows : (name : List ℕ) (known : Option Known) (revision : WorkRevisionValue) (day : ℕ) (held : Known) (before then : List RefRow) → known ≡ Some held
-    → Some day ≡ touched_in revision → then ≡ before ++ rows_from name day held → then ≡ before ++ rows_if (λ held. rows_moved name held revision) known
-told_rows name known revision day held before then knows on put =
-    put
-    ∙ ap (λ (d : Option ℕ). before ++ rows_from_if name held d) on
-    ∙ ap (λ (k : Option Known). before ++ rows_if (λ held. rows_moved name held revision) k) (sym knows)
-
 -- ---- of those that are revised, the first and those behind it
-
-fresh_first : (w : List ℕ) (day : Option ℕ) (told : List (List ℕ × ℕ)) (names : List (List ℕ))
-    → AllByRecursion (λ t. is_among t.0 names ≡ false) (with_day (Some w) day ++ told) → AllByRecursion (λ n. is_among n names ≡ false) (work_from w day)
-fresh_first w None told names fresh = tt
-fresh_first w (Some day) told names fresh = (fresh.0, tt)
 
 fresh_behind : (w : List ℕ) (day : Option ℕ) (told : List (List ℕ × ℕ)) (names then : List (List ℕ)) → then ≡ names ++ work_from w day
     → AreOnce (map (λ t. t.0) (with_day (Some w) day ++ told)) → AllByRecursion (λ t. is_among t.0 names ≡ false) (with_day (Some w) day ++ told)
@@ -295,12 +201,6 @@ pub record AreLeft (es : List Entry) (e : Entry) (kept : Kept) (names all_names 
 
 module _ (es : List Entry) (e : Entry) (kept : Kept) (names all_names : List (List ℕ)) (rows all_rows : List RefRow) (one : List ℕ × WorkRevisionValue) (others : Revised)
     (left : AreLeft es e kept names all_names rows all_rows (one ∷ others)) where
-  pub first_fresh : AllByRecursion (λ n. is_among n names ≡ false) (work_moved one.0 one.1)
-  first_fresh = fresh_first one.0 (touched_in one.1) (days_moved others) names left.fresh
-
-  pub first_moved : IsMovedAs (kept one.0) (held_now (es ++ e ∷ []) one.0) one.1
-  first_moved = moved_as es e kept one left.moves.0
-
   pub others_left : (then_names : List (List ℕ)) (then_rows : List RefRow) → then_names ≡ names ++ work_moved one.0 one.1
       → then_rows ≡ rows ++ rows_if (λ held. rows_moved one.0 held one.1) (held_now (es ++ e ∷ []) one.0)
       → AreLeft es e kept then_names all_names then_rows all_rows others
@@ -311,8 +211,3 @@ module _ (es : List Entry) (e : Entry) (kept : Kept) (names all_names : List (Li
     named = works_behind one.0 (touched_in one.1) (days_moved others) names then_names all_names put left.named;
     handed = rows_behind (es ++ e ∷ []) one.0 (touched_in one.1) (days_moved others) rows then_rows all_rows put_rows left.handed;
   }
-
--- the first of a list of works that are revised
-pub cut_first : {A : Type 0} (view : A → List ℕ × WorkRevisionValue) (left : List A) (one : A) (others : List A) → left ≡ one ∷ others
-    → map view left ≡ view one ∷ map view others
-cut_first view left one others is = ap (map view) is

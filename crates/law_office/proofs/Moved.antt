@@ -40,10 +40,6 @@ use Rattle.law_office.proofs.HasSources.{of_line, right_for, source_held, there_
 
 -- ---- lists of works
 
-or_false : (a : Bool) → (a || false) ≡ a
-or_false true = refl
-or_false false = refl
-
 -- a work that is one of these, or of those behind one of them
 later : (work w : List ℕ) (works : List (List ℕ)) → list_any (λ (other : List ℕ). bytes_eq other w) works ≡ true
     → list_any (λ (other : List ℕ). bytes_eq other w) (work ∷ works) ≡ true
@@ -524,21 +520,6 @@ left_is names i d within =
 pub said_later : (es : List Entry) (e : Entry) (concerned : Option Known) (w : List ℕ) (to_come : List (List ℕ)) → IsConcernedThen es e concerned (w ∷ to_come)
     → IsConcernedThen es e concerned to_come
 said_later es e concerned w to_come is = record { known = is.known; said = λ v some. is.said v (later w v to_come some) }
-
-pub said_taken : (es : List Entry) (e : Entry) (known : Known) (w : List ℕ) (to_come : List (List ℕ)) → IsConcernedThen es e (Some known) (w ∷ to_come)
-    → list_any (λ (other : List ℕ). bytes_eq other w) to_come ≡ false → known.act.work ≡ w → IsConcernedThen es e None to_come
-said_taken es e known w to_come is once named = record {
-  known = tt;
-  said = λ v some. sym (other v some) ∙ is.said v (later w v to_come some);
-}
-  where
-    other : (v : List ℕ) → list_any (λ (other : List ℕ). bytes_eq other v) to_come ≡ true → bytes_eq known.act.work v ≡ false
-    other v some = by (bytes_eq known.act.work v) refl
-      where
-        by : (b : Bool) → bytes_eq known.act.work v ≡ b → b ≡ false
-        by true same =
-            absurd (let no : true ≡ false = sym some ∙ ap (λ (x : List ℕ). list_any (λ (other : List ℕ). bytes_eq other x) to_come) (sym (bytes_same known.act.work v same) ∙ named) ∙ once in cc)
-        by false other = refl
 
 pub apart_of : (es : List Entry) (e : Entry) (concerned : Option Known) (w : List ℕ) (to_come : List (List ℕ)) → IsConcernedThen es e concerned (w ∷ to_come)
     → is_that concerned w ≡ false → is_concerned es e w ≡ false

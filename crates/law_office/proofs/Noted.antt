@@ -14,28 +14,6 @@ use Rattle.law_office.specs.Movements.{Enacted, Revised}
 use Rattle.law_office.specs.Noting.{AreMore, AreNoted, IsNoted, names_one}
 use Rattle.law_office.specs.Tables.{Kept, with_enacted, with_revision, with_revisions}
 
--- a work goes into a set, where it is not there
-pub noted_more : (ws : List (List ℕ)) (v w : List ℕ) → list_any (bytes_eq w) ws ≡ true → list_any (bytes_eq w) (insert_key bytes_eq ws v) ≡ true
-noted_more ws v w there = by (list_any (bytes_eq v) ws)
-  where
-    by : (b : Bool) → list_any (bytes_eq w) (cond b ws (ws ++ v ∷ [])) ≡ true
-    by true = there
-    by false = list_any-append (bytes_eq w) ws (v ∷ []) ∙ ap (λ (x : Bool). x || (bytes_eq w v || false)) there
-
-pub noted_itself : (ws : List (List ℕ)) (v : List ℕ) → list_any (bytes_eq v) (insert_key bytes_eq ws v) ≡ true
-noted_itself ws v = by (list_any (bytes_eq v) ws) refl
-  where
-    last : (x : Bool) → (x || true) ≡ true
-    last true = refl
-    last false = refl
-
-    by : (b : Bool) → list_any (bytes_eq v) ws ≡ b → list_any (bytes_eq v) (cond b ws (ws ++ v ∷ [])) ≡ true
-    by true there = there
-    by false none =
-        list_any-append (bytes_eq v) ws (v ∷ [])
-        ∙ ap (λ (x : Bool). list_any (bytes_eq v) ws || (x || false)) (bytes_are v v refl)
-        ∙ last (list_any (bytes_eq v) ws)
-
 module _ {S : Type 0} (naming : IndexSet (List ℕ) S) where
   -- a work of another name that is noted is the same work
   noted_same : (v w : List ℕ) (names : Bool) → v ≡ w → IsNoted naming v names → IsNoted naming w names
